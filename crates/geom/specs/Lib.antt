@@ -1,0 +1,4 @@
+pub mod Extent
+pub mod Plan
+pub mod Sizes
+pub mod Word

@@ -1,0 +1,32 @@
+-- Which sizes and capacities a ring may be asked to have, and what it then has
+use Rattle.std.specs.Prelude.{ℕ, zero, suc, Bool, ◌+◌, ◌-◌, ◌^◌, ◌==◌, nat_lt, if◌then◌else◌, Result, Ok, Err}
+use Rattle.geom.specs.Extent.{Extent}
+use Rattle.geom.specs.declared.geometry.GeomFault.{GeomFault}
+use Rattle.geom.specs.declared.geometry.GeomFault.TheVariants.{NotPower, TooSmall, TooLarge}
+
+-- the first of `2 ^ k`, `2 ^ (k + 1)`, .. that is above n; of `steps` of them the last, where none is
+unfoldable pub power_above : (steps k n : ℕ) → ℕ
+power_above zero k n = 2 ^ k
+power_above (suc steps) k n = if nat_lt n (2 ^ k) then 2 ^ k else power_above steps (k + 1) n
+
+-- the least size of a ring that takes this many items: the least power of two above it
+abbrev pub size_of : ℕ → ℕ
+size_of capacity = power_above 20 0 capacity
+
+-- whether n is a power of two: then it is the least one above the number before it
+abbrev pub is_power : ℕ → Bool
+is_power n = size_of (n - 1) == n
+
+-- a ring of `count` slots
+abbrev pub power_gives : ℕ → Result Extent GeomFault
+power_gives count =
+    if nat_lt count 2 then Err TooSmall
+    else (if nat_lt (2 ^ 20) count then Err TooLarge
+    else (if is_power count then Ok record { size = count; capacity = count - 1 } else Err NotPower))
+
+-- a ring for exactly this many items
+abbrev pub exact_gives : ℕ → Result Extent GeomFault
+exact_gives capacity =
+    if capacity == 0 then Err TooSmall
+    else (if nat_lt (2 ^ 20 - 1) capacity then Err TooLarge
+    else Ok record { size = size_of capacity; capacity = capacity })

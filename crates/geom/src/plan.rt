@@ -1,0 +1,81 @@
+//! What a ring is to be: its geometry, the mode of each side, and whether it holds the free buffers.
+
+ghost use Rattle.std.specs.Prelude.{◌≡◌};
+ghost use Rattle.geom.specs.Plan.{mode_of, granted};
+
+use crate::geometry::Geometry;
+
+/// How the words of one side of a ring are kept.
+#[derive(Clone, Copy, Debug, PartialEq, Eq)]
+pub enum Mode {
+    /// Any number of producers, or of consumers, each with a span of its own in the middle: a head and a tail word.
+    Multi,
+    /// Head/tail sync: one span in the middle at a time, and one word for head and tail.
+    Hts,
+}
+
+/// A side of a ring: producers put, consumers take.
+#[derive(Clone, Copy, Debug, PartialEq, Eq)]
+pub enum Side {
+    Put,
+    Take,
+}
+
+/// How much of a request has to be granted.
+#[derive(Clone, Copy, Debug, PartialEq, Eq)]
+pub enum How {
+    /// All of it, or nothing.
+    Bulk,
+    /// As much as there is.
+    Burst,
+}
+
+impl How {
+    /// How many of `n` are granted where there is room for `room`: by bulk all or none, by burst as many as fit.
+    pub const fn granted(self, n: u64, room: u64) -> u64
+        ensures { result ≡ granted self n room }
+    {
+        match self {
+            How::Bulk if n > room => 0,
+            How::Bulk => n,
+            How::Burst if n > room => room,
+            How::Burst => n,
+        }
+    }
+}
+
+/// What a ring is to be.
+#[derive(Clone, Copy, Debug)]
+pub struct RingPlan {
+    pub geometry: Geometry,
+    /// The mode of the put side.
+    pub put: Mode,
+    /// The mode of the take side.
+    pub take: Mode,
+    /// Whether the ring holds free buffers: each item carries exactly one, and there is always room for one more.
+    pub free: bool,
+}
+
+impl RingPlan {
+    /// The plan of a ring whose sides are alike.
+    pub const fn alike(geometry: Geometry, mode: Mode, free: bool) -> RingPlan
+        ensures { result ≡ record { geometry = geometry; put = mode; take = mode; free = free } }
+    {
+        RingPlan {
+            geometry,
+            put: mode,
+            take: mode,
+            free,
+        }
+    }
+
+    /// The mode of a side.
+    pub const fn mode(self, side: Side) -> Mode
+        ensures { result ≡ mode_of self side }
+    {
+        match side {
+            Side::Put => self.put,
+            Side::Take => self.take,
+        }
+    }
+}

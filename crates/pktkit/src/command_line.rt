@@ -1,0 +1,40 @@
+//! The words of the command line, and what they ask for.
+
+use clap::{Arg, ArgAction, Command, Error};
+use std::alloc::Global;
+
+/// What a command line asks for.
+#[derive(Clone, Copy, Debug, PartialEq, Eq)]
+pub enum Asked<'a> {
+    /// The replies to the ring commands of a file, or of the input where no file is named.
+    Ring(Option<&'a str>),
+}
+
+/// Reads the words after the program's name. Without any the input is asked for.
+pub fn read_words<'a>(alloc: Global, words: &'a [String]) -> Result<Asked<'a>, Error> {
+    if words.is_empty() {
+        return Ok(Asked::Ring(None));
+    }
+    let matches = pktkit(alloc)?.try_get_matches_from(words)?;
+    let file = matches
+        .subcommand()
+        .and_then(|(_, ring)| ring.get_str("FILE"));
+    Ok(Asked::Ring(file))
+}
+
+/// The command line of `pktkit`.
+fn pktkit<'a>(alloc: Global) -> Result<Command<'a>, Error> {
+    let file = Arg::new(alloc, "FILE")
+        .required(true)
+        .action(ArgAction::Set)
+        .help("A file of commands");
+    let ring = Command::new(alloc, "ring")
+        .about("Prints the replies to a file of ring commands")
+        .arg(file)?;
+    let command = Command::new(alloc, "pktkit")
+        .about("Rings, packet buffers and routes, proved")
+        .no_binary_name(true)
+        .subcommand_required(true)
+        .subcommand(ring)?;
+    Ok(command)
+}

@@ -1,0 +1,135 @@
+//! The whole program, over the words of its command line, a reader and two writers.
+
+ghost use Rattle.std.specs.Prelude.{◌≤◌};
+
+use crate::command_line::{Asked, read_words};
+use crate::ring_text::{TextFault, ring_text};
+use clap::Error;
+use std::alloc::AllocError;
+use std::fs;
+use std::io::{self, ErrorKind, Read, Write};
+use std::rt::Files;
+use thiserror::Error as Fails;
+
+/// The name that stands for the input where no file is named.
+const INPUT: &str = "-";
+
+/// Why a run ended early: one line on the error stream, after `pktkit: `.
+#[derive(Debug, Drop, Fails)]
+enum Fault<'a> {
+    #[error("file {0}")]
+    File(&'a str),
+    #[error("{0}")]
+    Text(TextFault),
+    #[error("memory")]
+    Memory,
+    #[error("output")]
+    Output,
+}
+
+/// Runs the program and tells its status: 0 where all went well or help was asked for, 1 after a fault, which is
+/// told in one line on `err`, and 2 where the command line is refused. Where `out` fails, that is the one fault
+/// that is told; where `err` fails, the status stays.
+pub fn program<R: Files + AllocGlobal, I: Read + Drop, O: Write, E: Write>(
+    rt: &R,
+    words: &[String],
+    input: I,
+    out: &mut O,
+    err: &mut E,
+) -> u8
+    ensures { result ≤ 2 }
+{
+    let done = match read_words(rt.alloc(), words) {
+        Ok(Asked::Ring(file)) => ring(rt, file, input, out),
+        Err(refusal) => return refuse(&refusal, out, err),
+    };
+    match done {
+        Ok(()) => 0,
+        Err(fault) => tell(fault, err),
+    }
+}
+
+/// Tells that no memory was had for the words of the command line.
+pub fn out_of_memory<E: Write>(err: &mut E) -> u8
+    ensures { result ≤ 1 }
+{
+    tell(Fault::Memory, err)
+}
+
+/// Tells a fault, as well as `err` takes it.
+fn tell<E: Write>(fault: Fault<'_>, err: &mut E) -> u8
+    ensures { result ≤ 1 }
+{
+    let _ = writeln!(err, "pktkit: {fault}");
+    1
+}
+
+/// Tells why the command line is refused, or the help that it asks for.
+fn refuse<O: Write, E: Write>(refusal: &Error, out: &mut O, err: &mut E) -> u8
+    ensures { result ≤ 2 }
+{
+    if refusal.kind() == clap::error::ErrorKind::OutOfMemory {
+        return tell(Fault::Memory, err);
+    }
+    if refusal.use_stderr() {
+        let _ = write!(err, "{refusal}");
+        return 2;
+    }
+    match write!(out, "{refusal}") {
+        Ok(()) => 0,
+        Err(_) => tell(Fault::Output, err),
+    }
+}
+
+/// Prints the replies to the ring commands of a file, or of the input.
+fn ring<'a, R: Files + AllocGlobal, I: Read + Drop, O: Write>(
+    rt: &R,
+    file: Option<&'a str>,
+    input: I,
+    out: &mut O,
+) -> Result<(), Fault<'a>> {
+    let bytes = read(rt, file, input)?;
+    let mut replies = Vec::new(rt.alloc());
+    let answered = ring_text(rt.alloc(), bytes.as_slice(), &mut replies);
+    print(replies.as_slice(), out)?;
+    match answered {
+        Ok(()) => Ok(()),
+        Err(fault) => Err(Fault::Text(fault)),
+    }
+}
+
+/// The bytes of a file, or of the input.
+fn read<'a, R: Files + AllocGlobal, I: Read + Drop>(
+    rt: &R,
+    file: Option<&'a str>,
+    mut input: I,
+) -> Result<Vec<u8>, Fault<'a>> {
+    let name = file.unwrap_or(INPUT);
+    let bytes = match file {
+        Some(name) => fs::read(rt, name),
+        None => {
+            let mut bytes = Vec::new(rt.alloc());
+            input.read_to_end(&mut bytes).map(|_| bytes)
+        }
+    };
+    bytes.map_err(|error| unreadable(name, &error))
+}
+
+/// What a failed read is told as.
+fn unreadable<'a>(name: &'a str, error: &io::Error) -> Fault<'a> {
+    match error.kind() {
+        ErrorKind::OutOfMemory => Fault::Memory,
+        _ => Fault::File(name),
+    }
+}
+
+/// Writes replies, where there are any.
+fn print<'a, O: Write>(replies: &[u8], out: &mut O) -> Result<(), Fault<'a>> {
+    if replies.is_empty() {
+        return Ok(());
+    }
+    if out.write_all(replies).is_err() || out.flush().is_err() {
+        return Err(Fault::Output);
+    }
+    Ok(())
+}

@@ -1,0 +1,46 @@
+//! The program on worked files, on each form of line, and on each fault and status.
+
+use crate::program::program;
+use std::alloc::AllocError;
+use std::process::Abort;
+use std::rt::Files;
+use std::test::Fail;
+
+mod faults;
+mod forms;
+mod rows;
+
+/// What a run left.
+#[derive(Drop)]
+struct Ran {
+    status: u8,
+    out: Vec<u8>,
+    err: Vec<u8>,
+}
+
+/// Runs the program over words and an input.
+fn run<R: Files + AllocGlobal>(rt: &R, words: &[&str], input: &[u8]) -> Result<Ran, AllocError> {
+    let mut texts = Vec::new(rt.alloc());
+    for word in words {
+        texts.push(String::from_str(rt.alloc(), word)?)?;
+    }
+    let mut out = Vec::new(rt.alloc());
+    let mut err = Vec::new(rt.alloc());
+    let status = program(rt, texts.as_slice(), input, &mut out, &mut err);
+    Ok(Ran { status, out, err })
+}
+
+/// Tests a run over an input: its status, its replies and its fault line.
+fn expect<R: Abort + Files + AllocGlobal>(
+    rt: &R,
+    input: &[u8],
+    status: u8,
+    out: &str,
+    err: &str,
+) -> Result<(), Fail> {
+    let ran = run(rt, &[], input)?;
+    assert_eq!(rt; std::str::from_utf8(ran.out.as_slice()).ok(), Some(out));
+    assert_eq!(rt; std::str::from_utf8(ran.err.as_slice()).ok(), Some(err));
+    assert_eq!(rt; ran.status, status);
+    Ok(())
+}

@@ -1,0 +1,7 @@
+# A ring of eight slots takes seven items.
+ring power 8
+put bulk a b c d e f g h
+put burst a b c d e f g h
+count
+take bulk 3
+take burst 9
