@@ -1,0 +1,28 @@
+//! Why a window refuses an item.
+ghost use Rattle.std.specs.Prelude.{◌≡◌};
+ghost use Rattle.reorder.specs.Fault.{number_of};
+
+use thiserror::Error;
+
+/// The refusals of `Window::insert`, with their numbers. No two of them can hold at once.
+#[derive(Clone, Copy, Debug, PartialEq, Eq, Error)]
+pub enum InsertFault {
+    /// The number is below the next one: its turn has passed.
+    #[error("late: the turn of this number has passed")]
+    Late = 1,
+    /// The number is a whole window or more above the next one, or it is 2^64 - 1, which is always early.
+    #[error("early: this number is past the end of the window")]
+    Early = 2,
+    /// An item with this number waits already.
+    #[error("double: an item with this number waits already")]
+    Double = 3,
+}
+
+impl InsertFault {
+    /// 1 Late, 2 Early, 3 Double.
+    pub fn number(self) -> u8
+        ensures { result ≡ number_of self }
+    {
+        self as u8
+    }
+}

@@ -1,0 +1,88 @@
+//! The worked row of the window, its last numbers, and the texts of its refusals.
+use crate::example::in_turn;
+use crate::{InsertFault, MAX_SIZE, Window};
+use std::test::Fail;
+
+const LAST: u64 = u64::MAX;
+
+#[test]
+fn gives_items_by_number(rt: HostRuntime) -> Result<(), Fail> {
+    let mut window = Window::new(rt.alloc(), 4)?;
+    assert_eq!(rt; window.insert(1, 'b'), Ok(()));
+    assert_eq!(rt; window.insert(0, 'a'), Ok(()));
+    assert_eq!(rt; window.pop(), Some('a'));
+    assert_eq!(rt; window.pop(), Some('b'));
+    assert_eq!(rt; window.insert(0, 'c'), Err(('c', InsertFault::Late)));
+    assert_eq!(rt; window.insert(6, 'd'), Err(('d', InsertFault::Early)));
+    assert_eq!(rt; window.insert(5, 'e'), Ok(()));
+    assert_eq!(rt; window.insert(5, 'f'), Err(('f', InsertFault::Double)));
+    assert_eq!(rt; window.pop(), None);
+    assert_eq!(rt; window.slide(9), 5);
+    assert_eq!(rt; window.next(), 5);
+    assert_eq!(rt; window.pop(), Some('e'));
+    assert_eq!(rt; window.next(), 6);
+    Ok(())
+}
+
+#[test]
+fn slides_over_what_is_missing(rt: HostRuntime) -> Result<(), Fail> {
+    let mut window = Window::new(rt.alloc(), 3)?;
+    assert_eq!(rt; window.slide(2), 2);
+    assert_eq!(rt; window.slide(1), 2, "never back");
+    assert_eq!(rt; window.insert(4, 'a'), Ok(()));
+    assert_eq!(rt; window.insert(3, 'b'), Ok(()));
+    assert_eq!(rt; window.slide(1000), 3, "the least that waits");
+    assert_eq!(rt; window.pop(), Some('b'));
+    assert_eq!(rt; window.pop(), Some('a'));
+    assert_eq!(rt; window.slide(1000), 1000, "nothing waits");
+    assert_eq!(rt; window.insert(1002, 'c'), Ok(()));
+    assert_eq!(rt; window.slide(1001), 1001);
+    assert_eq!(rt; window.pop(), None);
+    Ok(())
+}
+
+#[test]
+fn ends_before_the_last_number(rt: HostRuntime) -> Result<(), Fail> {
+    let mut window = Window::new(rt.alloc(), MAX_SIZE)?;
+    assert_eq!(rt; window.slide(LAST - 1), LAST - 1);
+    assert_eq!(rt; window.insert(LAST, 'a'), Err(('a', InsertFault::Early)));
+    assert_eq!(rt; window.insert(LAST - 1, 'b'), Ok(()));
+    assert_eq!(rt; window.pop(), Some('b'));
+    assert_eq!(rt; window.next(), LAST);
+    assert_eq!(rt; window.insert(LAST, 'c'), Err(('c', InsertFault::Early)));
+    assert_eq!(rt; window.pop(), None);
+    assert_eq!(rt; window.slide(LAST), LAST);
+    Ok(())
+}
+
+#[test]
+fn tells_why(rt: HostRuntime) -> Result<(), Fail> {
+    let cases = [
+        (
+            InsertFault::Late,
+            1,
+            "late: the turn of this number has passed",
+        ),
+        (
+            InsertFault::Early,
+            2,
+            "early: this number is past the end of the window",
+        ),
+        (
+            InsertFault::Double,
+            3,
+            "double: an item with this number waits already",
+        ),
+    ];
+    for (fault, number, text) in cases {
+        assert_eq!(rt; fault.number(), number);
+        assert_eq!(rt; fault.to_string(rt.alloc())?.as_str(), text);
+    }
+    Ok(())
+}
+
+#[test]
+fn serves_a_caller(rt: HostRuntime) -> Result<(), Fail> {
+    assert_eq!(rt; in_turn(rt.alloc(), 7, 8)?, (Some(7), Some(8)));
+    Ok(())
+}

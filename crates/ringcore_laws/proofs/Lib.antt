@@ -1,0 +1,11 @@
+pub mod Lists
+pub mod SideLaws
+pub mod RingLaws
+pub mod Laws
+pub mod HeadTailLaws
+pub mod HandLaws
+pub mod Queues
+pub mod Rows
+pub mod HistoryLaws
+pub mod OpeningLaws
+pub mod RunLaws

@@ -1,0 +1,38 @@
+-- Runs of the machine: the history of a list of steps, and what the headline says of it
+use Rattle.std.specs.Prelude.{ℕ, ◌<◌, ◌≤◌, ◌≡◌, Bool, true, false, List, [], ◌∷◌, length, slice_get, slice_index, Some, None}
+use Rattle.geom.specs.Extent.{IsExtent}
+use Rattle.geom.specs.declared.plan.RingPlan.{RingPlan}
+use Rattle.ringcore_laws.specs.declared.protocol.Step.{Step}
+use Rattle.ringcore_laws.specs.declared.protocol.Reply.{Reply}
+use Rattle.ringcore_laws.specs.declared.protocol.Reply.TheVariants.{Granted}
+use Rattle.ringcore_laws.specs.History.{Actor, Event, reply_to, after}
+
+-- a plan that may be opened: gift b names the actor that holds buffer b at the opening
+pub record IsPlan (plans : List RingPlan) (actors : ℕ) (gifts : List ℕ) : Type 0 where
+  pub some_ring : 0 < length plans
+  pub few_rings : length plans ≤ 64
+  pub some_actor : 0 < actors
+  pub few_actors : actors ≤ 64
+  pub few_buffers : length gifts ≤ 65536
+  pub to_actors : (b : ℕ) → b < length gifts → slice_index gifts b < actors
+  pub extents : (r : ℕ) (plan : RingPlan) → slice_get plans r ≡ Some plan → IsExtent plan.geometry
+  -- all buffers fit into each free ring
+  pub free_rings : (r : ℕ) (plan : RingPlan) → slice_get plans r ≡ Some plan → plan.free ≡ true → length gifts ≤ plan.geometry.capacity
+
+-- the history of a list of steps, each an actor and what it does: each step with the reply to it
+abbrev pub history_of : List RingPlan → ℕ → List Actor → List (ℕ × Step) → List Event
+history_of plans pool actors [] = []
+history_of plans pool actors (s ∷ steps) =
+    let e : Event = record { actor = s.0; step = s.1; reply = reply_to plans pool actors s.0 s.1 } in
+    e ∷ history_of plans pool (after actors e) steps
+
+abbrev pub is_grant : Reply → Bool
+is_grant (Granted start count left) = true
+is_grant reply = false
+
+-- each span is granted to an actor that has none open
+abbrev pub OneSpanEach : List Actor → List Event → Type 0
+OneSpanEach actors [] = Unit {0}
+OneSpanEach actors (e ∷ events) =
+    (is_grant e.reply ≡ true → (a : Actor) → slice_get actors e.actor ≡ Some a → a.party.span ≡ None)
+    × OneSpanEach (after actors e) events

@@ -1,0 +1,72 @@
+//! The steps of the protocol and their replies. Each step is at most one load, one store or one compare-and-exchange on one word.
+
+use crate::contents::Items;
+use geom::{How, Side};
+
+/// An open span: the positions from `start` on, `count` of them, of one side of a ring, which one party has reserved and not settled.
+#[derive(Clone, Copy, Debug)]
+pub struct Span {
+    pub ring: usize,
+    pub side: Side,
+    /// The first position.
+    pub start: u64,
+    /// How many positions.
+    pub count: u64,
+}
+
+/// What an actor has seen of a side since its last look there.
+#[derive(Clone, Copy, Debug)]
+pub struct Observed {
+    pub ring: usize,
+    pub side: Side,
+    /// The own word of the side, as the last look found it.
+    pub looked_at: u64,
+    /// The tail of the other side, once the actor asked for room.
+    pub tail_seen: Option<u64>,
+}
+
+/// One atomic step of an actor, or a local one, which touches no word.
+#[derive(Drop, Debug)]
+pub enum Step {
+    /// Loads the own word of a side of a ring.
+    Look(usize, Side),
+    /// Loads the tail of the other side, after a look.
+    Room(usize, Side),
+    /// Reserves positions of a side from the one looked at on, by one exchange of the own word, after a look and a question for room.
+    Reserve(usize, Side, How, u64),
+    /// Settles the own open put span with these items: publishes them.
+    SettlePut(usize, Items),
+    /// Settles so many positions of the own open take span: dequeues their items.
+    SettleTake(usize, u64),
+    /// Marks a held buffer as cached. A local step.
+    Stash(u64),
+    /// Marks a cached buffer as held again. A local step.
+    Unstash(u64),
+}
+
+/// The answer to a step. A refusal leaves rings, spans and buffers as they were.
+#[derive(Drop, Debug)]
+pub enum Reply {
+    /// What a look, a question for room or a local step found.
+    Seen(u64),
+    /// A reservation: its first position, how many positions it has, and how much room is left.
+    Granted(u64, u64, u64),
+    /// How many positions were settled, and the items of a take.
+    Done(u64, Items),
+    /// A look at a head/tail-sync side that has an open span, with the word found.
+    Busy(u64),
+    /// The exchange of a Reserve lost against another actor, with the word found.
+    Contended(u64),
+    /// There is too little room, by what was seen: so much.
+    NoRoom(u64),
+    /// An earlier span of the side isn't settled yet, with the tail found.
+    NotYet(u64),
+    /// The positions of the ring are used up.
+    Worn,
+    /// A step out of turn.
+    NoSpan,
+    /// A count of 0, of more than was reserved, or for a free ring of more than the actor's buffers.
+    BadCount,
+    /// A buffer that isn't the actor's to put.
+    NotYours,
+}
