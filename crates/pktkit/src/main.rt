@@ -13,8 +13,10 @@ mod tests;
 mod text;
 
 use program::program;
+use std::alloc::AllocError;
+use std::env;
+use std::io::ErrorKind;
 use std::process::ExitCode;
-use std::{env, io};
 
 /// What a refused command line ends with.
 const REFUSED: u8 = 2;
@@ -22,6 +24,7 @@ const REFUSED: u8 = 2;
 fn main(rt: HostRuntime) -> ExitCode {
     let words: Result<Vec<String>, _> = match env::args(&rt) {
         Ok(words) => words.skip(1).collect(rt.alloc()),
+        Err(error) if error.kind() == ErrorKind::OutOfMemory => Err(AllocError),
         Err(_) => return ExitCode::from(REFUSED),
     };
     let Ok(words) = words else {
