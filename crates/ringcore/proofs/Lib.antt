@@ -1,1 +1,11 @@
+pub mod Replies
+pub mod Steps
+pub mod SettleSteps
+pub mod ActorSteps
+pub mod WorldSteps
+pub mod RunSteps
 pub mod Slots
+pub mod Rightness
+pub mod OpeningSteps
+pub mod PlaceSteps
+pub mod Unchanged

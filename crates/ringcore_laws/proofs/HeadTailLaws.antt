@@ -1,7 +1,7 @@
--- Reservations stay in order as a span is openers behind the others and as the first one is settled
+-- Reservations stay in order as a span is reserved behind the others and as the first one is settled
 use Rattle.std.proofs.Common.{ℕ, zero, suc, ◌+◌, ◌<◌, ◌≤◌, ◌≡◌, ◌⊎◌, inl, inr, List, [], ◌∷◌, length, refl, ap, sym, subst, ◌∙◌, arith, true, false, Bool}
-use Rattle.std.specs.Prelude.{slice_get, slice_set, slice_index_or, Option, Some, None, ◌&&◌, ◌||◌, ◌==◌, nat_lt, if◌then◌else◌}
-use Rattle.std.specs.List.{sum_by, list_any}
+use Rattle.std.specs.Prelude.{slice_get, slice_index_or, Option, Some, None, ◌&&◌, ◌||◌, ◌==◌, nat_lt, if◌then◌else◌}
+use Rattle.std.specs.List.{sum_by, list_any, range_with_len}
 use Rattle.std.proofs.lemmas.List.{length-set, get_or-set_other, get_or-set_same}
 use Rattle.std.proofs.lemmas.List.Sums.{sum_by-cons}
 use Rattle.std.proofs.lemmas.Bool.Decides.{nat_tests}
@@ -14,18 +14,26 @@ use Rattle.geom.specs.declared.word.TheConstants.{LAST, RESERVED}
 use Rattle.geom.specs.Plan.{mode_of}
 use Rattle.ringcore_laws.specs.declared.protocol.Span.{Span}
 use Rattle.ringcore_laws.specs.Party.{Settled, Party, is_on, same_side, covers, with_open, with_settled}
+use Rattle.ringcore_laws.specs.Moves.{limit, reserved_by, settled_by}
 use Rattle.ringcore_laws.specs.RingSide.{RingSide, side_of, IsGapless, end_of, span_at, span_count, span_end, settled_count, settled_end}
 use Rattle.ringcore_laws.specs.HeadTailRule.{RuledSide, RuledSpan, HeadTailRule}
 use Rattle.ringcore_laws.specs.History.{starts_below}
 use Rattle.ringcore_laws.proofs.Lists.{greatest_ge}
 use Rattle.ringcore_laws.proofs.SideLaws.{Reserves, reserves, Settles, settles_side_of}
 use Rattle.ringcore_laws.proofs.RingLaws.{open_count, held_cases, below_or_not, unsettled_above}
-use Rattle.ringcore_laws.proofs.Laws.{on_own, off_ring, same_or_not, reserved_other, settled_other, reserved_by, limit}
+use Rattle.ringcore_laws.proofs.Laws.{on_own, off_ring, same_or_not, reserved_other, settled_other}
 
 pub sum_by_part : {X : Type 0} (f : X → ℕ) (xs : List X) (i : ℕ) (d : X) → i < length xs → f (slice_index_or xs i d) ≤ sum_by f xs
 sum_by_part f [] i d lt = absurd (omega arith)
 sum_by_part f (x ∷ xs) zero d lt = omega (arith, sum_by-cons f x xs)
 sum_by_part f (x ∷ xs) (suc i) d lt = omega (arith, sum_by-cons f x xs, sum_by_part f xs i d (omega arith))
+
+pub range_part : (f : ℕ → ℕ) (a n r : ℕ) → a ≤ r → r < a + n → f r ≤ sum_by f (range_with_len a n)
+range_part f a zero r le lt = absurd (omega arith)
+range_part f a (suc n) r le lt = elim (below_or_not a r) [
+  | inl above ↦ omega (arith, sum_by-cons f a (range_with_len (a + 1) n), range_part f (a + 1) n r (omega arith) (omega arith))
+  | inr here ↦ let same : r ≡ a = omega arith in omega (arith, sum_by-cons f a (range_with_len (a + 1) n), ap f same)
+]
 
 -- an open span holds a position of a side, or doesn't
 pub span_cases : (ring : ℕ) (side : Side) (p : ℕ) (s : Span) → ((is_on s.ring s.side ring side ≡ true) × (s.start ≤ p) × (p < s.start + s.count) × (span_at ring side p (Some s) ≡ 1)) ⊎ (span_at ring side p (Some s) ≡ 0)
@@ -38,7 +46,7 @@ span_cases ring side p s = on (is_on s.ring s.side ring side) refl
       | inr out ↦ inr (ap (λ v. if v && covers s p then 1 else 0) e ∙ out.1)
     ]
 
--- what a position's being openers says of the side
+-- what a position's being reserved says of the side
 pub span_tells : (ring : ℕ) (side : Side) (p : ℕ) (o : Option Span) → 0 < span_at ring side p o → (p < span_end ring side o) × (0 < span_count ring side o)
 span_tells ring side p None h = absurd (omega arith)
 span_tells ring side p (Some s) h = elim (span_cases ring side p s) [
@@ -87,7 +95,7 @@ on_or_off ring r side s = elim (same_or_not r ring) [
     and_off false = refl
 
 module _ {I : Type 0} where
-  -- a openers position lies before the end of some span
+  -- a reserved position lies before the end of some span
   pub reserved_tells : (parties : List (Party I)) (ring : ℕ) (side : Side) (p : ℕ) → 0 < (side_of parties ring side).openers p → (p < (side_of parties ring side).reach) × (0 < (side_of parties ring side).open_count)
   unfolding side_of end_of
   reserved_tells [] ring side p h = absurd (omega arith)
@@ -296,13 +304,10 @@ module _ {I : Type 0} where
             ];
           }
 
-  abbrev pub settled_with : List (Party I) → ℕ → Party I → Span → List I → List (Party I)
-  settled_with parties i d span items = slice_set parties i (with_settled (slice_index_or parties i d) span items)
-
   -- the first open span of a side is settled, on a multi side whole
   pub orderly_settled : (plans : List RingPlan) (parties : List (Party I)) (i : ℕ) (d : Party I) (span : Span) (items : List I) (plan : RingPlan) → HeadTailRule plans parties → i < length parties → (slice_index_or parties i d).span ≡ Some span
       → slice_get plans span.ring ≡ Some plan → span.start ≡ (side_of parties span.ring span.side).len → length items ≤ span.count → (mode_of plan span.side ≡ Multi → length items ≡ span.count)
-      → HeadTailRule plans (settled_with parties i d span items)
+      → HeadTailRule plans (settled_by parties i d span items)
   orderly_settled plans parties i d span items plan o lt busy there first fits whole = record {
     sides = λ r side plan' h. elim (on_or_off span.ring r span.side side) [
       | inl own ↦
@@ -327,7 +332,7 @@ module _ {I : Type 0} where
       same_plan' h = cc
 
       new : List (Party I)
-      new = settled_with parties i d span items
+      new = settled_by parties i d span items
 
       done : Settled I
       done = record { ring = span.ring; side = span.side; start = span.start; items = items }

@@ -23,6 +23,7 @@ use Rattle.ringcore_laws.specs.declared.protocol.Reply.{Reply}
 use Rattle.ringcore_laws.specs.declared.protocol.Reply.TheVariants.{Seen, Granted, Done, Busy, Contended, NoRoom, NotYet, Worn, NoSpan, BadCount, NotYours}
 use Rattle.ringcore_laws.specs.declared.protocol.Span.{Span}
 use Rattle.ringcore_laws.specs.Party.{Party, is_on, with_open, with_settled}
+use Rattle.ringcore_laws.specs.Moves.{limit, reserved_by, settled_by}
 use Rattle.ringcore_laws.specs.RingSide.{RingSide, side_of, listed}
 use Rattle.ringcore_laws.specs.Sound.{Sound, SoundRing, holds, queue, occurrences, occurrences_in}
 use Rattle.ringcore_laws.specs.HeadTailRule.{HeadTailRule}
@@ -30,7 +31,7 @@ use Rattle.ringcore_laws.specs.declared.protocol.Observed.{Observed}
 use Rattle.ringcore_laws.specs.History.{Actor, Event, tags, after_step, reply_to, reply_to_one, reply_of, on_ring, after, one_stepped, parties_of, look_reply, room_reply, reserve_reply, room_of, sees, with_tail, buffer_count, is_bad_reserve, own_word, position_of, is_busy, other_side, put_reply, take_reply, IsRun, StaysSound, is_bad_settle, may_put, is_held, is_cached, earlier_open, settled_span, IsLawful, reserve_seen, seen_on, both_seen}
 use Rattle.ringcore_laws.specs.Invariant.{Invariant, TrueObserved}
 use Rattle.ringcore_laws.proofs.SideLaws.{reserves, settles_side_of}
-use Rattle.ringcore_laws.proofs.Laws.{reserve_keeps, put_keeps, take_keeps, reserved_by, settled_by, limit, same_plan}
+use Rattle.ringcore_laws.proofs.Laws.{reserve_keeps, put_keeps, take_keeps, same_plan}
 use Rattle.ringcore_laws.proofs.RingLaws.{takes_le_puts, below_or_not, length-listed, held_cases}
 use Rattle.ringcore_laws.proofs.HeadTailLaws.{orderly_reserved, orderly_settled, IsNext, next_above, first_in_line, on_or_off, own_span}
 
@@ -221,7 +222,7 @@ module _ (plans : List RingPlan) (pool : ℕ) (actors : List Actor) (i : ℕ) (a
             tail_seen = λ t is. omega (arith, same_plan is, ap (λ (v : ℕ). (side_of (parties_of actors) v (other_side side)).len) on.0, ap (λ (v : Side). (side_of (parties_of actors) s.ring (other_side v)).len) on.1);
           }))
 
-  -- a span is openers
+  -- a span is reserved
   reserved_kept : (ring : ℕ) (side : Side) (plan : RingPlan) (start count : ℕ) → slice_get plans ring ≡ Some plan → IsExtent plan.geometry → a.party.span ≡ None → 0 < count
       → IsNext (mode_of plan side) (side_of (parties_of actors) ring side) start → start + count ≤ LAST → start + count ≤ limit plan.geometry (parties_of actors) ring side
       → Invariant plans pool (slice_set actors i record { party = with_open a.party record { ring = ring; side = side; start = start; count = count }; observed = None; cached = a.cached })
@@ -401,7 +402,7 @@ module _ (plans : List RingPlan) (pool : ℕ) (actors : List Actor) (i : ℕ) (a
 
   -- the own open span is settled, and soundness is kept
   settled_kept : (span : Span) (plan : RingPlan) (items : List Item) → a.party.span ≡ Some span → slice_get plans span.ring ≡ Some plan → span.start ≡ (side_of (parties_of actors) span.ring span.side).len
-      → length items ≤ span.count → (mode_of plan span.side ≡ Multi → length items ≡ span.count) → Sound tags plans pool (settled_by tags (parties_of actors) i a.party span items)
+      → length items ≤ span.count → (mode_of plan span.side ≡ Multi → length items ≡ span.count) → Sound tags plans pool (settled_by (parties_of actors) i a.party span items)
       → Invariant plans pool (slice_set actors i record { party = with_settled a.party span items; observed = a.observed; cached = a.cached })
   settled_kept span plan items busy there first fits whole sound = record {
     sound = subst (λ (v : List (Party Item)). Sound tags plans pool v) (sym is_new) sound;
@@ -424,7 +425,7 @@ module _ (plans : List RingPlan) (pool : ℕ) (actors : List Actor) (i : ℕ) (a
       busy' : (slice_index_or parties i a.party).span ≡ Some span
       busy' = ap (λ (v : Party Item). v.span) here ∙ busy
 
-      is_new : parties_of (slice_set actors i b) ≡ settled_by tags parties i a.party span items
+      is_new : parties_of (slice_set actors i b) ≡ settled_by parties i a.party span items
       is_new = parties_set actors i b ∙ ap (λ (v : Party Item). slice_set parties i (with_settled v span items)) (sym here)
 
       grows : (r : ℕ) (side : Side) → (side_of parties r side).len ≤ (side_of (parties_of (slice_set actors i b)) r side).len

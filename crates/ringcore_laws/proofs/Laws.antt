@@ -12,7 +12,8 @@ use Rattle.geom.specs.declared.plan.Side.TheVariants.{Put, Take}
 use Rattle.geom.specs.declared.plan.RingPlan.{RingPlan}
 use Rattle.geom.specs.Extent.{Extent}
 use Rattle.ringcore_laws.specs.declared.protocol.Span.{Span}
-use Rattle.ringcore_laws.specs.Party.{Party, is_on, same_side, covers, newcomer, with_open, with_settled, joined}
+use Rattle.ringcore_laws.specs.Party.{Party, is_on, same_side, covers, newcomer, with_open, joined}
+use Rattle.ringcore_laws.specs.Moves.{IsReservable, Owns, reserved_by, settled_by}
 use Rattle.ringcore_laws.specs.RingSide.{RingSide, side_of, listed, IsGapless, span_end, settled_end, item_at}
 use Rattle.ringcore_laws.specs.Sound.{Sound, SoundRing, queue, occurrences, occurrences_in, moved, settled_times, holds, in_ring, places}
 use Rattle.ringcore_laws.proofs.Lists.{sum_by_joined, item_at_before, each_set, each_push}
@@ -81,7 +82,7 @@ module _ {I : Type 0} where
   unfolding listed
   same_listed a b settled len = λ i. flat_map (λ p. settled p i) (range_with_len 0 (len i))
 
-  -- the own side after a span is openers, and any other
+  -- the own side after a span is reserved, and any other
   pub reserved_own : (a b : RingSide I) (span : Span) → Reserves a b span.ring span.side span → b ≡ reserved_on a span
   reserved_own a b span r =
       let on = on_own span.ring span.side in
@@ -138,20 +139,6 @@ module _ {I : Type 0} where
     where
       more : (n : ℕ) → n + 0 ≡ n
       more n = omega arith
-
-  -- up to where a side may be openers
-  abbrev pub limit : Extent → List (Party I) → ℕ → Side → ℕ
-  limit e parties ring Put = (side_of parties ring Take).len + e.capacity
-  limit e parties ring Take = (side_of parties ring Put).len
-
-  -- a span that may be openers: behind all that is settled or openers on its side, and up to the limit
-  pub record IsReservable (e : Extent) (parties : List (Party I)) (span : Span) : Type 0 where
-    pub behind : (side_of parties span.ring span.side).len ≤ span.start
-    pub above : (p : ℕ) → span.start ≤ p → (side_of parties span.ring span.side).openers p ≡ 0
-    pub room : span.start + span.count ≤ limit e parties span.ring span.side
-
-  abbrev pub reserved_by : List (Party I) → ℕ → Party I → Span → List (Party I)
-  reserved_by parties i d span = slice_set parties i (with_open (slice_index_or parties i d) span)
 
   -- the ring of the span
   pub ring_reserved : (e : Extent) (parties : List (Party I)) (i : ℕ) (d : Party I) (ring : ℕ) (side : Side) (start count : ℕ) → e.capacity < e.size → i < length parties → (slice_index_or parties i d).span ≡ None
@@ -215,18 +202,11 @@ module _ {I : Type 0} (tags : I → List ℕ) where
           (λ r. ap (occurrences_in tags b) (same_queue parties after r (λ side. (reserves parties i d span r side lt idle).items_at) (λ side. (reserves parties i d span r side lt idle).len))) in
           omega arith
 
-  abbrev pub settled_by : List (Party I) → ℕ → Party I → Span → List I → List (Party I)
-  settled_by parties i d span items = slice_set parties i (with_settled (slice_index_or parties i d) span items)
-
-  -- what a party puts is its own: it holds each number at least as often as the items have it
-  abbrev pub Owns : Party I → List I → Type 0
-  Owns party items = (b : ℕ) → occurrences_in tags b items ≤ holds tags b party
-
   -- a settled put keeps soundness
   pub put_keeps : (plans : List RingPlan) (pool : ℕ) (parties : List (Party I)) (i : ℕ) (d : Party I) (ring start count : ℕ) (items : List I) (plan : RingPlan)
       → Sound tags plans pool parties → i < length parties → (slice_index_or parties i d).span ≡ Some record { ring = ring; side = Put; start = start; count = count } → slice_get plans ring ≡ Some plan
       → start ≡ (side_of parties ring Put).len → length items ≤ count → (side_of parties ring Put).len + length items ≤ (side_of parties ring Take).len + plan.geometry.capacity
-      → Owns (slice_index_or parties i d) items
+      → Owns tags (slice_index_or parties i d) items
       → Sound tags plans pool (settled_by parties i d record { ring = ring; side = Put; start = start; count = count } items)
   unfolding places holds moved
   put_keeps plans pool parties i d ring start count items plan s lt busy there first fits room owned = record {

@@ -9,3 +9,9 @@ pub mod Rows
 pub mod HistoryLaws
 pub mod OpeningLaws
 pub mod RunLaws
+pub mod PlaceLaws
+pub mod Telling
+pub mod Changes
+pub mod FreeLaws
+pub mod LookLaws
+pub mod RefusalLaws

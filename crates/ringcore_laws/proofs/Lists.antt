@@ -1,6 +1,6 @@
 -- Lemmas on lists: one element changed, under a sum, a `flat_map` or `greatest`; and the items that stand at positions
 use Rattle.std.proofs.Common.{ℕ, zero, suc, ◌+◌, ◌-◌, ◌<◌, ◌≤◌, ◌≢◌, ◌≡◌, max, List, [], ◌∷◌, ◌++◌, length, refl, ap, sym, subst, ◌∙◌, arith}
-use Rattle.std.specs.Prelude.{slice_get, slice_index_or, slice_set}
+use Rattle.std.specs.Prelude.{Some, None, slice_get, slice_index_or, slice_set}
 use Rattle.std.specs.List.{flat_map, sum_by, range_with_len}
 use Rattle.std.specs.Option.{option_to_list}
 use Rattle.std.proofs.lemmas.List.{append-nil, append_assoc, length-append, length-set, get_or-set_other, get_or-set_same, nil_from_length}
@@ -181,3 +181,16 @@ flat_map_range_items a (x ∷ xs) =
   where
     here : a - a ≡ 0
     here = omega arith
+
+-- the element that was set, and any other
+pub get_set : {X : Type 0} (xs : List X) (i : ℕ) (x y : X) → slice_get (slice_set xs i x) i ≡ Some y → x ≡ y
+get_set [] i x y h = absurd (let u : None ≡ Some y = h in cc)
+get_set (z ∷ zs) zero x y h = let u : Some x ≡ Some y = h in cc
+get_set (z ∷ zs) (suc i) x y h = get_set zs i x y h
+
+pub get_set_other : {X : Type 0} (xs : List X) (i j : ℕ) (x : X) → j ≢ i → slice_get (slice_set xs i x) j ≡ slice_get xs j
+get_set_other [] i j x apart = refl
+get_set_other (z ∷ zs) zero zero x apart = absurd (apart refl)
+get_set_other (z ∷ zs) zero (suc j) x apart = refl
+get_set_other (z ∷ zs) (suc i) zero x apart = refl
+get_set_other (z ∷ zs) (suc i) (suc j) x apart = get_set_other zs i j x (λ h. apart (ap suc h))

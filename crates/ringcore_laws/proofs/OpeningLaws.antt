@@ -11,7 +11,7 @@ use Rattle.geom.specs.Extent.{Extent}
 use Rattle.ringcore_laws.specs.declared.contents.Item.{Item}
 use Rattle.ringcore_laws.specs.Party.{Party, newcomer}
 use Rattle.ringcore_laws.specs.RingSide.{RingSide, side_of, listed, items_of, count_of, end_of}
-use Rattle.ringcore_laws.specs.Sound.{SoundRing, claims, holds, moved, places, occurrences, occurrences_in, in_ring}
+use Rattle.ringcore_laws.specs.Sound.{SoundRing, claims, holds, moved, places, occurrences, occurrences_in, in_ring, queue}
 use Rattle.ringcore_laws.specs.HeadTailRule.{RuledSide}
 use Rattle.geom.specs.Plan.{mode_of}
 use Rattle.ringcore_laws.specs.History.{Actor, Event, IsRun, StaysSound, IsLawful, tags, parties_of, opening, gifts_to}
@@ -23,7 +23,8 @@ use Rattle.ringcore_laws.specs.Invariant.{Invariant}
 abbrev fresh : List ℕ → Actor
 fresh given = record { party = newcomer given; observed = None; cached = [] }
 
-abbrev empty : RingSide Item
+-- a side on which nothing was reserved
+abbrev pub empty : RingSide Item
 empty = record { items_at = λ p. []; len = 0; openers = λ p. 0; open_count = 0; reach = 0 }
 
 -- actors that only were given buffers leave every side empty
@@ -126,6 +127,17 @@ gifts_list n gifts = map (gifts_to gifts) (range_with_len 0 n)
 opening_fresh : (n a : ℕ) (gifts : List ℕ) → map (λ i. fresh (gifts_to gifts i)) (range_with_len a n) ≡ map fresh (map (gifts_to gifts) (range_with_len a n))
 opening_fresh zero a gifts = refl
 opening_fresh (suc n) a gifts = ap (λ v. fresh (gifts_to gifts a) ∷ v) (opening_fresh n (a + 1) gifts)
+
+pub side_of_opening : (n : ℕ) (gifts : List ℕ) (r : ℕ) (side : Side) → side_of (parties_of (opening n gifts)) r side ≡ empty
+unfolding gifts_list
+side_of_opening n gifts r side =
+    ap (λ (v : List Actor). side_of (parties_of v) r side) (opening_fresh n 0 gifts) ∙ side_of_fresh (gifts_list n gifts) r side
+
+pub queue_of_opening : (n : ℕ) (gifts : List ℕ) (r : ℕ) → queue (parties_of (opening n gifts)) r ≡ []
+unfolding listed
+queue_of_opening n gifts r =
+    ap (λ (v : RingSide Item). drop v.len (listed (side_of (parties_of (opening n gifts)) r Put))) (side_of_opening n gifts r Take)
+    ∙ ap (λ (v : RingSide Item). listed v) (side_of_opening n gifts r Put)
 
 sum_gifts : (n a : ℕ) (gifts : List ℕ) (b : ℕ) → sum_by (occurrences b) (map (gifts_to gifts) (range_with_len a n)) ≡ sum_by (λ i. occurrences b (gifts_to gifts i)) (range_with_len a n)
 sum_gifts zero a gifts b = refl

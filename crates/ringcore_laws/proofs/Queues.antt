@@ -7,17 +7,17 @@ use Rattle.geom.specs.declared.plan.Side.TheVariants.{Put, Take}
 use Rattle.geom.specs.Extent.{Extent}
 use Rattle.ringcore_laws.specs.declared.protocol.Span.{Span}
 use Rattle.ringcore_laws.specs.Party.{Settled, Party, is_on}
+use Rattle.ringcore_laws.specs.Moves.{settled_by}
 use Rattle.ringcore_laws.specs.RingSide.{RingSide, side_of, listed, span_count, span_end, settled_count, settled_end}
 use Rattle.ringcore_laws.specs.Sound.{SoundRing, queue}
 use Rattle.ringcore_laws.proofs.SideLaws.{Settles, settles_side_of}
 use Rattle.ringcore_laws.proofs.RingLaws.{length-listed, listed_settled, takes_le_puts}
 use Rattle.ringcore_laws.proofs.Laws.{on_own, off_put, off_take, settled_own, settled_other}
-use Rattle.ringcore_laws.proofs.HeadTailLaws.{settled_with}
 
 module _ {I : Type 0} where
   pub put_queue : (e : Extent) (parties : List (Party I)) (i : ℕ) (d : Party I) (ring start count : ℕ) (items : List I) → SoundRing e (side_of parties ring Put) (side_of parties ring Take)
       → i < length parties → (slice_index_or parties i d).span ≡ Some record { ring = ring; side = Put; start = start; count = count } → start ≡ (side_of parties ring Put).len
-      → queue (settled_with parties i d record { ring = ring; side = Put; start = start; count = count } items) ring ≡ queue parties ring ++ items
+      → queue (settled_by parties i d record { ring = ring; side = Put; start = start; count = count } items) ring ≡ queue parties ring ++ items
   put_queue e parties i d ring start count items s lt busy first =
       let opposite = settled_other (side_of parties ring Take) (side_of after ring Take) ring Take span items (step Take) (off_take ring ring) in
       let own = settled_own (side_of parties ring Put) (side_of after ring Put) span items s.published first (step Put) in
@@ -31,14 +31,14 @@ module _ {I : Type 0} where
       span = record { ring = ring; side = Put; start = start; count = count }
 
       after : List (Party I)
-      after = settled_with parties i d span items
+      after = settled_by parties i d span items
 
       step : (side : Side) → Settles (side_of parties ring side) (side_of after ring side) ring side span record { ring = ring; side = Put; start = start; items = items }
       step side = settles_side_of parties i d span record { ring = ring; side = Put; start = start; items = items } ring side lt busy
 
   pub take_queue : (e : Extent) (parties : List (Party I)) (i : ℕ) (d : Party I) (ring start count : ℕ) (items : List I) → SoundRing e (side_of parties ring Put) (side_of parties ring Take)
       → i < length parties → (slice_index_or parties i d).span ≡ Some record { ring = ring; side = Take; start = start; count = count } → start ≡ (side_of parties ring Take).len
-      → queue (settled_with parties i d record { ring = ring; side = Take; start = start; count = count } items) ring ≡ drop (length items) (queue parties ring)
+      → queue (settled_by parties i d record { ring = ring; side = Take; start = start; count = count } items) ring ≡ drop (length items) (queue parties ring)
   take_queue e parties i d ring start count items s lt busy first =
       let opposite = settled_other (side_of parties ring Put) (side_of after ring Put) ring Put span items (step Put) (off_put ring ring) in
       let own = settled_own (side_of parties ring Take) (side_of after ring Take) span items s.dequeued first (step Take) in
@@ -50,7 +50,7 @@ module _ {I : Type 0} where
       span = record { ring = ring; side = Take; start = start; count = count }
 
       after : List (Party I)
-      after = settled_with parties i d span items
+      after = settled_by parties i d span items
 
       step : (side : Side) → Settles (side_of parties ring side) (side_of after ring side) ring side span record { ring = ring; side = Take; start = start; items = items }
       step side = settles_side_of parties i d span record { ring = ring; side = Take; start = start; items = items } ring side lt busy
@@ -62,7 +62,7 @@ module _ {I : Type 0} where
     pub whole : n ≡ span.count → after.reach ≡ before.reach
 
   pub own_settled : (parties : List (Party I)) (i : ℕ) (d : Party I) (span : Span) (items : List I) → i < length parties → (slice_index_or parties i d).span ≡ Some span
-      → OwnSettled (side_of parties span.ring span.side) (side_of (settled_with parties i d span items) span.ring span.side) span (length items)
+      → OwnSettled (side_of parties span.ring span.side) (side_of (settled_by parties i d span items) span.ring span.side) span (length items)
   own_settled parties i d span items lt busy = record {
     len = omega (arith, s.len, count);
     open_count = omega (arith, s.open_count, open_count);
@@ -72,7 +72,7 @@ module _ {I : Type 0} where
       done : Settled I
       done = record { ring = span.ring; side = span.side; start = span.start; items = items }
 
-      s : Settles (side_of parties span.ring span.side) (side_of (settled_with parties i d span items) span.ring span.side) span.ring span.side span record { ring = span.ring; side = span.side; start = span.start; items = items }
+      s : Settles (side_of parties span.ring span.side) (side_of (settled_by parties i d span items) span.ring span.side) span.ring span.side span record { ring = span.ring; side = span.side; start = span.start; items = items }
       s = settles_side_of parties i d span record { ring = span.ring; side = span.side; start = span.start; items = items } span.ring span.side lt busy
 
       on : is_on span.ring span.side span.ring span.side ≡ true

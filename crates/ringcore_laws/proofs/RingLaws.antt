@@ -1,4 +1,4 @@
--- A ring stays sound as a span is openers and as one is settled. Said of the two sides alone
+-- A ring stays sound as a span is reserved and as one is settled. Said of the two sides alone
 use Rattle.std.proofs.Common.{ℕ, zero, suc, ◌+◌, ◌-◌, ◌*◌, ◌/◌, ◌%◌, ◌<◌, ◌≤◌, ◌≡◌, ◌⊎◌, inl, inr, max, List, [], ◌∷◌, ◌++◌, length, take, drop, refl, ap, sym, ◌∙◌, arith}
 use Rattle.std.specs.Prelude.{slice_get, ◌&&◌, ◌==◌, nat_le, nat_lt, if◌then◌else◌}
 use Rattle.std.specs.List.{flat_map, range_with_len}
@@ -65,7 +65,7 @@ module _ {I : Type 0} where
   pub unsettled_above : (l : RingSide I) → IsGapless l → (p : ℕ) → l.items_at p ≡ [] → l.len ≤ p
   unsettled_above l g p none = elim (below_or_not p l.len) [ inl lt ↦ absurd (omega (arith, g.one p lt, ap length none)) | inr le ↦ le ]
 
-  -- a side after a span is openers
+  -- a side after a span is reserved
   abbrev pub reserved_on : RingSide I → Span → RingSide I
   reserved_on l span = record { items_at = l.items_at; len = l.len; openers = λ p. l.openers p + open_count span p; open_count = l.open_count + span.count; reach = max l.reach (span.start + span.count) }
 
@@ -121,7 +121,7 @@ module _ {I : Type 0} where
     pub takes_le_puts : takes.len ≤ puts.len
     takes_le_puts = omega (arith, length-listed puts s.published, length-listed takes s.dequeued, length-append (listed takes) s.fifo.0, ap length s.fifo.1)
 
-    -- what is claimed lies at or above what was dequeued, and is published or openers
+    -- what is claimed lies at or above what was dequeued, and is published or reserved
     pub claimed_where : (p : ℕ) → 0 < claims puts takes p → (takes.len ≤ p) × ((p < puts.len) ⊎ (0 < puts.openers p))
     unfolding claims
     claimed_where p some =
@@ -136,7 +136,7 @@ module _ {I : Type 0} where
           ]
         ]
 
-    -- nothing is claimed behind all that is published and openers
+    -- nothing is claimed behind all that is published and reserved
     pub unclaimed : (p : ℕ) → puts.len ≤ p → puts.openers p ≡ 0 → claims puts takes p ≡ 0
     unclaimed p behind free = elim (below_or_not 0 (claims puts takes p)) [
       | inl some ↦ elim (claimed_where p some).1 [ inl lt ↦ absurd (omega arith) | inr h ↦ absurd (omega arith) ]

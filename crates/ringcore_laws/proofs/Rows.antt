@@ -1,4 +1,4 @@
--- Worked examples, computed by the definitions. Written by tools/rows.py
+-- Worked examples, computed by the definitions
 use Rattle.std.proofs.Common.{ℕ, [], ◌∷◌, refl, true, false, Bool}
 use Rattle.geom.specs.declared.plan.Mode.{Mode}
 use Rattle.geom.specs.declared.plan.Mode.TheVariants.{Multi, Hts}

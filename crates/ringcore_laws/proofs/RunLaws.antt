@@ -12,10 +12,12 @@ use Rattle.ringcore_laws.specs.declared.protocol.Reply.{Reply}
 use Rattle.ringcore_laws.specs.declared.protocol.Reply.TheVariants.{NoSpan, Seen, NotYours, BadCount, NotYet, Done}
 use Rattle.ringcore_laws.specs.Party.{Party, is_on}
 use Rattle.ringcore_laws.specs.RingSide.{side_of, listed}
-use Rattle.ringcore_laws.specs.History.{Actor, Event, IsRun, StaysSound, IsLawful, opening, reply_to, after, reserve_reply, on_ring, put_reply, take_reply, reply_of, reply_to_one, parties_of, is_held, is_cached, tags, is_bad_settle, may_put, earlier_open, look_reply, room_reply, other_side}
+use Rattle.ringcore_laws.specs.History.{Actor, Event, IsRun, StaysSound, IsLawful, opening, reply_to, after, after_all, reserve_reply, on_ring, put_reply, take_reply, reply_of, reply_to_one, parties_of, is_held, is_cached, tags, is_bad_settle, may_put, earlier_open, look_reply, room_reply, other_side}
 use Rattle.ringcore_laws.specs.Runs.{IsPlan, history_of, is_grant, OneSpanEach}
 use Rattle.ringcore_laws.specs.Sound.{holds}
-use Rattle.ringcore_laws.proofs.OpeningLaws.{from_opening}
+use Rattle.ringcore_laws.proofs.OpeningLaws.{from_opening, opening_kept}
+use Rattle.ringcore_laws.proofs.HistoryLaws.{event_kept}
+use Rattle.ringcore_laws.specs.Invariant.{Invariant}
 
 pub replies_of : (plans : List RingPlan) (pool : ℕ) (actors : List Actor) (steps : List (ℕ × Step)) → IsRun plans pool actors (history_of plans pool actors steps)
 replies_of plans pool actors [] = tt
@@ -29,6 +31,19 @@ pub every_list_of_steps : (plans : List RingPlan) (actors : ℕ) (gifts : List �
     → StaysSound plans (length gifts) (opening actors gifts) (history_of plans (length gifts) (opening actors gifts) steps)
 every_list_of_steps plans actors gifts steps p =
     from_opening plans actors gifts (history_of plans (length gifts) (opening actors gifts) steps) (plan_lawful plans actors gifts p) p.to_actors (replies_of plans (length gifts) (opening actors gifts) steps)
+
+-- what a run keeps
+pub run_kept : (plans : List RingPlan) (pool : ℕ) (actors : List Actor) (events : List Event)
+    → IsLawful plans pool → Invariant plans pool actors → IsRun plans pool actors events → Invariant plans pool (after_all actors events)
+run_kept plans pool actors [] lawful k run = k
+run_kept plans pool actors (e ∷ events) lawful k run =
+    run_kept plans pool (after actors e) events lawful (event_kept plans pool actors e lawful run.0 k) run.1
+
+pub kept_after : (plans : List RingPlan) (actors : ℕ) (gifts : List ℕ) (steps : List (ℕ × Step)) → IsPlan plans actors gifts
+    → Invariant plans (length gifts) (after_all (opening actors gifts) (history_of plans (length gifts) (opening actors gifts) steps))
+kept_after plans actors gifts steps p =
+    run_kept plans (length gifts) (opening actors gifts) (history_of plans (length gifts) (opening actors gifts) steps) (plan_lawful plans actors gifts p)
+    (opening_kept plans actors gifts p.to_actors) (replies_of plans (length gifts) (opening actors gifts) steps)
 
 -- a span is granted only to an actor that has none open
 not_true : {X : Type 0} (b : Bool) → b ≡ false → b ≡ true → X

@@ -12,7 +12,7 @@ use Rattle.ringcore_laws.specs.RingSide.{RingSide, side_of, items_of, count_of, 
 use Rattle.ringcore_laws.proofs.Lists.{flat_map-set_same, flat_map-set_only, flat_map_part, flat_map_joined, sum_by_joined, greatest_ge, greatest-set, greatest-append, greatest_joined}
 
 module _ {I : Type 0} where
-  -- one party reserves a span: nothing is settled, and the span's positions are openers once more
+  -- one party reserves a span: nothing is settled, and the span's positions are reserved once more
   pub record Reserves (before after : RingSide I) (ring : ℕ) (side : Side) (span : Span) : Type 0 where
     pub items_at : (p : ℕ) → after.items_at p ≡ before.items_at p
     pub len : after.len ≡ before.len

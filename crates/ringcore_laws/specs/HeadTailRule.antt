@@ -12,7 +12,7 @@ use Rattle.ringcore_laws.specs.Party.{Party}
 use Rattle.ringcore_laws.specs.RingSide.{RingSide, side_of}
 
 module _ {I : Type 0} where
-  -- a side of a ring: nothing reaches behind what is settled, and of a multi side all from there on is openers
+  -- a side of a ring: nothing reaches behind what is settled, and of a multi side all from there on is reserved
   pub record RuledSide (mode : Mode) (l : RingSide I) : Type 0 where
     pub behind : l.len ≤ l.reach
     pub last : l.reach ≤ LAST

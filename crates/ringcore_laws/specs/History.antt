@@ -93,12 +93,12 @@ after_step a (Unstash b) reply = after_unstash a b reply
 
 -- 2. The reply to a step
 
--- The word of a side. A multi side shows how far it is openers, an HTS side how far it is settled and how much is openers from there on
+-- The word of a side. A multi side shows how far it is reserved, an HTS side how far it is settled and how much is reserved from there on
 abbrev pub own_word : Mode → RingSide Item → ℕ
 own_word Multi l = l.reach
 own_word Hts l = l.len * RESERVED + l.open_count
 
--- the position in a word that was seen, with nothing openers
+-- the position in a word that was seen, with nothing reserved
 abbrev pub position_of : Mode → ℕ → ℕ
 position_of Multi word = word
 position_of Hts word = word / RESERVED
@@ -128,7 +128,7 @@ abbrev pub room_of : Side → ℕ → ℕ → ℕ → ℕ
 room_of Put capacity position tail = capacity + tail - position
 room_of Take capacity position tail = tail - position
 
--- how many buffers an actor has, open_count or cached
+-- how many buffers an actor has, held or cached
 unfoldable pub buffer_count : ℕ → Actor → ℕ
 buffer_count pool a = sum_by (λ b. holds tags b a.party) (range_with_len 0 pool)
 
@@ -184,7 +184,7 @@ is_cached a b = list_any (λ c. c == b) a.cached
 abbrev pub is_held : Actor → ℕ → Bool
 is_held a b = (holds tags b a.party == 1) && not (is_cached a b)
 
--- whether an actor may put these items: their buffers are open_count by it, and none stands twice
+-- whether an actor may put these items: their buffers are held by it, and none stands twice
 abbrev pub may_put : Bool → Actor → List Item → Bool
 may_put free a items =
     let numbers = flat_map tags items in

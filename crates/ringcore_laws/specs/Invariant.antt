@@ -12,7 +12,7 @@ use Rattle.ringcore_laws.specs.Sound.{Sound}
 use Rattle.ringcore_laws.specs.HeadTailRule.{HeadTailRule}
 use Rattle.ringcore_laws.specs.History.{Actor, tags, parties_of, other_side}
 
--- a look that is true: an HTS word with nothing openers, and a tail that was there
+-- a look that is true: an HTS word with nothing reserved, and a tail that was there
 pub record TrueObserved (plans : List RingPlan) (parties : List (Party Item)) (s : Observed) : Type 0 where
   pub known : s.ring < length plans
   pub whole : (plan : RingPlan) → slice_get plans s.ring ≡ Some plan → mode_of plan s.side ≡ Hts → (q : ℕ) × (s.looked_at ≡ q * RESERVED)

@@ -3,5 +3,9 @@ pub mod RingSide
 pub mod Sound
 pub mod History
 pub mod HeadTailRule
+pub mod Moves
 pub mod Invariant
 pub mod Runs
+pub mod Place
+pub mod FreeRings
+pub mod Refusals

@@ -36,7 +36,7 @@ module _ {I : Type 0} where
   abbrev pub newcomer : List ℕ → Party I
   newcomer given = record { given = given; settled = []; span = None }
 
-  -- a party after it openers a span
+  -- a party after it reserved a span
   abbrev pub with_open : Party I → Span → Party I
   with_open party span = record { given = party.given; settled = party.settled; span = Some span }
 

@@ -1,4 +1,4 @@
--- One side of a ring as the spans of all parties make it: which items were settled at which position, and what is openers
+-- One side of a ring as the spans of all parties make it: which items were settled at which position, and what is reserved
 use Rattle.std.specs.Prelude.{ℕ, ◌&&◌, nat_le, ◌+◌, ◌-◌, ◌<◌, ◌≤◌, ◌≡◌, max, if◌then◌else◌, List, [], ◌∷◌, length, slice_get, Option, Some, None}
 use Rattle.std.specs.List.{flat_map, sum_by, range_with_len}
 use Rattle.std.specs.Option.{option_to_list}

@@ -4,7 +4,7 @@ use Rattle.geom.specs.Extent.{IsExtent}
 use Rattle.geom.specs.declared.plan.RingPlan.{RingPlan}
 use Rattle.ringcore_laws.specs.declared.protocol.Step.{Step}
 use Rattle.ringcore_laws.specs.declared.protocol.Reply.{Reply}
-use Rattle.ringcore_laws.specs.declared.protocol.Reply.TheVariants.{Granted}
+use Rattle.ringcore_laws.specs.declared.protocol.Reply.TheVariants.{Done, Granted}
 use Rattle.ringcore_laws.specs.History.{Actor, Event, reply_to, after}
 
 -- a plan that may be opened: gift b names the actor that holds buffer b at the opening
@@ -29,6 +29,10 @@ history_of plans pool actors (s ∷ steps) =
 abbrev pub is_grant : Reply → Bool
 is_grant (Granted start count left) = true
 is_grant reply = false
+
+abbrev pub is_done : Reply → Bool
+is_done (Done count items) = true
+is_done reply = false
 
 -- each span is granted to an actor that has none open
 abbrev pub OneSpanEach : List Actor → List Event → Type 0

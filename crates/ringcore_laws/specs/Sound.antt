@@ -51,11 +51,11 @@ module _ {I : Type 0} (tags : I → List ℕ) where
   abbrev pub settled_times : Side → ℕ → Settled I → ℕ
   settled_times side b s = if same_side s.side side then occurrences_in b s.items else 0
 
-  -- how often a buffer stands in the items that a party has put, or has after_take
+  -- how often a buffer stands in the items that a party has put, or has taken
   unfoldable pub moved : Side → ℕ → Party I → ℕ
   moved side b party = sum_by (settled_times side b) party.settled
 
-  -- how often a party holds a buffer: given or after_take, and not put since
+  -- how often a party holds a buffer: given or taken, and not put since
   unfoldable pub holds : ℕ → Party I → ℕ
   holds b party = occurrences b party.given + moved Take b party - moved Put b party
 

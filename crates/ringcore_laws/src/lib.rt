@@ -11,7 +11,9 @@ mod protocol;
 
 pub use contents::{Item, Items, Numbers};
 pub use headline::{
-    a_newcomer_keeps_soundness, every_history_is_sound, every_list_of_steps_is_sound,
+    a_done_settle_keeps_soundness, a_free_ring_has_room, a_granted_reserve_keeps_soundness,
+    a_newcomer_keeps_soundness, every_buffer_has_one_place, every_history_is_sound,
+    every_list_of_steps_is_sound, every_other_step_leaves_the_parties, every_refusal_is_true,
     two_made_one_keep_soundness,
 };
-pub use protocol::{Observed, Reply, Span, Step};
+pub use protocol::{Observed, Place, Reply, Span, Step};

@@ -70,3 +70,16 @@ pub enum Reply {
     /// A buffer that isn't the actor's to put.
     NotYours,
 }
+
+/// Where a buffer is.
+#[derive(Clone, Copy, Debug, PartialEq, Eq)]
+pub enum Place {
+    /// In the item that is queued on this ring at this position, also while an open take span holds it.
+    AtRing(usize, u64),
+    /// With this actor, and not marked as cached.
+    Held(usize),
+    /// With this actor, and marked as cached.
+    Cached(usize),
+    /// It is no buffer of the pool.
+    Nowhere,
+}

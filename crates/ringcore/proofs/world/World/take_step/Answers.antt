@@ -1,0 +1,21 @@
+use Rattle.std.proofs.Common.{◌≡◌, ◌∙◌, subst, refl}
+use Rattle.std.proofs.lemmas.Option.{get_or_from_slice_get}
+use Rattle.geom.specs.declared.plan.RingPlan.{RingPlan}
+use Rattle.ringcore.specs.Agree.{TakeResult}
+use Rattle.ringcore.specs.declared.ring.Ring.{Ring}
+use Rattle.ringcore.specs.declared.member.Member.{Member}
+use Rattle.ringcore.proofs.world.World.take_step.Goals as goal
+
+pub returns-clause-settled : goal.returns-clause-settled
+returns-clause-settled c = λ m plan r hm hp hr.
+    let em : c.index_mut-2.result.now ≡ m = c.index_mut-2.ensures.value ∙ get_or_from_slice_get c.args.self.now.members.items c.args.actor m _ hm in
+    let ep : c.index.result.now ≡ plan = c.index.ensures ∙ get_or_from_slice_get c.args.self.now.plans.items c.args.ring plan _ hp in
+    let er : c.index_mut.result.now ≡ r = c.index_mut.ensures.value ∙ get_or_from_slice_get c.args.self.now.rings.items c.args.ring r _ hr in (
+      c.settle_take.new.member,
+      c.settle_take.new.ring,
+      refl,
+      refl,
+      subst (λ (v : Member). TakeResult plan v c.settle_take.new.member r c.settle_take.new.ring c.args.count c.in_ok-reply.reply) em
+          (subst (λ (v : RingPlan). TakeResult v c.index_mut-2.result.now c.settle_take.new.member r c.settle_take.new.ring c.args.count c.in_ok-reply.reply) ep
+          (subst (λ (v : Ring). TakeResult c.index.result.now c.index_mut-2.result.now c.settle_take.new.member v c.settle_take.new.ring c.args.count c.in_ok-reply.reply) er c.in_ok-reply.ensures.settled)),
+    )

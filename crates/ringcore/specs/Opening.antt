@@ -1,0 +1,41 @@
+-- A plan that may be opened, part by part, and what stands right after
+use Rattle.std.specs.Prelude.{ℕ, true, ◌≡◌, ◌<◌, ◌≤◌, List, [], length, slice_get, slice_index_or, Some, None}
+use Rattle.geom.specs.Extent.{IsExtent}
+use Rattle.geom.specs.declared.plan.RingPlan.{RingPlan}
+use Rattle.ringcore_laws.specs.History.{gifts_to}
+use Rattle.ringcore.specs.declared.ring.Ring.{Ring}
+use Rattle.ringcore.specs.declared.member.Member.{Member}
+
+pub record AreFew (rings actors buffers : ℕ) : Type 0 where
+  pub some_ring : 0 < rings
+  pub few_rings : rings ≤ 64
+  pub some_actor : 0 < actors
+  pub few_actors : actors ≤ 64
+  pub few_buffers : buffers ≤ 65536
+
+-- a ring beside so many buffers: all of them fit if it is a free ring
+pub record Fits (plan : RingPlan) (buffers : ℕ) : Type 0 where
+  pub extent : IsExtent plan.geometry
+  pub free_rings : plan.free ≡ true → buffers ≤ plan.geometry.capacity
+
+-- the same of each ring
+abbrev pub AllFit : List RingPlan → ℕ → Type 0
+AllFit rings buffers = (r : ℕ) (plan : RingPlan) → slice_get rings r ≡ Some plan → Fits plan buffers
+
+-- a ring of which nothing is reserved
+pub record IsFresh (ring : Ring) : Type 0 where
+  pub put_head : ring.put.head ≡ 0
+  pub put_tail : ring.put.tail ≡ 0
+  pub take_head : ring.take.head ≡ 0
+  pub take_tail : ring.take.tail ≡ 0
+  pub queue : ring.queue.items ≡ []
+
+-- an actor that only was given buffers
+pub record IsGiven (gifts : List ℕ) (i : ℕ) (m : Member) : Type 0 where
+  pub buffers : m.buffers.items ≡ gifts_to gifts i
+  pub cached : m.cached.items ≡ []
+  pub span : m.span ≡ None
+  pub observed : m.observed ≡ None
+
+pub record AreGiven (gifts : List ℕ) (members : List Member) : Type 0 where
+  pub each : (i : ℕ) (d : Member) → i < length members → IsGiven gifts i (slice_index_or members i d)

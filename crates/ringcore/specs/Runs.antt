@@ -1,0 +1,31 @@
+-- A run: a list of steps with their replies, and what it leaves
+use Rattle.std.specs.Prelude.{ℕ, ◌≡◌, ◌<◌, List, [], ◌∷◌, ◌++◌, length}
+use Rattle.geom.specs.declared.plan.RingPlan.{RingPlan}
+use Rattle.ringcore_laws.specs.declared.protocol.Step.{Step}
+use Rattle.ringcore_laws.specs.declared.protocol.Reply.{Reply}
+use Rattle.ringcore_laws.specs.Invariant.{Invariant}
+use Rattle.ringcore_laws.specs.History.{Actor, Event, IsRun, after_all}
+use Rattle.ringcore.specs.declared.ring.Ring.{Ring}
+use Rattle.ringcore.specs.declared.member.Member.{Member}
+use Rattle.ringcore.specs.Agree.{ListsAgree, IsOnRing}
+
+-- whether actor and ring of each entry are among so many
+abbrev pub ExistAll : ℕ → ℕ → ℕ → List (ℕ × Step) → Type 0
+ExistAll members rings plans [] = Unit {0}
+ExistAll members rings plans (e ∷ entries) = (e.0 < members) × IsOnRing rings e.1 × IsOnRing plans e.1 × ExistAll members rings plans entries
+
+-- the events of steps and their replies
+abbrev pub events_of : List (ℕ × Step) → List Reply → List Event
+events_of [] replies = []
+events_of (e ∷ entries) [] = []
+events_of (e ∷ entries) (reply ∷ replies) = record { actor = e.0; step = e.1; reply = reply } ∷ events_of entries replies
+
+-- from these actors on, the entries but for the rest were answered so, and the lists agree with what they leave
+pub record RunsTo (plans : List RingPlan) (pool : ℕ) (actors : List Actor) (entries : List (ℕ × Step))
+    (replies : List Reply) (rest : List (ℕ × Step)) (rings : List Ring) (members : List Member) : Type 0 where
+  pub done : List (ℕ × Step)
+  pub split : done ++ rest ≡ entries
+  pub count : length replies ≡ length done
+  pub right : IsRun plans pool actors (events_of done replies)
+  pub kept : Invariant plans pool (after_all actors (events_of done replies))
+  pub agree : ListsAgree plans rings members (after_all actors (events_of done replies))

@@ -1,0 +1,83 @@
+//! What a world is to be, and when it may be opened.
+
+ghost use Rattle.std.specs.Prelude.{◌≡◌, ◌↔◌, IsTrue, nat_lt};
+ghost use Rattle.std.specs.List.{list_all};
+ghost use Rattle.ringcore_laws.specs.Runs.{IsPlan};
+ghost use Rattle.ringcore.specs.Opening.{AllFit, AreFew, Fits};
+
+use geom::RingPlan;
+use thiserror::Error;
+
+/// The most rings, and the most actors.
+const MOST: usize = 64;
+
+/// The most buffers.
+const MOST_BUFFERS: usize = 65536;
+
+/// Why a world was not opened.
+#[derive(Clone, Copy, Debug, PartialEq, Eq, Error)]
+pub enum WorldFault {
+    #[error("Memory")]
+    Memory = 1,
+    #[error("BadPlan")]
+    BadPlan = 2,
+}
+
+/// What a world is to be.
+#[derive(Drop)]
+pub struct WorldPlan {
+    /// The rings, numbered from 0: 1 to 64.
+    pub rings: Vec<RingPlan>,
+    /// How many actors there are: 1 to 64.
+    pub actors: usize,
+    /// The actor that holds buffer b at the opening, for each b from 0 on: at most 65,536.
+    pub gifts: Vec<usize>,
+}
+
+impl WorldPlan {
+    /// Whether a world of this plan may be opened: the numbers of rings, actors and buffers are in their ranges, each gift names an
+    /// actor, and all buffers fit into each free ring.
+    pub fn is_lawful(&self) -> bool
+        ensures { IsTrue result ↔ IsPlan self.now.rings.items self.now.actors self.now.gifts.items }
+    {
+        if !are_few(self.rings.len(), self.actors, self.gifts.len()) {
+            return false;
+        }
+        if !are_below(&self.gifts, self.actors) {
+            return false;
+        }
+        all_fit(&self.rings, self.gifts.len() as u64)
+    }
+}
+
+fn are_few(rings: usize, actors: usize, buffers: usize) -> bool
+    ensures { IsTrue result ↔ AreFew rings actors buffers }
+{
+    let some = rings > 0 && actors > 0;
+    some && rings <= MOST && actors <= MOST && buffers <= MOST_BUFFERS
+}
+
+fn are_below(gifts: &[usize], actors: usize) -> bool
+    ensures { result ≡ list_all (λ g. nat_lt g actors) gifts.now }
+{
+    gifts.iter().all(|g| *g < actors)
+}
+
+fn all_fit(rings: &[RingPlan], buffers: u64) -> bool
+    ensures { IsTrue result ↔ AllFit rings.now buffers }
+{
+    for plan in rings {
+        if !fits(*plan, buffers) {
+            return false;
+        }
+    }
+    true
+}
+
+/// Whether a ring may stand beside so many buffers.
+fn fits(plan: RingPlan, buffers: u64) -> bool
+    ensures { IsTrue result ↔ Fits plan buffers }
+{
+    let capacity = plan.geometry.capacity();
+    !plan.free || buffers <= capacity
+}

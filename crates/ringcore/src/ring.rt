@@ -1,0 +1,109 @@
+//! A ring of the machine: the numbers in its words, and its queue.
+
+ghost use Rattle.ringcore_laws.specs.declared.protocol.Reply.TheVariants.{NoSpan};
+ghost use Rattle.std.specs.Prelude.{◌≡◌, ◌≢◌, ◌+◌, ◌^◌, ◌<◌, Some};
+ghost use Rattle.geom.specs.Plan.{mode_of};
+ghost use Rattle.ringcore_laws.specs.declared.contents.Item.{Item as AnItem};
+ghost use Rattle.ringcore_laws.specs.RingSide.{RingSide};
+ghost use Rattle.ringcore_laws.specs.History.{own_word, is_busy as is_busy_of, position_of as position_in, room_of as room_from, reserve_seen};
+ghost use Rattle.ringcore.specs.Agree.{SideAgrees, words_after};
+
+use geom::{How, LAST, Mode, RESERVED, RingPlan, Side};
+use ringcore_laws::{Item, Reply};
+
+/// The words of a side: how far it is reserved, and how far it is settled.
+#[derive(Clone, Copy, Debug)]
+pub struct Words {
+    pub head: u64,
+    pub tail: u64,
+}
+
+impl Words {
+    /// What the own word of the side shows.
+    pub fn word(&self, mode: Mode) -> u64
+        ensures { (l : RingSide AnItem) → SideAgrees mode l self.now → result ≡ own_word mode l }
+    {
+        match mode {
+            Mode::Multi => self.head,
+            Mode::Hts => self
+                .tail
+                .saturating_mul(RESERVED)
+                .saturating_add(self.head.saturating_sub(self.tail)),
+        }
+    }
+
+    /// Whether a span of an HTS side is open.
+    pub fn is_busy(&self, mode: Mode) -> bool
+        ensures { (l : RingSide AnItem) → SideAgrees mode l self.now → result ≡ is_busy_of mode l }
+    {
+        match mode {
+            Mode::Multi => false,
+            Mode::Hts => self.tail < self.head,
+        }
+    }
+}
+
+/// A ring: the words of both sides, and the items from the take tail to the put tail.
+#[derive(Drop)]
+pub struct Ring {
+    pub put: Words,
+    pub take: Words,
+    pub queue: Vec<Item>,
+}
+
+/// The position in a word that was seen with nothing reserved.
+pub fn position_of(mode: Mode, word: u64) -> u64
+    ensures { result ≡ position_in mode word }
+{
+    match mode {
+        Mode::Multi => word,
+        Mode::Hts => word / RESERVED,
+    }
+}
+
+/// The room that the seen numbers tell.
+pub fn room_of(side: Side, capacity: u64, position: u64, tail: u64) -> u64
+    ensures { capacity + tail < 2 ^ 64 → result ≡ room_from side capacity position tail }
+{
+    match side {
+        Side::Put => capacity.saturating_add(tail).saturating_sub(position),
+        Side::Take => tail.saturating_sub(position),
+    }
+}
+
+/// Tries to reserve behind the position in the word that was seen.
+pub fn try_reserve(
+    words: &mut Words,
+    plan: &RingPlan,
+    side: Side,
+    how: How,
+    count: u64,
+    had: u64,
+    word: u64,
+    tail: u64,
+) -> Reply
+    ensures reply { (l : RingSide AnItem) → SideAgrees (mode_of plan.now side) l words.old → plan.now.geometry.capacity + tail < 2 ^ 64
+        → result ≡ reserve_seen plan.now side how count l had (Some (word, tail)) }
+    ensures after { words.new ≡ words_after words.old result }
+    ensures answered { result ≢ NoSpan }
+{
+    let mode = plan.mode(side);
+    let position = position_of(mode, word);
+    let room = room_of(side, plan.geometry.capacity(), position, tail);
+    let many = how.granted(count, room);
+    if count == 0 || (matches!(side, Side::Put) && plan.free && had < count) {
+        return Reply::BadCount;
+    }
+    if many == 0 {
+        return Reply::NoRoom(room);
+    }
+    if position > LAST || many > LAST - position {
+        return Reply::Worn;
+    }
+    let own = words.word(mode);
+    if own != word {
+        return Reply::Contended(own);
+    }
+    words.head = position + many;
+    Reply::Granted(position, many, room - many)
+}

@@ -1,0 +1,175 @@
+//! The steps of the machine, one function each, said of the lists that a world keeps.
+
+ghost use Rattle.std.specs.Prelude.{◌≡◌, ◌<◌, is_some, vec_len, if◌then◌else◌, IfOk, OnErr};
+ghost use Rattle.geom.specs.Plan.{mode_of};
+ghost use Rattle.ringcore_laws.specs.declared.contents.Item.{Item as AnItem};
+ghost use Rattle.ringcore_laws.specs.declared.protocol.Reply.TheVariants.{NoSpan};
+ghost use Rattle.ringcore_laws.specs.RingSide.{RingSide};
+ghost use Rattle.ringcore_laws.specs.History.{Actor, look_reply, room_reply, reserve_seen as seen_reply, seen_on, other_side};
+ghost use Rattle.ringcore.specs.Agree.{SideAgrees, TailFits, words_of, member_looked, member_asked, member_tried, reserve_answer, ring_tried, put_answer, take_answer, PutResult, TakeResult, StashResult, UnstashResult};
+ghost use Rattle.ringcore.specs.Histories.{IsUnchanged};
+ghost use Rattle.ringcore.specs.Stepping.{BothSet, FoundAt, MemberAt, RingAt, SameCounts, SamePlans, SameRings, SetMember, SetRing};
+
+use super::World;
+use crate::looking::{look, room};
+use crate::marking::{stash, unstash};
+use crate::reserving::reserve;
+use crate::settling::{settle_put, settle_take};
+use geom::{How, Side};
+use ringcore_laws::{Items, Reply};
+use std::alloc::AllocError;
+
+impl World {
+    ghost use Rattle.ringcore.specs.declared.member.Member.{Member as AMember};
+
+    /// Loads the own word of a side.
+    pub(super) fn look_step(&mut self, actor: usize, ring: usize, side: Side) -> Reply
+        requires actor { actor < vec_len self.old.members }
+        requires ring { ring < vec_len self.old.rings }
+        requires plan { ring < vec_len self.old.plans }
+        ensures counts { SameCounts self.old self.new }
+        ensures kept { SameRings self.old self.new }
+        ensures member { MemberAt self.old actor (λ m. SetMember self.old self.new actor (member_looked m ring side result)) }
+        ensures reply { FoundAt self.old actor ring (λ m plan r. (l : RingSide AnItem) (a : Actor)
+            → SideAgrees (mode_of plan side) l (words_of r side) → a.party.span ≡ m.span
+            → result ≡ look_reply (mode_of plan side) l a) }
+    {
+        look(
+            &self.plans[ring],
+            &self.rings[ring],
+            ring,
+            side,
+            &mut self.members[actor],
+        )
+    }
+
+    /// Loads the tail of the other side.
+    pub(super) fn room_step(&mut self, actor: usize, ring: usize, side: Side) -> Reply
+        requires actor { actor < vec_len self.old.members }
+        requires ring { ring < vec_len self.old.rings }
+        ensures counts { SameCounts self.old self.new }
+        ensures kept { SameRings self.old self.new }
+        ensures member { MemberAt self.old actor (λ m. SetMember self.old self.new actor (member_asked m result)) }
+        ensures reply { MemberAt self.old actor (λ m. RingAt self.old ring (λ r. (l : RingSide AnItem) (a : Actor)
+            → l.len ≡ (words_of r (other_side side)).tail → a.party.span ≡ m.span → a.observed ≡ m.observed
+            → result ≡ room_reply ring side l a)) }
+    {
+        room(&self.rings[ring], ring, side, &mut self.members[actor])
+    }
+
+    /// Exchanges the own word of a side, if it is the one looked at.
+    pub(super) fn reserve_step(
+        &mut self,
+        actor: usize,
+        ring: usize,
+        side: Side,
+        how: How,
+        count: u64,
+    ) -> Reply
+        requires actor { actor < vec_len self.old.members }
+        requires ring { ring < vec_len self.old.rings }
+        requires plan { ring < vec_len self.old.plans }
+        ensures counts { SameCounts self.old self.new }
+        ensures kept { SamePlans self.old self.new }
+        ensures member { MemberAt self.old actor (λ m. SetMember self.old self.new actor (member_tried m ring side result)) }
+        ensures ring { RingAt self.old ring (λ r. SetRing self.old self.new ring (ring_tried r side result)) }
+        ensures reply { FoundAt self.old actor ring (λ m plan r. (l : RingSide AnItem)
+            → SideAgrees (mode_of plan side) l (words_of r side) → TailFits plan m.observed
+            → result ≡ (if is_some m.span then NoSpan
+            else seen_reply plan side how count l (vec_len m.buffers) (seen_on ring side m.observed))) }
+    {
+        reserve(
+            &self.plans[ring],
+            &mut self.rings[ring],
+            ring,
+            side,
+            how,
+            count,
+            &mut self.members[actor],
+        )
+    }
+
+    /// Publishes items at the positions of the own open put span.
+    pub(super) fn put_step(
+        &mut self,
+        actor: usize,
+        ring: usize,
+        items: Items,
+    ) -> Result<Reply, AllocError>
+        requires actor { actor < vec_len self.old.members }
+        requires ring { ring < vec_len self.old.rings }
+        requires plan { ring < vec_len self.old.plans }
+        ensures counts { SameCounts self.old self.new }
+        ensures kept { SamePlans self.old self.new }
+        ensures reply { IfOk result (λ x. FoundAt self.old actor ring (λ m plan r.
+            x ≡ put_answer plan ring r.put.tail m.buffers.items m.cached.items items m.span)) }
+        ensures settled { IfOk result (λ x. FoundAt self.old actor ring (λ m plan r.
+            BothSet self.old self.new actor ring (λ n y. PutResult plan m n r y items x))) }
+        ensures memory { OnErr result (IsUnchanged self.old self.new) }
+    {
+        let reply = settle_put(
+            self.alloc,
+            &self.plans[ring],
+            &mut self.rings[ring],
+            ring,
+            items,
+            &mut self.members[actor],
+        )?;
+        Ok(reply)
+    }
+
+    /// Dequeues the items at the first positions of the own open take span.
+    pub(super) fn take_step(
+        &mut self,
+        actor: usize,
+        ring: usize,
+        count: u64,
+    ) -> Result<Reply, AllocError>
+        requires actor { actor < vec_len self.old.members }
+        requires ring { ring < vec_len self.old.rings }
+        requires plan { ring < vec_len self.old.plans }
+        ensures counts { SameCounts self.old self.new }
+        ensures kept { SamePlans self.old self.new }
+        ensures reply { IfOk result (λ x. FoundAt self.old actor ring (λ m plan r.
+            x ≡ take_answer plan ring r.take.tail r.queue.items count m.span)) }
+        ensures settled { IfOk result (λ x. FoundAt self.old actor ring (λ m plan r.
+            BothSet self.old self.new actor ring (λ n y. TakeResult plan m n r y count x))) }
+        ensures memory { OnErr result (IsUnchanged self.old self.new) }
+    {
+        let reply = settle_take(
+            self.alloc,
+            &self.plans[ring],
+            &mut self.rings[ring],
+            ring,
+            count,
+            &mut self.members[actor],
+        )?;
+        Ok(reply)
+    }
+
+    /// Marks a buffer as cached.
+    pub(super) fn stash_step(&mut self, actor: usize, b: u64) -> Result<Reply, AllocError>
+        requires { actor < vec_len self.old.members }
+        ensures counts { SameCounts self.old self.new }
+        ensures kept { SameRings self.old self.new }
+        ensures settled { IfOk result (λ x. MemberAt self.old actor (λ m.
+            (n : AMember) × SetMember self.old self.new actor n × StashResult m n b x)) }
+        ensures memory { OnErr result (IsUnchanged self.old self.new) }
+    {
+        let reply = stash(&mut self.members[actor], b)?;
+        Ok(reply)
+    }
+
+    /// Marks a buffer as held again.
+    pub(super) fn unstash_step(&mut self, actor: usize, b: u64) -> Result<Reply, AllocError>
+        requires { actor < vec_len self.old.members }
+        ensures counts { SameCounts self.old self.new }
+        ensures kept { SameRings self.old self.new }
+        ensures settled { IfOk result (λ x. MemberAt self.old actor (λ m.
+            (n : AMember) × SetMember self.old self.new actor n × UnstashResult m n b x)) }
+        ensures memory { OnErr result (IsUnchanged self.old self.new) }
+    {
+        let reply = unstash(self.alloc, &mut self.members[actor], b)?;
+        Ok(reply)
+    }
+}
