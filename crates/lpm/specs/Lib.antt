@@ -1,0 +1,13 @@
+pub mod Cell
+pub mod Fault
+pub mod Groups
+pub mod Laid
+pub mod Listed
+pub mod Match
+pub mod Plane
+pub mod Prefixes
+pub mod Paint
+pub mod Between
+pub mod Routes
+pub mod Right
+pub mod Shown

@@ -1,0 +1,30 @@
+-- Longest match (RFC 1519, section 4.4; RFC 4632, section 5.1; Longest Prefix Match Library chapter of DPDK's guide).
+use Rattle.std.specs.Prelude.{◌≡◌, ℕ, suc, zero, ◌≤◌, Option, Some, None}
+use Rattle.std.specs.FinMap as map
+use Rattle.lpm.specs.Cell.{Cell, cell, hop_of}
+use Rattle.lpm.specs.Prefixes.{Members, IsDepth, prefix_of}
+
+-- a member of this depth holds the address, and this is its hop
+pub record Holds (m : Members) (address depth hop : ℕ) : Type 0 where
+  pub lawful : IsDepth depth
+  pub member : map.get m (prefix_of address depth) ≡ Some hop
+
+-- the answer is the hop of a member that holds the address, where no deeper one does, and none where no member does
+abbrev pub IsLongestMatch : Members → ℕ → Option ℕ → Type 0
+IsLongestMatch m address None = (depth hop : ℕ) → ¬ Holds m address depth hop
+IsLongestMatch m address (Some hop) =
+    (depth : ℕ) × Holds m address depth hop × ((d h : ℕ) → Holds m address d h → d ≤ depth)
+
+-- the hop with its depth if there is one, else the other cell
+abbrev pub cell_or : Option ℕ → ℕ → Cell → Cell
+cell_or None depth other = other
+cell_or (Some hop) depth other = cell depth hop
+
+-- the longest member of at most this depth that holds the address
+unfoldable pub longest : Members → ℕ → ℕ → Cell
+longest m address zero = cell 0 0
+longest m address (suc depth) = cell_or (map.get m (prefix_of address (suc depth))) (suc depth) (longest m address depth)
+
+-- the one answer for which `IsLongestMatch` holds
+abbrev pub lookup_in : Members → ℕ → Option ℕ
+lookup_in m address = hop_of (longest m address 32)

@@ -1,0 +1,101 @@
+//! The groups: memory for one more, an entry that gets one, and an entry that gives one back.
+
+ghost use Rattle.std.specs.Prelude.{◌≡◌, ◌+◌, ◌≤◌, ◌<◌, ◌^◌, ◌↔◌, ℕ, true, false, if◌then◌else◌, OnOk, OnErr, IfErr, ◌⊎◌};
+ghost use Rattle.lpm.specs.Cell.{is_group};
+ghost use Rattle.lpm.specs.Plane.{first_at, cell_at, used_of, Grows, Regroups};
+ghost use Rattle.lpm.specs.Prefixes.{size_of};
+
+use super::Levels;
+use crate::fault::RouteFault;
+use crate::paint::fill;
+use crate::places::{place, size};
+use crate::slot::Slot;
+use std::alloc::AllocError;
+
+impl Levels {
+    /// Sees to it that a group is free, by memory for one more where none is.
+    fn make_room(&mut self) -> Result<(), AllocError>
+        requires within { used_of self.old < self.old.limit }
+        requires fewer { used_of self.old < 2 ^ self.old.bits }
+        ensures room { OnOk result (0 < self.new.free) }
+        ensures ok { OnOk result (Grows self.old self.new) }
+        ensures err { OnErr result (self.new ≡ self.old) }
+    {
+        if !self.free.is_empty() {
+            return Ok(());
+        }
+        let made = self.made();
+        let length = self.groups.len() + size(self.bits);
+        self.free.reserve(made + 1)?;
+        self.groups.resize(length, Slot::none())?;
+        self.free.push_reserved(made as u32);
+        Ok(())
+    }
+
+    /// Gives an entry a free group, each place of which says what the entry said.
+    fn open_group(&mut self, first: usize)
+        requires entry { first < 2 ^ self.old.bits }
+        requires plain { is_group (first_at self.old first) ≡ false }
+        requires room { 0 < self.old.free }
+        ensures used { used_of self.new ≡ used_of self.old + 1 }
+        ensures opens { Regroups self.old self.new first true }
+    {
+        let group = self.free.pop().unwrap();
+        let start = place(group, 0, self.bits);
+        let end = place(group, size(self.bits), self.bits);
+        fill(&mut self.groups, start, end, self.first[first]);
+        self.first[first] = Slot::group(group);
+    }
+
+    /// Takes the group of an entry back, where each of its places says the same.
+    pub fn close_group(&mut self, first: usize)
+        requires entry { first < 2 ^ self.old.bits }
+        requires grouped { is_group (first_at self.old first) ≡ true }
+        requires plain { is_group (cell_at self.old first 0) ≡ false }
+        requires alike { (low : ℕ) → low < size_of self.old.bits
+            → cell_at self.old first low ≡ cell_at self.old first 0 }
+        ensures used { used_of self.new + 1 ≡ used_of self.old }
+        ensures closes { Regroups self.old self.new first false }
+    {
+        let group = self.first[first].number();
+        let slot = self.at(first, 0);
+        self.first[first] = slot;
+        self.free.push_reserved(group);
+    }
+
+    /// Sees to it that the entry has a group, or that one is free for it. Refused: 3 `NoGroup` where each group that
+    /// there may be stands for another entry, 4 `Memory`. A refusal changes nothing.
+    pub fn reserve_group(&mut self, first: usize) -> Result<(), RouteFault>
+        requires { first < 2 ^ self.old.bits }
+        ensures ok { OnOk result (Grows self.old self.new) }
+        ensures room { OnOk result (is_group (first_at self.old first) ≡ false → 0 < self.new.free) }
+        ensures within { OnOk result (is_group (first_at self.old first) ≡ false → used_of self.old < self.old.limit) }
+        ensures no_group { (result ≡ Err RouteFault.NoGroup)
+            ↔ ((is_group (first_at self.old first) ≡ false) × (used_of self.old ≡ self.old.limit)) }
+        ensures others { IfErr result (λ fault. (fault ≡ RouteFault.NoGroup) ⊎ (fault ≡ RouteFault.Memory)) }
+        ensures err { OnErr result (self.new ≡ self.old) }
+    {
+        if self.first[first].is_group() {
+            return Ok(());
+        }
+        if self.is_full() {
+            return Err(RouteFault::NoGroup);
+        }
+        match self.make_room() {
+            Ok(()) => Ok(()),
+            Err(_) => Err(RouteFault::Memory),
+        }
+    }
+
+    /// Gives the entry a group, if it has none.
+    pub fn ensure_group(&mut self, first: usize)
+        requires entry { first < 2 ^ self.old.bits }
+        requires room { is_group (first_at self.old first) ≡ false → 0 < self.old.free }
+        ensures used { used_of self.new ≡ used_of self.old + (if is_group (first_at self.old first) then 0 else 1) }
+        ensures opens { Regroups self.old self.new first true }
+    {
+        if !self.first[first].is_group() {
+            self.open_group(first);
+        }
+    }
+}

@@ -1,0 +1,34 @@
+//! Longest-prefix match over IPv4 addresses, with the behaviour of DPDK's rte_lpm: a first level of entries and groups
+//! below it, so that a lookup is one or two loads. Contracts see a table as the finite map of its members, from
+//! prefixes to next hops.
+//!
+//! A caller, proved in `example.rt`: the one route of a table decides over the address that it was added with, so
+//! `found` is `Some(hop)`.
+//!
+//! ```text
+//! let mut table = Table::new(alloc, 16, 1)?;
+//! table.add(addr, depth, hop)?;
+//! let found = table.lookup(addr);
+//! ```
+#![tactic(auto)]
+
+mod entry;
+mod fault;
+mod levels;
+mod members;
+mod paint;
+mod places;
+mod prefix;
+mod slot;
+mod table;
+
+pub use entry::Entry;
+pub use fault::RouteFault;
+pub use table::Table;
+
+#[cfg(test)]
+mod example;
+#[cfg(test)]
+mod plain;
+#[cfg(test)]
+mod tests;

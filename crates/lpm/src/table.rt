@@ -1,0 +1,108 @@
+//! The route table: its members in a search tree, and the two levels that `lookup` reads.
+
+ghost use Rattle.std.specs.Prelude.{◌≡◌, ◌<◌, ◌≤◌, ◌^◌, ◌↔◌, ◌⊎◌, ℕ, Some, None, IfOk, IfSome, IfNone, IsSome};
+ghost use Rattle.std.specs.FinMap as map;
+ghost use Rattle.lpm.specs.Prefixes.{size_of};
+ghost use Rattle.lpm.specs.Match.{IsLongestMatch, lookup_in};
+ghost use Rattle.lpm.specs.Groups.{HasDeeper};
+ghost use Rattle.lpm.specs.Routes.{address_of, group_at, IsInUse, IsNew};
+ghost use Rattle.lpm.specs.Shown.{group_in, hop_in};
+
+use crate::entry::Entry;
+use crate::levels::Levels;
+use crate::members::Members;
+use std::alloc::{AllocError, Global};
+use std::marker::Model;
+
+mod adding;
+mod removing;
+
+/// The greatest depth of a route.
+const MAX_DEPTH: u8 = 32;
+
+/// Routes to IPv4 prefixes, each with a next hop below 2^24. Of the routes that hold an address the longest decides
+/// (RFC 4632, section 5.1); the two levels are those of the Longest Prefix Match Library chapter of DPDK's Programmer's
+/// Guide.
+#[derive(Drop)]
+pub struct Table {
+    members: Members,
+    levels: Levels,
+}
+
+impl Model for Table {
+    ghost use Rattle.std.specs.Prelude.{map};
+    ghost use Rattle.lpm.specs.Cell.{group_of};
+    ghost use Rattle.lpm.specs.Routes.{Routes, routes_code};
+    ghost use Rattle.lpm.specs.Right.{IsRight};
+
+    ghost Value = { Routes };
+
+    ghost coded = { routes_code };
+
+    ghost view = { λ t. record {
+      bits = t.levels.bits;
+      limit = t.levels.limit;
+      members = t.members;
+      groups = map group_of t.levels.first;
+    } };
+
+    ghost invariant = { λ t. IsRight t.levels t.members };
+}
+
+impl Table {
+    /// An empty table with a first level of 2^`bits` entries, of 4 bytes each, which are made here, and at most
+    /// `groups` groups, each of 2^(32 - `bits`) entries, which are made as they are needed. Only for want of memory
+    /// there is an `Err`.
+    pub fn new(alloc: Global, bits: u8, groups: u32) -> Result<Table, AllocError>
+        requires { (bits ≡ 16) ⊎ (bits ≡ 24) }
+        ensures { IfOk result (λ t. IsNew t bits groups) }
+    {
+        Ok(Table {
+            members: Members::new(alloc),
+            levels: Levels::new(alloc, bits, groups)?,
+        })
+    }
+
+    /// The next hop of the longest route that holds the address. Takes no memory; one read of an entry, or two.
+    pub fn lookup(&self, addr: u32) -> Option<u32>
+        ensures longest { IsLongestMatch self.now.members addr result }
+        ensures value { result ≡ lookup_in self.now.members addr }
+        ensures small { IfSome result (λ hop. hop < 2 ^ 24) }
+    {
+        self.levels.cell(addr).hop()
+    }
+
+    /// What the first level says of the addresses whose first bits are `first`: the group that they have where a route
+    /// deeper than the first level has these first bits, else the one answer that `lookup` gives for each of them.
+    /// Takes no memory.
+    pub fn entry(&self, first: u32) -> Entry
+        requires { first < 2 ^ self.now.bits }
+        ensures group { group_in result ≡ group_at self.now first }
+        ensures deeper { IsSome (group_in result) ↔ HasDeeper self.now.bits self.now.members first }
+        ensures below { IfSome (group_in result) (λ group. group < self.now.limit) }
+        ensures alone { IfSome (group_in result)
+            (λ group. (other : ℕ) → group_at self.now other ≡ Some group → other ≡ first) }
+        ensures hop { IfNone (group_in result) ((low : ℕ) → low < size_of self.now.bits
+            → IsLongestMatch self.now.members (address_of self.now first low) (hop_in result)) }
+    {
+        let slot = self.levels.first(first as usize);
+        if slot.is_group() {
+            return Entry::Group(slot.number());
+        }
+        match slot.hop() {
+            Some(hop) => Entry::Hop(hop),
+            None => Entry::None,
+        }
+    }
+
+    /// What a group that is in use says of its place `low`: what `lookup` gives for the address with the first bits
+    /// that the group stands for and the other bits `low`. Takes no memory.
+    pub fn group_entry(&self, group: u32, low: u32) -> Option<u32>
+        requires used { IsInUse self.now group }
+        requires place { low < size_of self.now.bits }
+        ensures { (first : ℕ) → first < 2 ^ self.now.bits → group_at self.now first ≡ Some group
+            → IsLongestMatch self.now.members (address_of self.now first low) result }
+    {
+        self.levels.in_group(group, low as usize).hop()
+    }
+}

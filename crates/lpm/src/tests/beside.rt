@@ -1,0 +1,121 @@
+//! The levels beside a plain list of the same routes, on pseudo-random routes: both answer alike.
+
+ghost use Rattle.std.specs.Prelude.{◌≡◌, ◌<◌, ◌≤◌, ◌⊎◌};
+
+use crate::example::read;
+use crate::plain::Plain;
+use crate::tests::add;
+use crate::{RouteFault, Table};
+use std::alloc::{AllocError, Global};
+use std::process::Abort;
+use std::test::Fail;
+
+/// How many calls of each kind are made: enough that each refusal but the one for memory comes many times.
+const CALLS: usize = 200;
+
+/// splitmix64, from a fixed seed.
+#[derive(Drop)]
+struct Random {
+    state: u64,
+}
+
+impl Random {
+    fn next(&mut self) -> u64 {
+        self.state = self.state.wrapping_add(0x9e37_79b9_7f4a_7c15);
+        let first = (self.state ^ (self.state >> 30)).wrapping_mul(0xbf58_476d_1ce4_e5b9);
+        let second = (first ^ (first >> 27)).wrapping_mul(0x94d0_49bb_1331_11eb);
+        second ^ (second >> 31)
+    }
+
+    /// An address of which few bits vary, so that the routes lie in and beside each other.
+    fn address(&mut self) -> u32 {
+        let random = (self.next() >> 32) as u32;
+        0x0a01_0200 ^ (random & 0x8001_0101)
+    }
+
+    /// A depth from 1 to 32, or seldom the one below or the one above; few below 12, since those change many entries.
+    fn depth(&mut self) -> u8 {
+        let random = (self.next() % 256) as u8;
+        if random < 32 {
+            random % 12
+        } else {
+            12 + random % 22
+        }
+    }
+
+    /// One of seven hops, or now and then one that is too large.
+    fn hop(&mut self) -> u32 {
+        let random = (self.next() % 8) as u32;
+        if random < 7 { random } else { 1 << 24 }
+    }
+}
+
+/// Adds to the table as to the list, once more where memory was refused.
+fn add_to_both(rt: &impl Abort, table: &mut Table, plain: &mut Plain, random: &mut Random)
+    ensures { table.new.bits ≡ table.old.bits }
+{
+    let (addr, depth, hop) = (random.address(), random.depth(), random.hop());
+    let answer = add(table, addr, depth, hop);
+    let mut expected = plain.add(addr, depth, hop);
+    if expected == Err(RouteFault::Memory) {
+        expected = plain.add(addr, depth, hop);
+    }
+    assert_eq!(rt; answer, expected, "add {addr:08x}/{depth}");
+}
+
+fn remove_from_both(rt: &impl Abort, table: &mut Table, plain: &mut Plain, random: &mut Random)
+    ensures { table.new.bits ≡ table.old.bits }
+{
+    let (addr, depth) = (random.address(), random.depth());
+    assert_eq!(rt;
+        table.remove(addr, depth),
+        plain.remove(addr, depth),
+        "remove {addr:08x}/{depth}"
+    );
+}
+
+fn look_up_in_both(rt: &impl Abort, table: &Table, bits: u8, plain: &Plain, random: &mut Random)
+    requires level { bits ≡ table.now.bits }
+    requires some { 0 < bits }
+    requires most { bits ≤ 24 }
+{
+    let addr = random.address();
+    let expected = plain.lookup(addr);
+    assert_eq!(rt; table.lookup(addr), expected, "{addr:08x}");
+    assert_eq!(rt; read(table, bits, addr), expected, "entry of {addr:08x}");
+}
+
+/// Makes the calls on a table and on a list.
+fn compare(
+    rt: &impl Abort,
+    alloc: Global,
+    bits: u8,
+    groups: u32,
+    seed: u64,
+) -> Result<(), AllocError>
+    requires { (bits ≡ 16) ⊎ (bits ≡ 24) }
+{
+    let mut table = Table::new(alloc, bits, groups)?;
+    let mut plain = Plain::new(alloc, bits, groups);
+    let mut random = Random { state: seed };
+    for _ in 0..CALLS {
+        add_to_both(rt, &mut table, &mut plain, &mut random);
+        look_up_in_both(rt, &table, bits, &plain, &mut random);
+        remove_from_both(rt, &mut table, &mut plain, &mut random);
+        look_up_in_both(rt, &table, bits, &plain, &mut random);
+    }
+    Ok(())
+}
+
+#[test]
+fn answers_as_a_list_does(rt: HostRuntime) -> Result<(), Fail> {
+    compare(&rt, rt.alloc(), 16, 2, 1)?;
+    compare(&rt, rt.alloc(), 16, 100, 2)?;
+    Ok(())
+}
+
+#[test]
+fn answers_as_a_list_does_by_24_bits(rt: HostRuntime) -> Result<(), Fail> {
+    compare(&rt, rt.alloc(), 24, 3, 3)?;
+    Ok(())
+}
