@@ -67,7 +67,8 @@ pub record RingAgrees (plan : RingPlan) (parties : List (Party Item)) (r : ℕ) 
 pub record ListsAgree (plans : List RingPlan) (rings : List Ring) (members : List Member) (actors : List Actor) : Type 0 where
   pub member_count : length members ≡ length actors
   pub ring_count : length rings ≡ length plans
-  pub each_member : (i : ℕ) (d : Actor) (e : Member) → i < length actors → MemberAgrees (slice_index_or actors i d) (slice_index_or members i e)
+  pub each_member : (i : ℕ) (d : Actor) (e : Member) → i < length actors
+      → MemberAgrees (slice_index_or actors i d) (slice_index_or members i e)
   pub each_ring : (r : ℕ) (plan : RingPlan) (ring : Ring) → slice_get plans r ≡ Some plan → slice_get rings r ≡ Some ring
       → RingAgrees plan (parties_of actors) r ring
 
@@ -190,7 +191,8 @@ pub record PutResult (plan : RingPlan) (m n : Member) (x y : Ring) (items : List
   pub put : end_at m.span (length items) < 2 ^ 64 → y.put ≡ words_settled plan.put x.put m.span (length items) reply
   pub refused : is_done reply ≡ false → y.put ≡ x.put
   pub taking : y.take ≡ x.take
-  pub buffers : n.buffers.items ≡ (if is_done reply then filter (λ b. not (list_any (λ c. c == b) (flat_map tags items))) m.buffers.items else m.buffers.items)
+  pub buffers : n.buffers.items
+      ≡ (if is_done reply then filter (λ b. not (list_any (λ c. c == b) (flat_map tags items))) m.buffers.items else m.buffers.items)
   pub member : MemberSettled m n reply
 
 pub record TakeResult (plan : RingPlan) (m n : Member) (x y : Ring) (count : ℕ) (reply : Reply) : Type 0 where
@@ -210,7 +212,8 @@ pub record StashResult (m n : Member) (b : ℕ) (reply : Reply) : Type 0 where
 
 pub record UnstashResult (m n : Member) (b : ℕ) (reply : Reply) : Type 0 where
   pub reply_is : reply ≡ (if holds_marked m.buffers.items m.cached.items b then Seen b else NotYours)
-  pub cached : n.cached.items ≡ (if holds_marked m.buffers.items m.cached.items b then filter (λ c. not (c == b)) m.cached.items else m.cached.items)
+  pub cached : n.cached.items
+      ≡ (if holds_marked m.buffers.items m.cached.items b then filter (λ c. not (c == b)) m.cached.items else m.cached.items)
   pub buffers : n.buffers.items ≡ m.buffers.items
   pub span : n.span ≡ m.span
   pub observed : n.observed ≡ m.observed

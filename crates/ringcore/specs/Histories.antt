@@ -35,8 +35,8 @@ pool_of h = length h.gifts
 abbrev pub followed_by : History → List Event → History
 followed_by h events = record { plans = h.plans; actors = h.actors; gifts = h.gifts; events = h.events ++ events }
 
--- a right history: of a plan that may be opened; each reply is the one to its step; it is sound before and after each event; and no put into a
--- free ring was answered NoRoom
+-- a right history: of a plan that may be opened; each reply is the one to its step; it is sound before and after each event; and no put
+-- into a free ring was answered NoRoom
 pub record IsRight (h : History) : Type 0 where
   pub plan : IsPlan h.plans h.actors h.gifts
   pub run : IsRun h.plans (pool_of h) (opening_of h) h.events

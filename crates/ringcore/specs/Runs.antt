@@ -12,7 +12,8 @@ use Rattle.ringcore.specs.Agree.{ListsAgree, IsOnRing}
 -- whether actor and ring of each entry are among so many
 abbrev pub ExistAll : ℕ → ℕ → ℕ → List (ℕ × Step) → Type 0
 ExistAll members rings plans [] = Unit {0}
-ExistAll members rings plans (e ∷ entries) = (e.0 < members) × IsOnRing rings e.1 × IsOnRing plans e.1 × ExistAll members rings plans entries
+ExistAll members rings plans (e ∷ entries) =
+    (e.0 < members) × IsOnRing rings e.1 × IsOnRing plans e.1 × ExistAll members rings plans entries
 
 -- the events of steps and their replies
 abbrev pub events_of : List (ℕ × Step) → List Reply → List Event

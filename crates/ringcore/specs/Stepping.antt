@@ -64,4 +64,5 @@ abbrev pub AnswersSome : World → World → List (ℕ × Step) → Type 0
 AnswersSome old new entries =
     (pool : ℕ) (actors : List Actor) → IsLawful old.plans.items pool → Invariant old.plans.items pool actors
     → ListsAgree old.plans.items old.rings.items old.members.items actors
-    → (replies : List Reply) × (rest : List (ℕ × Step)) × RunsTo old.plans.items pool actors entries replies rest new.rings.items new.members.items
+    → (replies : List Reply) × (rest : List (ℕ × Step))
+    × RunsTo old.plans.items pool actors entries replies rest new.rings.items new.members.items

@@ -40,6 +40,6 @@ abbrev pub first_place : List Place → Place
 first_place [] = Nowhere
 first_place (x ∷ places) = x
 
--- The place of a buffer. A buffer of the pool has exactly one after every list of steps, any other number has none: so the first is the only one
+-- The place of a buffer. After every list of steps a buffer of the pool has exactly one, any other number none: so the first is the only one
 abbrev pub place : ℕ → List Actor → ℕ → Place
 place rings actors b = first_place (all_places rings actors b)

@@ -1,0 +1,13 @@
+use Rattle.std.proofs.Common.{arith, refl, ap, ◌∙◌, length}
+use Rattle.mbuf.specs.Buffer.{Buffer, cut_front}
+use Rattle.mbuf.proofs.Windows.{length_window, window_cut_front, same_buffer}
+use Rattle.mbuf.proofs.segment.Segment.cut_front.Goals as goal
+
+pub returns : goal.returns
+returns c =
+    let store = c.self.inside.store in
+    let front = ap (λ (b : Buffer). b.headroom) c.self.view_is in
+    let long = ap (λ (b : Buffer). length b.bytes) c.self.view_is in
+    let behind = ap (λ (b : Buffer). b.tailroom) c.self.view_is in
+    let window = length_window _ _ _ _ store.ok.0 c.self.invariant.0 in
+    same_buffer _ _ _ _ _ _ _ _ refl (window_cut_front c.self.inside.start c.self.inside.len c.args.n store.items (omega arith)) (omega arith) ∙ ap (cut_front c.args.n) c.self.view_is

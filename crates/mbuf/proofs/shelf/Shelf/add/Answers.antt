@@ -1,0 +1,15 @@
+use Rattle.std.proofs.Common.{◌∙◌, ap, List, ◌∷◌, [], ◌++◌, subst, sym}
+use Rattle.mbuf.specs.Deck.{Share, shared}
+use Rattle.mbuf.specs.Slots.{IsShelf}
+use Rattle.mbuf.proofs.Shelves.{shelf_same}
+use Rattle.mbuf.proofs.Adding.{stored_live, stored_shelf}
+use Rattle.mbuf.proofs.shelf.Shelf.add.Goals as goal
+
+pub invariant_of-self : goal.invariant_of-self
+invariant_of-self c = let back = c.in-Err.ensures.unchanged in subst (IsShelf c.store.new.packets) (sym back.0) (shelf_same _ _ _ back.1 c.self.invariant)
+
+pub invariant_of-self-2 : goal.invariant_of-self-2
+invariant_of-self-2 c = stored_shelf _ _ _ _ _ _ _ c.self.view_is c.in_default.ensures.stored c.self.invariant c.requires.unmentioned
+
+pub returns-clause-done : goal.returns-clause-done
+returns-clause-done c = stored_live _ _ _ _ _ _ c.in_default.ensures.stored c.self.invariant ∙ ap (λ (live : List Share). live ++ shared c.args.id c.args.chain ∷ []) c.self.view_is

@@ -1,0 +1,36 @@
+-- What the bytes of a segment, the links of a row and a chain are once a part of them was lent for writing.
+use Rattle.std.specs.Prelude.{ℕ, List, ◌++◌, take}
+use Rattle.std.specs.Borrow.{Lends, MutBor, Fml, u8, Array}
+use Rattle.std.specs.Global.{Box}
+use Rattle.std.specs.contracts.alloc.Global.{the_row as global_row}
+use Rattle.std.specs.contracts.boxed.Box.{the_row as boxed}
+use Rattle.std.specs.contracts.impls.GlobalAllocator.TheImpl.{ghosts}
+use denote.RattleType.{RattleType}
+use Rattle.mbuf.specs.Buffer.{Buffer, rewritten}
+use Rattle.mbuf.specs.Chain.{at_segment}
+use Rattle.mbuf.specs.Links.{row}
+use Rattle.mbuf.specs.contracts.segment.Segment.{the_row as segment_row}
+use Rattle.mbuf.specs.contracts.link.Link.{the_row as link_row}
+use Rattle.mbuf.specs.contracts.row.Row.{the_row as row_row}
+
+abbrev pub LendsBytes : MutBor Buffer → MutBor (List ℕ) → Fml
+LendsBytes s r = Lends segment_row (Array u8 0) s r (λ w. rewritten w s.now)
+
+-- the first segment of a link is what was written
+abbrev pub LendsSegment : MutBor (Buffer × List Buffer) → MutBor Buffer → Fml
+LendsSegment s r = Lends link_row segment_row s r (λ w. (w, s.now.1))
+
+abbrev pub box_row : RattleType
+box_row = boxed link_row global_row ghosts
+
+-- behind a link's first segment and n more stands what was written
+abbrev pub LendsBehind : MutBor (Buffer × List Buffer) → ℕ → MutBor (Box (Buffer × List Buffer)) → Fml
+LendsBehind s n r = Lends link_row box_row s r (λ w. (s.now.0, take n s.now.1 ++ row w.value))
+
+-- behind n segments of a row stands what was written
+abbrev pub LendsFrom : MutBor (List Buffer) → ℕ → MutBor (Buffer × List Buffer) → Fml
+LendsFrom s n r = Lends row_row link_row s r (λ w. take n s.now ++ row w)
+
+-- the bytes of segment i are what was written
+abbrev pub LendsPart : MutBor (List Buffer) → ℕ → MutBor (List ℕ) → Fml
+LendsPart s i r = Lends row_row (Array u8 0) s r (λ w. at_segment i (rewritten w) s.now)

@@ -1,0 +1,8 @@
+pub mod Buffer
+pub mod Chain
+pub mod Links
+pub mod Lends
+pub mod ChainLends
+pub mod Deck
+pub mod Slots
+pub mod Fault

@@ -1,0 +1,29 @@
+//! Where segments come from. There is no other way to make one, so that a number names one buffer for ever.
+ghost use Rattle.std.specs.Prelude.{◌≡◌, ◌≤◌, IfOk};
+ghost use Rattle.mbuf.specs.Chain.{made_all};
+
+use crate::chain::Chain;
+use std::alloc::{AllocError, Global};
+
+/// Makes `count` fresh segments, each a chain of its own, numbered from 0 in the order of the list: with `headroom`
+/// free bytes before and `room` free bytes behind the place of its first byte. Asked: each of the three numbers is at
+/// most 65,536.
+///
+/// It takes all the memory that chains ever need, and answers `AllocError` where that isn't there.
+pub fn make(
+    alloc: Global,
+    count: u32,
+    headroom: usize,
+    room: usize,
+) -> Result<Vec<Chain>, AllocError>
+    requires count { count ≤ 65536 }
+    requires headroom { headroom ≤ 65536 }
+    requires room { room ≤ 65536 }
+    ensures { IfOk result (λ chains. chains.items ≡ made_all headroom room count) }
+{
+    let mut chains = Vec::with_capacity(alloc, count as usize)?;
+    for number in 0..count {
+        chains.push(Chain::make(alloc, number, headroom, room)?)?;
+    }
+    Ok(chains)
+}

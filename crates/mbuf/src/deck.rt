@@ -1,0 +1,167 @@
+//! Shares of packets. A share mentions every segment of a chain and shows some of its bytes; a segment goes back when
+//! the last share that mentions it goes (DPDK Programmer's Guide, "Mbuf Library", indirect buffers). A deck belongs to
+//! one worker: it has no lock, and its counts are plain numbers.
+ghost use Rattle.std.specs.Prelude.{◌≡◌, ◌+◌, ◌<◌, ◌≤◌, ◌++◌, ℕ, [], ◌∷◌, Some, None, IsNone, IfSome, IfOk, IfErr};
+ghost use Rattle.std.specs.Prelude.{OnOk, OnErr};
+ghost use Rattle.std.specs.Result.{result_err};
+ghost use Rattle.mbuf.specs.Chain.{numbers_of, bytes_of, fresh_of, filled};
+ghost use Rattle.mbuf.specs.Deck.{AreUnmentioned, IfShare, share_of, shared, again, narrowed, added, on_live, at_id};
+ghost use Rattle.mbuf.specs.Deck.{without, freed_by};
+ghost use Rattle.mbuf.specs.Deck.{share_refusal, again_refusal, cut_refusal, release_refusal, copy_refusal};
+
+use crate::chain::Chain;
+use crate::fault::DeckFault;
+use crate::shelf::Shelf;
+use fabric::Burst;
+use std::alloc::Global;
+use std::marker::Model;
+
+/// The live shares of one worker.
+#[derive(Drop)]
+pub struct Deck {
+    shelf: Shelf,
+    next: u32,
+}
+
+impl Model for Deck {
+    ghost use Rattle.mbuf.specs.Deck.{Shares, HasIds};
+
+    ghost Value = { Shares };
+
+    ghost view = { λ deck. record { next = deck.next; live = deck.shelf } };
+
+    ghost invariant = { λ deck. HasIds deck.next deck.shelf };
+}
+
+impl Deck {
+    /// A deck without shares. It takes no memory yet.
+    pub fn new(alloc: Global) -> Deck
+        ensures { result ≡ record { next = 0; live = [] } }
+    {
+        Deck {
+            shelf: Shelf::new(alloc),
+            next: 0,
+        }
+    }
+
+    /// Makes a share of `chain`: it mentions each of its segments and shows all of its bytes. Ids count up from 0 and
+    /// aren't used again. Asked: no live share mentions any of its segments.
+    ///
+    /// Refused with 7 `NoId` after 2^32 - 1 ids, 6 `Memory`, tested in this order. The chain then comes back, and the
+    /// deck is unchanged. It takes memory.
+    pub fn share(&mut self, chain: Chain) -> Result<u32, (Chain, DeckFault)>
+        requires unmentioned { AreUnmentioned (numbers_of chain) self.old.live }
+        ensures id { IfOk result (λ id. id ≡ self.old.next) }
+        ensures done { OnOk result (self.new ≡ added (shared self.old.next chain) self.old) }
+        ensures refused { IfSome (share_refusal self.old) (λ fault. result ≡ Err (chain, fault)) }
+        ensures memory { IsNone (share_refusal self.old) → IfErr result (λ back. back ≡ (chain, DeckFault.Memory)) }
+        ensures unchanged { OnErr result (self.new ≡ self.old) }
+    {
+        if self.next == u32::MAX {
+            return Err((chain, DeckFault::NoId));
+        }
+        let id = self.next;
+        if let Err(chain) = self.shelf.add(id, chain) {
+            return Err((chain, DeckFault::Memory));
+        }
+        self.next = id + 1;
+        Ok(id)
+    }
+
+    /// Makes another share with the mentions and the bytes that share `id` has now.
+    ///
+    /// Refused with 5 `NoSuchShare` where no live share has this id, 7 `NoId` after 2^32 - 1 ids, 6 `Memory`, tested in
+    /// this order. The deck is then unchanged. It takes memory.
+    pub fn again(&mut self, id: u32) -> Result<u32, DeckFault>
+        ensures id { IfOk result (λ new. new ≡ self.old.next) }
+        ensures done { OnOk result (IfShare id self.old (λ old. self.new ≡ added (again self.old.next old) self.old)) }
+        ensures refused { IfSome (again_refusal id self.old) (λ fault. result ≡ Err fault) }
+        ensures memory { IsNone (again_refusal id self.old) → IfErr result (λ fault. fault ≡ DeckFault.Memory) }
+        ensures unchanged { OnErr result (self.new ≡ self.old) }
+    {
+        let Some(place) = self.shelf.place(id) else {
+            return Err(DeckFault::NoSuchShare);
+        };
+        if self.next == u32::MAX {
+            return Err(DeckFault::NoId);
+        }
+        let new = self.next;
+        if self.shelf.again(place, new).is_err() {
+            return Err(DeckFault::Memory);
+        }
+        self.next = new + 1;
+        Ok(new)
+    }
+
+    /// Narrows share `id` to `n` of its bytes, from its byte `from` on. It keeps its mentions.
+    ///
+    /// Refused with 5 `NoSuchShare` where no live share has this id, 3 `TooShort` where it shows too few bytes, tested
+    /// in this order. The deck is then unchanged. It takes no memory.
+    pub fn cut(&mut self, id: u32, from: usize, n: usize) -> Result<(), DeckFault>
+        ensures done { OnOk result (self.new ≡ on_live (at_id id (narrowed from n)) self.old) }
+        ensures refused { result_err result ≡ cut_refusal id from n self.old }
+        ensures unchanged { OnErr result (self.new ≡ self.old) }
+    {
+        let Some(place) = self.shelf.place(id) else {
+            return Err(DeckFault::NoSuchShare);
+        };
+        let len = self.shelf.len(place);
+        if from > len || n > len - from {
+            return Err(DeckFault::TooShort);
+        }
+        self.shelf.narrow(place, from, n);
+        Ok(())
+    }
+
+    /// Ends share `id`, and puts into `into` the segments whose last mention went, in the order of the chain: each a
+    /// fresh chain of its own. Asked: `into` is empty.
+    ///
+    /// Refused with 5 `NoSuchShare` where no live share has this id; the deck is then unchanged, and `into` empty. It
+    /// takes no memory.
+    pub fn release_into(&mut self, id: u32, into: &mut Burst<Chain, 64>) -> Result<(), DeckFault>
+        requires empty { into.old ≡ [] }
+        ensures done { OnOk result (self.new ≡ on_live (without id) self.old) }
+        ensures given { OnOk result (into.new ≡ freed_by (share_of id self.old.live) self.new.live) }
+        ensures refused { result_err result ≡ release_refusal id self.old }
+        ensures unchanged { OnErr result ((self.new ≡ self.old) × (into.new ≡ [])) }
+    {
+        let Some(place) = self.shelf.place(id) else {
+            return Err(DeckFault::NoSuchShare);
+        };
+        self.shelf.release(place, into);
+        Ok(())
+    }
+
+    /// `release_into` a list of its own.
+    pub fn release(&mut self, id: u32) -> Result<Burst<Chain, 64>, DeckFault>
+        ensures done { OnOk result (self.new ≡ on_live (without id) self.old) }
+        ensures given { IfOk result (λ given. given ≡ freed_by (share_of id self.old.live) self.new.live) }
+        ensures refused { result_err result ≡ release_refusal id self.old }
+        ensures unchanged { OnErr result (self.new ≡ self.old) }
+    {
+        let mut given = Burst::new();
+        self.release_into(id, &mut given)?;
+        Ok(given)
+    }
+
+    /// Fills `chain` with the bytes of share `id`, from its first segment on. What was in the chain is overwritten.
+    ///
+    /// Refused with 5 `NoSuchShare` where no live share has this id, 2 `NoTailroom` where the bytes are more than the
+    /// chain's `space`, tested in this order. The chain is then unchanged. It takes no memory.
+    pub fn copy_into(&self, id: u32, chain: &mut Chain) -> Result<(), DeckFault>
+        ensures done { OnOk result (IfShare id self.now (λ share. chain.new ≡ filled share.bytes chain.old)) }
+        ensures packet { OnOk result (IfShare id self.now (λ share. bytes_of chain.new ≡ share.bytes)) }
+        ensures kept { fresh_of chain.new ≡ fresh_of chain.old }
+        ensures refused { result_err result ≡ copy_refusal id chain.old self.now }
+        ensures unchanged { OnErr result (chain.new ≡ chain.old) }
+    {
+        let Some(place) = self.shelf.place(id) else {
+            return Err(DeckFault::NoSuchShare);
+        };
+        if self.shelf.len(place) > chain.space() {
+            return Err(DeckFault::NoTailroom);
+        }
+        self.shelf.copy(place, chain);
+        Ok(())
+    }
+}

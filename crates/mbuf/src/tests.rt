@@ -1,0 +1,127 @@
+//! Worked rows of chains, and each call of a chain.
+use crate::example::{longest, numbers, pair, segment};
+use crate::{Chain, ChainFault, make};
+use std::alloc::Global;
+use std::test::Fail;
+
+/// A chain of two segments with bytes 1, 2 and 3, 4.
+fn four_bytes(alloc: Global) -> Result<Chain, Fail> {
+    let mut chain = pair(alloc, 4, 7)?;
+    chain.stretch(66)?;
+    chain.adj(62)?;
+    for i in 0..4 {
+        chain.set(i, i as u8 + 1)?;
+    }
+    Ok(chain)
+}
+
+#[test]
+fn makes_numbered_segments(rt: HostRuntime) -> Result<(), Fail> {
+    let mut number = 0;
+    for chain in make(rt.alloc(), 3, 128, 64)? {
+        assert_eq!(rt; numbers(&chain).as_slice(), [number].as_slice());
+        assert_eq!(rt; chain.headroom(), 128);
+        assert_eq!(rt; chain.tailroom(), 64);
+        assert!(rt; chain.is_empty());
+        number = if number < 9 { number + 1 } else { 9 };
+    }
+    assert_eq!(rt; number, 3);
+    Ok(())
+}
+
+#[test]
+fn keeps_headroom_and_tailroom(rt: HostRuntime) -> Result<(), Fail> {
+    let mut chain = segment(rt.alloc(), 0)?;
+    assert_eq!(rt; chain.append(&[7; 64]), Ok(()));
+    assert_eq!(rt; chain.append(&[7]), Err(ChainFault::NoTailroom));
+    assert_eq!(rt; chain.prepend(&[5; 128]), Ok(()));
+    assert_eq!(rt; chain.prepend(&[5]), Err(ChainFault::NoHeadroom));
+    assert_eq!(rt; chain.len(), 192);
+    assert_eq!(rt; chain.adj(193), Err(ChainFault::TooShort));
+    assert_eq!(rt; chain.adj(130), Ok(()));
+    assert_eq!(rt; chain.len(), 62);
+    assert_eq!(rt; chain.headroom(), 130);
+    assert_eq!(rt; chain.trim(63), Err(ChainFault::TooShort));
+    assert_eq!(rt; chain.trim(60), Ok(()));
+    assert_eq!(rt; chain.tailroom(), 60);
+    assert_eq!(rt; chain.byte(1), Some(7));
+    chain.reset();
+    assert_eq!(rt; chain.headroom(), 128);
+    assert_eq!(rt; chain.len(), 0);
+    Ok(())
+}
+
+#[test]
+fn reads_and_writes_bytes(rt: HostRuntime) -> Result<(), Fail> {
+    let mut chain = four_bytes(rt.alloc())?;
+    assert_eq!(rt; chain.len(), 4);
+    assert_eq!(rt; chain.byte(2), Some(3));
+    assert_eq!(rt; chain.byte(4), None);
+    assert_eq!(rt; chain.set(4, 9), Err(ChainFault::TooShort));
+    let mut two = [0; 2];
+    assert_eq!(rt; chain.bytes(1, &mut two), Ok(()));
+    assert_eq!(rt; two, [2, 3]);
+    assert_eq!(rt; chain.bytes(3, &mut two), Err(ChainFault::TooShort));
+    assert_eq!(rt; chain.linear_copy(&mut two), Err(ChainFault::TooShort));
+    let mut six = [9; 6];
+    assert_eq!(rt; chain.linear_copy(&mut six), Ok(4));
+    assert_eq!(rt; six, [1, 2, 3, 4, 9, 9]);
+    Ok(())
+}
+
+#[test]
+fn gives_its_parts(rt: HostRuntime) -> Result<(), Fail> {
+    let mut chain = four_bytes(rt.alloc())?;
+    assert_eq!(rt; chain.space(), 128);
+    assert_eq!(rt; chain.stretch(129), Err(ChainFault::NoTailroom));
+    assert_eq!(rt; chain.stretch(66), Ok(()));
+    assert_eq!(rt; chain.byte(65), Some(0));
+    assert!(rt; chain.segments() == 2);
+    chain.part_mut(1).fill(8);
+    assert_eq!(rt; chain.byte(63), Some(0));
+    assert_eq!(rt; chain.byte(64), Some(8));
+    assert!(rt; chain.segments() == 2);
+    assert_eq!(rt; chain.part(1), [8, 8].as_slice());
+    assert_eq!(rt; chain.part(0).len(), 64);
+    Ok(())
+}
+
+#[test]
+fn takes_its_first_segment(rt: HostRuntime) -> Result<(), Fail> {
+    let (first, rest) = four_bytes(rt.alloc())?.take_first();
+    assert_eq!(rt; numbers(&first).as_slice(), [4].as_slice());
+    assert_eq!(rt; first.len(), 2);
+    let (last, none) = rest.ok_or("rest")?.take_first();
+    assert_eq!(rt; numbers(&last).as_slice(), [7].as_slice());
+    assert_eq!(rt; last.byte(0), Some(3));
+    assert!(rt; none.is_none());
+    Ok(())
+}
+
+#[test]
+fn has_at_most_64_segments(rt: HostRuntime) -> Result<(), Fail> {
+    let chain = longest(rt.alloc())?;
+    assert_eq!(rt; chain.segments(), 64);
+    let Err((chain, other, fault)) = chain.chain(segment(rt.alloc(), 64)?) else {
+        return Err(Fail::new("65 segments"));
+    };
+    assert_eq!(rt; fault, ChainFault::TooManySegments);
+    assert_eq!(rt; chain.segments(), 64);
+    assert_eq!(rt; numbers(&other).as_slice(), [64].as_slice());
+    Ok(())
+}
+
+#[test]
+fn tells_why(rt: HostRuntime) -> Result<(), Fail> {
+    let cases = [
+        (ChainFault::NoHeadroom, 1, "NoHeadroom"),
+        (ChainFault::NoTailroom, 2, "NoTailroom"),
+        (ChainFault::TooShort, 3, "TooShort"),
+        (ChainFault::TooManySegments, 4, "TooManySegments"),
+    ];
+    for (fault, number, text) in cases {
+        assert_eq!(rt; fault.number(), number);
+        assert_eq!(rt; fault.to_string(rt.alloc())?.as_str(), text);
+    }
+    Ok(())
+}
