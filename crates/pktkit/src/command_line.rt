@@ -8,6 +8,8 @@ use std::alloc::Global;
 pub enum Asked<'a> {
     /// The replies to the ring commands of a file, or of the input where no file is named.
     Ring(Option<&'a str>),
+    /// The replies to the steps of a file.
+    Steps(Option<&'a str>),
 }
 
 /// Reads the words after the program's name. Without any the input is asked for.
@@ -16,25 +18,40 @@ pub fn read_words<'a>(alloc: Global, words: &'a [String]) -> Result<Asked<'a>, E
         return Ok(Asked::Ring(None));
     }
     let matches = pktkit(alloc)?.try_get_matches_from(words)?;
-    let file = matches
-        .subcommand()
-        .and_then(|(_, ring)| ring.get_str("FILE"));
-    Ok(Asked::Ring(file))
+    match matches.subcommand() {
+        Some(("steps", steps)) => Ok(Asked::Steps(steps.get_str("FILE"))),
+        Some((_, ring)) => Ok(Asked::Ring(ring.get_str("FILE"))),
+        None => Ok(Asked::Ring(None)),
+    }
 }
 
 /// The command line of `pktkit`.
 fn pktkit<'a>(alloc: Global) -> Result<Command<'a>, Error> {
-    let file = Arg::new(alloc, "FILE")
-        .required(true)
-        .action(ArgAction::Set)
-        .help("A file of commands");
-    let ring = Command::new(alloc, "ring")
-        .about("Prints the replies to a file of ring commands")
-        .arg(file)?;
+    let ring = of_a_file(
+        alloc,
+        "ring",
+        "Prints the replies to a file of ring commands",
+    )?;
+    let steps = of_a_file(
+        alloc,
+        "steps",
+        "Prints the replies to a file of atomic steps",
+    )?;
     let command = Command::new(alloc, "pktkit")
         .about("Rings, packet buffers and routes, proved")
         .no_binary_name(true)
         .subcommand_required(true)
-        .subcommand(ring)?;
+        .subcommand(ring)?
+        .subcommand(steps)?;
+    Ok(command)
+}
+
+/// A subcommand that names a file.
+fn of_a_file<'a>(alloc: Global, name: &'a str, about: &'a str) -> Result<Command<'a>, Error> {
+    let file = Arg::new(alloc, "FILE")
+        .required(true)
+        .action(ArgAction::Set)
+        .help("A file of commands");
+    let command = Command::new(alloc, name).about(about).arg(file)?;
     Ok(command)
 }

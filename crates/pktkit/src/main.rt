@@ -8,6 +8,12 @@ mod reply;
 mod ring_answer;
 mod ring_command;
 mod ring_text;
+mod steps_answer;
+mod steps_command;
+mod steps_item;
+mod steps_plan;
+mod steps_stage;
+mod steps_text;
 #[cfg(test)]
 mod tests;
 mod text;

@@ -3,7 +3,9 @@
 ghost use Rattle.std.specs.Prelude.{◌≤◌};
 
 use crate::command_line::{Asked, read_words};
-use crate::ring_text::{TextFault, ring_text};
+use crate::ring_text::ring_text;
+use crate::steps_text::steps_text;
+use crate::text::TextFault;
 use clap::Error;
 use std::alloc::AllocError;
 use std::fs;
@@ -41,6 +43,7 @@ pub fn program<R: Files + AllocGlobal, I: Read + Drop, O: Write, E: Write>(
 {
     let done = match read_words(rt.alloc(), words) {
         Ok(Asked::Ring(file)) => ring(rt, file, input, out),
+        Ok(Asked::Steps(file)) => steps(rt, file, input, out),
         Err(refusal) => return refuse(&refusal, out, err),
     };
     match done {
@@ -92,6 +95,25 @@ fn ring<'a, R: Files + AllocGlobal, I: Read + Drop, O: Write>(
     let mut replies = Vec::new(rt.alloc());
     let answered = ring_text(rt.alloc(), bytes.as_slice(), &mut replies);
     print(replies.as_slice(), out)?;
+    well(answered)
+}
+
+/// Prints the replies to the steps of a file.
+fn steps<'a, R: Files + AllocGlobal, I: Read + Drop, O: Write>(
+    rt: &R,
+    file: Option<&'a str>,
+    input: I,
+    out: &mut O,
+) -> Result<(), Fault<'a>> {
+    let bytes = read(rt, file, input)?;
+    let mut replies = Vec::new(rt.alloc());
+    let answered = steps_text(rt.alloc(), bytes.as_slice(), &mut replies);
+    print(replies.as_slice(), out)?;
+    well(answered)
+}
+
+/// What a text is told as that was not answered to its end.
+fn well<'a>(answered: Result<(), TextFault>) -> Result<(), Fault<'a>> {
     match answered {
         Ok(()) => Ok(()),
         Err(fault) => Err(Fault::Text(fault)),

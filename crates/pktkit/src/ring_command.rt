@@ -105,7 +105,7 @@ fn are_items(words: &[&[u8]]) -> bool
 }
 
 /// `bulk` or `burst`.
-fn how_of(word: &[u8]) -> Option<How>
+pub fn how_of(word: &[u8]) -> Option<How>
     ensures { result ≡ how_of word.now }
 {
     match word {

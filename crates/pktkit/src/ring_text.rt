@@ -8,19 +8,8 @@ ghost use Rattle.pktkit.specs.RingReplies.{contents, done, told, reply_to, state
 
 use crate::ring_answer::{Ring, answer};
 use crate::ring_command::Command;
-use crate::text::{is_skipped, split_words, without_return};
+use crate::text::{TextFault, is_skipped, split_words, without_return};
 use std::alloc::{AllocError, Global};
-use thiserror::Error;
-
-/// Why the text of a command file was not answered to its end.
-#[derive(Clone, Copy, Debug, PartialEq, Eq, Error)]
-pub enum TextFault {
-    /// The line of this number, from 1 on, fits no form.
-    #[error("line {0}")]
-    BadLine(u64),
-    #[error("memory")]
-    Memory,
-}
 
 /// Appends the replies to a file of ring commands to `out`.
 ///
@@ -34,6 +23,7 @@ pub fn ring_text(alloc: Global, bytes: &[u8], out: &mut Vec<u8>) -> Result<(), T
         → IsAnsweredTo (n - 1) (lines_of bytes.now) out.old.items out.new.items }
     ensures memory { result ≡ Err TextFault.Memory
         → (k : ℕ) × IsAnsweredTo k (lines_of bytes.now) out.old.items out.new.items }
+    ensures no_plan { result ≡ Err TextFault.BadPlan → ⊥ }
 {
     let mut ring = None;
     let mut words = Vec::new(alloc);
@@ -72,6 +62,7 @@ fn answer_line<'a>(
     ensures reply { OnOk result (reply.new.items ≡ reply_to (contents ring.old) (words_of line.now)) }
     ensures bad { (n : ℕ) → result ≡ Err (TextFault.BadLine n) → is_lawful (words_of line.now) ≡ false }
     ensures number { (n : ℕ) → result ≡ Err (TextFault.BadLine n) → n ≡ number }
+    ensures no_plan { result ≡ Err TextFault.BadPlan → ⊥ }
 {
     split_words(line, words).map_err(|_| TextFault::Memory)?;
     if is_skipped(words.as_slice()) {

@@ -2,6 +2,7 @@
 
 use crate::program::program;
 use std::alloc::AllocError;
+use std::fs;
 use std::process::Abort;
 use std::rt::Files;
 use std::test::Fail;
@@ -9,6 +10,9 @@ use std::test::Fail;
 mod faults;
 mod forms;
 mod rows;
+mod steps_forms;
+mod steps_plans;
+mod steps_rows;
 
 /// What a run left.
 #[derive(Drop)]
@@ -43,4 +47,41 @@ fn expect<R: Abort + Files + AllocGlobal>(
     assert_eq!(rt; std::str::from_utf8(ran.err.as_slice()).ok(), Some(err));
     assert_eq!(rt; ran.status, status);
     Ok(())
+}
+
+/// Tests a run over a steps file of this text, written under a name of its own for the while: its status, its replies and its
+/// fault line.
+fn expect_steps<R: Abort + Files + AllocGlobal>(
+    rt: &R,
+    name: &str,
+    text: &str,
+    status: u8,
+    out: &str,
+    err: &str,
+) -> Result<(), Fail> {
+    fs::write(rt, name, text)?;
+    let ran = run(rt, &["steps", name], b"")?;
+    fs::remove_file(rt, name)?;
+    assert_eq!(rt; std::str::from_utf8(ran.out.as_slice()).ok(), Some(out));
+    assert_eq!(rt; std::str::from_utf8(ran.err.as_slice()).ok(), Some(err));
+    assert_eq!(rt; ran.status, status);
+    Ok(())
+}
+
+/// Tests a steps file that is answered to its end: its plan, and then lines, each with its reply.
+fn expect_replies<R: Abort + Files + AllocGlobal>(
+    rt: &R,
+    name: &str,
+    plan: &str,
+    lines: &[(&str, &str)],
+) -> Result<(), Fail> {
+    let mut text = String::from_str(rt.alloc(), plan)?;
+    let mut replies = String::new(rt.alloc());
+    for (line, reply) in lines {
+        text.push_str(line)?;
+        text.push('\n')?;
+        replies.push_str(reply)?;
+        replies.push('\n')?;
+    }
+    expect_steps(rt, name, text.as_str(), 0, replies.as_str(), "")
 }

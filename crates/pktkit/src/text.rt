@@ -1,13 +1,27 @@
-//! The text of a command file: lines, words and numbers.
+//! The text of a command file: lines, words and numbers, and why it was not answered to its end.
 
 ghost use Rattle.std.specs.Prelude.{◌≡◌, ◌+◌, OnOk, IsTrue};
 ghost use Rattle.std.specs.Str.Lines.{strip_carriage_return};
 ghost use Rattle.pktkit.specs.Text.{texts, words_of, is_skipped, number_of, is_digits, has_up_to, digits_value};
 
 use std::alloc::AllocError;
+use thiserror::Error;
 
 /// How many digits a number has at most.
 const MAX_DIGITS: usize = 20;
+
+/// Why the text of a command file was not answered to its end.
+#[derive(Clone, Copy, Debug, PartialEq, Eq, Error)]
+pub enum TextFault {
+    /// The line of this number, from 1 on, fits no form or may not stand where it does.
+    #[error("line {0}")]
+    BadLine(u64),
+    #[error("memory")]
+    Memory,
+    /// The plan that a steps file begins with isn't lawful as a whole.
+    #[error("plan")]
+    BadPlan,
+}
 
 /// Makes a list the words of a line: what stands between spaces and tabs.
 pub fn split_words<'a>(line: &'a [u8], words: &mut Vec<&'a [u8]>) -> Result<(), AllocError>

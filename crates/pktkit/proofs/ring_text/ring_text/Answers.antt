@@ -1,30 +1,15 @@
-use Rattle.std.proofs.Common.{◌≡◌, ℕ, ◌++◌, ◌<◌, List, length, get_or, ◌==◌, Err, ap, sym, ◌∙◌, subst, arith, rules, tests}
+use Rattle.std.proofs.Common.{◌≡◌, ℕ, ◌++◌, length, ◌==◌, Err, ap, sym, ◌∙◌, subst, arith, rules, tests}
 use Rattle.std.specs.List.{slice_split}
 use Rattle.std.specs.Str.Lines.{strip_carriage_return}
-use Rattle.std.proofs.lemmas.List.{length-map, get_or-map, length_push}
+use Rattle.std.proofs.lemmas.List.{length-map, length_push}
 use Rattle.std.proofs.lemmas.Iterator.Consumers.{YieldsList-turn, YieldsList-end}
 use Rattle.std.proofs.lemmas.Iterator.Splits.{YieldsList-from_slice_split}
-use Rattle.pktkit.specs.Text.{Bytes, lines_of, words_of}
+use Rattle.pktkit.specs.Text.{lines_of, words_of}
 use Rattle.pktkit.specs.RingReplies.{reply_to, state_of, IsAnsweredTo, IsFirstBad}
-use Rattle.pktkit.specs.declared.ring_text.TextFault.TheVariants.{BadLine}
+use Rattle.pktkit.specs.declared.text.TextFault.TheVariants.{BadLine}
+use Rattle.pktkit.proofs.Lines.{line_there, at_number}
 use Rattle.pktkit.proofs.RingRuns.{answered_more, ring_after-more, first_bad}
 use Rattle.pktkit.proofs.ring_text.ring_text.Goals as goal
-
--- the parts between newlines
-abbrev parts : Bytes → List Bytes
-parts bytes = slice_split (λ b. b == 10) bytes
-
--- a part, and the line that it is
-line_there : (bytes part line : Bytes) (k : ℕ) → (k < length (parts bytes)) × (part ≡ get_or (parts bytes) k part) → line ≡ strip_carriage_return part
-    → (k < length (lines_of bytes)) × (line ≡ get_or (lines_of bytes) k line)
-line_there bytes part line k h e =
-    let same = length-map (parts bytes) strip_carriage_return in
-    (omega arith, e ∙ ap strip_carriage_return h.1 ∙ sym (get_or-map strip_carriage_return (parts bytes) k part line h.0))
-
--- the part of this turn, by the line's number
-at_number : (bytes part : Bytes) (k n : ℕ) → n ≡ k → (k < length (parts bytes)) × (part ≡ get_or (parts bytes) k part)
-    → (n < length (parts bytes)) × (part ≡ get_or (parts bytes) n part)
-at_number bytes part k n e h = subst (λ (j : ℕ). (j < length (parts bytes)) × (part ≡ get_or (parts bytes) j part)) (sym e) h
 
 pub returns-in_err-answer_line-clause-first_bad : goal.returns-in_err-answer_line-clause-first_bad
 returns-in_err-answer_line-clause-first_bad c = λ n fault.
@@ -67,5 +52,5 @@ returns-clause-ok c =
     let bytes = c.args.bytes.now in
     let road = YieldsList-from_slice_split _ (λ b. b == 10) bytes (search rules) (search rules) (search rules) (λ x b q k. search (rules, tests)) in
     let end = YieldsList-end road c.loop-line.yielded _ c.loop-line.yielded_by _ _ c.in-None.is c.next.ensures.steps in
-    let all : c.loop-line.number ≡ length (lines_of bytes) = c.loop-line.invariant.0 ∙ end.1 ∙ sym (length-map (parts bytes) strip_carriage_return) in
+    let all : c.loop-line.number ≡ length (lines_of bytes) = c.loop-line.invariant.0 ∙ end.1 ∙ sym (length-map (slice_split (λ b. b == 10) bytes) strip_carriage_return) in
     subst (λ (k : ℕ). IsAnsweredTo k (lines_of bytes) c.args.out.now.items c.loop-line.out.items) all c.loop-line.invariant.1
