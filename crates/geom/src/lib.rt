@@ -9,5 +9,5 @@ mod tests;
 mod word;
 
 pub use geometry::{GeomFault, Geometry};
-pub use plan::{How, Mode, RingPlan, Side};
+pub use plan::{How, Mode, RingPlan, Side, all_fit};
 pub use word::{LAST, RESERVED, pack, unpack};

@@ -1,6 +1,7 @@
 //! What a ring is to be: its geometry, the mode of each side, and whether it holds the free buffers.
 
-ghost use Rattle.std.specs.Prelude.{◌≡◌};
+ghost use Rattle.std.specs.Prelude.{◌≡◌, ◌↔◌, IsTrue};
+ghost use Rattle.geom.specs.Fit.{AllFit, Fits};
 ghost use Rattle.geom.specs.Plan.{mode_of, granted};
 
 use crate::geometry::Geometry;
@@ -78,4 +79,24 @@ impl RingPlan {
             Side::Take => self.take,
         }
     }
+
+    /// Whether the ring may stand beside so many buffers: a free ring takes all of them.
+    pub const fn fits(self, buffers: u64) -> bool
+        ensures { IsTrue result ↔ Fits self buffers }
+    {
+        let capacity = self.geometry.capacity();
+        !self.free || buffers <= capacity
+    }
+}
+
+/// Whether each of the rings may stand beside so many buffers.
+pub fn all_fit(rings: &[RingPlan], buffers: u64) -> bool
+    ensures { IsTrue result ↔ AllFit rings.now buffers }
+{
+    for plan in rings {
+        if !plan.fits(buffers) {
+            return false;
+        }
+    }
+    true
 }

@@ -10,12 +10,14 @@ use fabric::Tagged;
 use std::alloc::{AllocError, Global};
 use std::test::Fail;
 
+/// A chain of one fresh segment.
 pub fn segment(alloc: Global, number: u32) -> Result<Chain, AllocError>
     ensures { IfOk result (λ chain. chain ≡ made 128 64 number ∷ []) }
 {
     Chain::make(alloc, number, 128, 64)
 }
 
+/// The chain of both, one behind the other.
 pub fn both(one: Chain, other: Chain) -> Result<Chain, Fail>
     requires apart { AreDistinct (numbers_of one ++ numbers_of other) }
     ensures { IfOk result (λ whole. whole ≡ one ++ other) }
@@ -54,6 +56,7 @@ pub fn deck_of(alloc: Global, chain: Chain) -> Result<Deck, Fail> {
     }
 }
 
+/// The numbers of a chain's segments, in order.
 pub fn numbers(chain: &Chain) -> ArrayVec<u32, 64> {
     let mut numbers = ArrayVec::new();
     chain.tags(&mut numbers);

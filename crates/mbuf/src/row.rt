@@ -41,6 +41,7 @@ impl Row {
         })
     }
 
+    /// The headroom of the first segment.
     #[inline]
     pub fn headroom(&self) -> usize
         ensures { result ≡ headroom_of self.now }
@@ -56,12 +57,14 @@ impl Row {
         self.first.first_len()
     }
 
+    /// The tailroom of the last segment.
     pub fn tailroom(&self) -> usize
         ensures { result ≡ tailroom_of self.now }
     {
         self.first.tailroom()
     }
 
+    /// Byte `i` of the packet.
     pub fn byte(&self, i: usize) -> u8
         requires { i < length (bytes_of self.now) }
         ensures { result ≡ slice_index (bytes_of self.now) i }
@@ -69,6 +72,7 @@ impl Row {
         self.first.byte(i)
     }
 
+    /// Puts `bytes` before those of the first segment.
     #[inline]
     pub fn prepend(&mut self, bytes: &[u8])
         requires { length bytes.now ≤ headroom_of self.old }
@@ -79,6 +83,7 @@ impl Row {
         self.first.prepend(bytes);
     }
 
+    /// Appends `bytes` to the last segment.
     #[inline]
     pub fn append(&mut self, bytes: &[u8]) -> Result<(), ChainFault>
         ensures done { OnOk result (self.new ≡ at_last (appended bytes.now) self.old) }
@@ -90,6 +95,7 @@ impl Row {
         self.first.append(bytes)
     }
 
+    /// Cuts `n` bytes off the front of the first segment.
     #[inline]
     pub fn cut_front(&mut self, n: usize)
         requires { n ≤ length (first_bytes self.old) }
@@ -100,6 +106,7 @@ impl Row {
         self.first.cut_front(n);
     }
 
+    /// Cuts `n` bytes off the end of the last segment.
     #[inline]
     pub fn cut_back(&mut self, n: usize) -> Result<(), ChainFault>
         ensures done { OnOk result (self.new ≡ at_last (cut_back n) self.old) }
@@ -112,6 +119,7 @@ impl Row {
         self.first.cut_back(n)
     }
 
+    /// Replaces byte `i` of the packet.
     pub fn set(&mut self, i: usize, v: u8)
         requires { i < length (bytes_of self.old) }
         ensures packet { bytes_of self.new ≡ slice_set (bytes_of self.old) i v }
@@ -121,6 +129,7 @@ impl Row {
         self.first.set(i, v);
     }
 
+    /// Copies bytes of the packet into `out`, from its byte `at` on.
     pub fn copy_out(&self, at: usize, out: &mut [u8])
         requires { at + length out.old ≤ length (bytes_of self.now) }
         ensures { out.new ≡ take (length out.old) (drop at (bytes_of self.now)) }
@@ -147,12 +156,14 @@ impl Row {
         }
     }
 
+    /// Makes each segment fresh.
     pub fn reset(&mut self)
         ensures { self.new ≡ fresh_of self.old }
     {
         self.first.reset();
     }
 
+    /// How many bytes the segments take when fresh.
     pub fn space(&self) -> usize
         requires { space_of self.now < 2 ^ 63 }
         ensures { result ≡ space_of self.now }
@@ -160,6 +171,7 @@ impl Row {
         self.first.space()
     }
 
+    /// Makes the packet `n` zero bytes long, from the first segment on.
     pub fn stretch(&mut self, n: usize)
         requires { n ≤ space_of self.old }
         ensures done { self.new ≡ filled (replicate n 0) self.old }
@@ -181,6 +193,7 @@ impl Row {
         self.first.fill(&source.first, at, n);
     }
 
+    /// The bytes of segment `i`, counted from 0.
     pub fn part(&self, i: usize) -> &[u8]
         requires { i < length self.now }
         ensures { result.now ≡ part_of self.now i }
@@ -188,6 +201,7 @@ impl Row {
         self.first.part(i)
     }
 
+    /// Writes the numbers of the segments behind those that stand in `out`.
     pub fn tags(&self, out: &mut ArrayVec<u32, 64>)
         requires { array_vec_len out.old + length self.now ≤ 64 }
         ensures { out.new.items ≡ out.old.items ++ numbers_of self.now }

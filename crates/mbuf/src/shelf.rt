@@ -80,6 +80,7 @@ fn store(
 }
 
 impl Shelf {
+    /// A shelf without shares.
     pub fn new(alloc: Global) -> Shelf
         ensures { result ≡ [] }
     {

@@ -63,7 +63,8 @@ items_text items = flat_map (λ item. 32 ∷ item_text item) items
 -- a reply without its end of line, where the step shows values of this mode
 abbrev pub answer_text : Mode → Reply → Bytes
 answer_text mode (Seen value) = codes "seen " ++ value_text mode value
-answer_text mode (Granted start count left) = codes "granted " ++ decimal start ++ codes " " ++ decimal count ++ codes " left " ++ decimal left
+answer_text mode (Granted start count left) =
+    codes "granted " ++ decimal start ++ codes " " ++ decimal count ++ codes " left " ++ decimal left
 answer_text mode (Done count items) = codes "done " ++ decimal count ++ items_text items
 answer_text mode (Busy value) = codes "busy " ++ value_text mode value
 answer_text mode (Contended value) = codes "contended " ++ value_text mode value

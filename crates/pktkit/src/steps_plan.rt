@@ -53,7 +53,8 @@ impl Draft {
     /// Opens a world of this plan. Refused where the plan isn't lawful as a whole.
     pub fn open(&self, alloc: Global) -> Result<World, WorldFault>
         ensures lawful { OnOk result (IsLawful (named self.now)) }
-        ensures opened { IfOk result (λ world. AgreesWith world (opened (named self.now)) × IsRight (opened (named self.now))) }
+        ensures opened { IfOk result (λ world. AgreesWith world (opened (named self.now))
+            × IsRight (opened (named self.now))) }
         ensures unlawful { result ≡ Err WorldFault.BadPlan → ¬ IsLawful (named self.now) }
     {
         let Some(actors) = only(self.counts.as_slice()) else {
@@ -131,7 +132,8 @@ fn owner_table(
 ) -> Result<Vec<Option<u64>>, WorldFault>
     requires { buffer_count gifts.now ≤ count }
     ensures table { IfOk result (λ table. IsTable count table.items gifts.now) }
-    ensures twice { result ≡ Err WorldFault.BadPlan → (b : ℕ) × (b < buffer_count gifts.now) × (1 < length (owners b gifts.now)) }
+    ensures twice { result ≡ Err WorldFault.BadPlan
+        → (b : ℕ) × (b < buffer_count gifts.now) × (1 < length (owners b gifts.now)) }
 {
     let mut table = vec![in alloc; None; count].map_err(|_| WorldFault::Memory)?;
     for gift in gifts {
@@ -148,7 +150,8 @@ fn owner_table(
 fn all_owners(alloc: Global, table: &[Option<u64>]) -> Result<Vec<usize>, WorldFault>
     ensures owners { IfOk result (λ given. given.items ≡ map (λ o. unwrap_or o 0) table.now) }
     ensures all { OnOk result ((b : ℕ) → b < length table.now → is_some (slice_index_or table.now b None) ≡ true) }
-    ensures missing { result ≡ Err WorldFault.BadPlan → (b : ℕ) × (b < length table.now) × (slice_index_or table.now b None ≡ None) }
+    ensures missing { result ≡ Err WorldFault.BadPlan
+        → (b : ℕ) × (b < length table.now) × (slice_index_or table.now b None ≡ None) }
 {
     let mut given = Vec::new(alloc);
     for owner in table {

@@ -47,9 +47,11 @@ impl Stage {
     ) -> Result<(), TextFault>
         ensures ok { OnOk result ((s : State) → Stands self.old s
             → LineAnswered s line self.new reply.old.items reply.new.items) }
-        ensures bad { (n : ℕ) → result ≡ Err (TextFault.BadLine n) → (s : State) → Stands self.old s → LineRefused s line }
+        ensures bad { (n : ℕ) → result ≡ Err (TextFault.BadLine n) → (s : State) → Stands self.old s
+            → LineRefused s line }
         ensures number { (n : ℕ) → result ≡ Err (TextFault.BadLine n) → n ≡ number }
-        ensures plan { result ≡ Err TextFault.BadPlan → (s : State) → Stands self.old s → IsTrue (is_step line) × PlanRefused s }
+        ensures plan { result ≡ Err TextFault.BadPlan → (s : State) → Stands self.old s
+            → IsTrue (is_step line) × PlanRefused s }
     {
         match line {
             None => Err(TextFault::BadLine(number)),
@@ -62,7 +64,8 @@ impl Stage {
     /// Adds a line to the plan.
     fn add(&mut self, number: u64, line: PlanLine) -> Result<(), TextFault>
         ensures ok { OnOk result ((s : State) → Stands self.old s → LineAnswered s (Some (Plan line)) self.new [] []) }
-        ensures bad { (n : ℕ) → result ≡ Err (TextFault.BadLine n) → (s : State) → Stands self.old s → LineRefused s (Some (Plan line)) }
+        ensures bad { (n : ℕ) → result ≡ Err (TextFault.BadLine n) → (s : State) → Stands self.old s
+            → LineRefused s (Some (Plan line)) }
         ensures number { (n : ℕ) → result ≡ Err (TextFault.BadLine n) → n ≡ number }
         ensures plan { result ≡ Err TextFault.BadPlan → ⊥ }
     {
@@ -148,7 +151,8 @@ impl Stage {
 /// Opens the world of a plan.
 fn open(alloc: Global, draft: &Draft) -> Result<World, TextFault>
     ensures lawful { OnOk result (IsLawful (named draft.now)) }
-    ensures opened { IfOk result (λ world. AgreesWith world (opened (named draft.now)) × IsRight (opened (named draft.now))) }
+    ensures opened { IfOk result (λ world. AgreesWith world (opened (named draft.now))
+        × IsRight (opened (named draft.now))) }
     ensures never { (n : ℕ) → result ≡ Err (TextFault.BadLine n) → ⊥ }
     ensures plan { result ≡ Err TextFault.BadPlan → ¬ IsLawful (named draft.now) }
 {

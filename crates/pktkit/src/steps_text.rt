@@ -20,7 +20,8 @@ use std::alloc::Global;
 /// lines; 3 `BadPlan`, where the plan isn't lawful as a whole: `out` is as it was.
 pub fn steps_text(alloc: Global, bytes: &[u8], out: &mut Vec<u8>) -> Result<(), TextFault>
     ensures ok { let lines = lines_of bytes.now in
-        OnOk result (IsAnsweredTo (length lines) lines out.old.items out.new.items × IsLawful (left_by (length lines) lines).plan) }
+        OnOk result (IsAnsweredTo (length lines) lines out.old.items out.new.items
+        × IsLawful (left_by (length lines) lines).plan) }
     ensures first_bad { (n : ℕ) → result ≡ Err (TextFault.BadLine n) → IsFirstBad n (lines_of bytes.now) }
     ensures before_bad { (n : ℕ) → result ≡ Err (TextFault.BadLine n)
         → IsAnsweredTo (n - 1) (lines_of bytes.now) out.old.items out.new.items }

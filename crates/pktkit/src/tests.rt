@@ -49,8 +49,8 @@ fn expect<R: Abort + Files + AllocGlobal>(
     Ok(())
 }
 
-/// Tests a run over a steps file of this text, written under a name of its own for the while: its status, its replies and its
-/// fault line.
+/// Tests a run over a steps file of this text, written under a name of its own for the while: its status, its replies
+/// and its fault line.
 fn expect_steps<R: Abort + Files + AllocGlobal>(
     rt: &R,
     name: &str,

@@ -7,7 +7,8 @@ use Rattle.geom.specs.declared.plan.RingPlan.{RingPlan}
 use Rattle.ringcore_laws.specs.Sound.{holds, places, occurrences}
 use Rattle.ringcore_laws.specs.Invariant.{Invariant}
 use Rattle.ringcore_laws.specs.History.{Actor, tags, parties_of, buffer_count, is_cached}
-use Rattle.ringcore_laws.proofs.FreeLaws.{count_all}
+use Rattle.ringcore_laws.specs.FreeRings.{buffers_of}
+use Rattle.ringcore_laws.proofs.FreeRoom.{count_all}
 use Rattle.ringcore_laws.proofs.HeadTailLaws.{sum_by_part}
 use Rattle.ringcore_laws.proofs.HistoryLaws.{parties_at, parties_length}
 use Rattle.ringcore.specs.declared.member.Member.{Member}
@@ -15,7 +16,7 @@ use Rattle.ringcore.specs.Agree.{MemberAgrees}
 
 -- a member has as many buffers as its actor
 pub buffers_counted : (plans : List RingPlan) (pool : ℕ) (actors : List Actor) (i : ℕ) (a : Actor) (m : Member) → i < length actors → ((d : Actor) → slice_index_or actors i d ≡ a) → Invariant plans pool actors → MemberAgrees a m → length m.buffers.items ≡ buffer_count pool a
-unfolding buffer_count places
+unfolding buffers_of places
 buffers_counted plans pool actors i a m lt at k h =
     sym (count_all pool m.buffers.items outside) ∙ ap (λ (f : ℕ → ℕ). sum_by f (range_with_len 0 pool)) (λ j b. h.buffers b j)
   where

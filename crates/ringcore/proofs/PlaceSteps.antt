@@ -10,7 +10,7 @@ use Rattle.geom.specs.declared.plan.Side.TheVariants.{Put, Take}
 use Rattle.ringcore_laws.specs.declared.contents.Item.{Item}
 use Rattle.ringcore_laws.specs.declared.protocol.Place.{Place}
 use Rattle.ringcore_laws.specs.declared.protocol.Place.TheVariants.{AtRing, Held, Cached, Nowhere}
-use Rattle.ringcore_laws.specs.Party.{Party}
+use Rattle.ringcore_laws.specs.declared.party.Party.{Party}
 use Rattle.ringcore_laws.specs.RingSide.{side_of, listed}
 use Rattle.ringcore_laws.specs.Sound.{holds, occurrences, queue}
 use Rattle.ringcore_laws.specs.History.{Actor, parties_of, tags}

@@ -14,7 +14,9 @@ use Rattle.ringcore_laws.specs.declared.contents.Item.{Item}
 use Rattle.ringcore_laws.specs.declared.protocol.Span.{Span}
 use Rattle.ringcore_laws.specs.declared.protocol.Reply.{Reply}
 use Rattle.ringcore_laws.specs.declared.protocol.Reply.TheVariants.{Done, NotYet, NoSpan, BadCount, NotYours}
-use Rattle.ringcore_laws.specs.Party.{Party, Settled, is_on, same_side, with_settled}
+use Rattle.ringcore_laws.specs.declared.party.Party.{Party}
+use Rattle.ringcore_laws.specs.declared.party.Settled.{Settled}
+use Rattle.ringcore_laws.specs.Party.{is_on, same_side, with_settled}
 use Rattle.ringcore_laws.specs.Moves.{settled_by}
 use Rattle.ringcore_laws.specs.RingSide.{RingSide, side_of, listed, IsGapless}
 use Rattle.ringcore_laws.specs.Sound.{SoundRing, holds, moved, settled_times, queue, occurrences, occurrences_in}
@@ -23,10 +25,10 @@ use Rattle.ringcore_laws.specs.Invariant.{Invariant}
 use Rattle.ringcore_laws.specs.History.{Actor, tags, parties_of, starts_below, earlier_open, is_held, is_cached, may_put, is_bad_settle, put_reply, take_reply, after_put, after_take, settled_span}
 use Rattle.ringcore_laws.proofs.SideLaws.{settles_side_of}
 use Rattle.ringcore_laws.proofs.RingLaws.{open_count, held_cases, unsettled_above, length-listed}
-use Rattle.ringcore_laws.proofs.Laws.{off_ring, off_put, off_take, same_or_not, same_plan, settled_other}
+use Rattle.ringcore_laws.proofs.Laws.{off_ring, off_put, off_take, same_or_not, same_plan, settled_other, times_in_is}
 use Rattle.ringcore_laws.proofs.HeadTailLaws.{first_in_line, own_span}
 use Rattle.ringcore_laws.proofs.Queues.{OwnSettled, own_settled, put_queue, take_queue}
-use Rattle.ringcore_laws.proofs.HistoryLaws.{parties_set, parties_at, parties_length, parties_unchanged, on_true, and_true, passes, times_in_is, settle_fits}
+use Rattle.ringcore_laws.proofs.HistoryLaws.{parties_set, parties_at, parties_length, parties_unchanged, on_true, and_true, passes, settle_fits}
 use Rattle.ringcore_laws.proofs.Lists.{get_set, get_set_other}
 use Rattle.ringcore_laws.proofs.Telling.{put_done_tells, take_done_tells}
 use Rattle.ringcore.proofs.Steps.{lift}
@@ -364,14 +366,14 @@ member_put a m n span items free reply h put may done s left = record {
     by_there : (b : ℕ) (t : Bool) → list_any (λ e. e == b) numbers ≡ t → n_if (not (list_any (λ e. e == b) numbers)) (holds tags b a.party) ≡ holds tags b a.party - occurrences_in tags b items
     by_there b false e =
         let none : occurrences b numbers ≡ 0 = never b numbers e in
-        ap (λ v. n_if (not v) (holds tags b a.party)) e ∙ (let r : holds tags b a.party ≡ holds tags b a.party - occurrences_in tags b items = omega (arith, times_in_is b items) in r)
+        ap (λ v. n_if (not v) (holds tags b a.party)) e ∙ (let r : holds tags b a.party ≡ holds tags b a.party - occurrences_in tags b items = omega (arith, times_in_is tags b items) in r)
     by_there b true e =
         let some : 0 < occurrences b numbers = ever b numbers e in
         let parts = and_true (list_all (is_held a) numbers && list_all (λ n. occurrences n numbers == 1) numbers) (not free || list_all (λ x. length (tags x) == 1) items) may in
         let both = and_true (list_all (is_held a) numbers) (list_all (λ n. occurrences n numbers == 1) numbers) parts.0 in
         let mine = and_true (holds tags b a.party == 1) (not (is_cached a b)) (passes (is_held a) numbers b both.0 some) in
         let one : holds tags b a.party ≡ 1 = is_one (holds tags b a.party) mine.0 in
-        ap (λ v. n_if (not v) (holds tags b a.party)) e ∙ (let r : 0 ≡ holds tags b a.party - occurrences_in tags b items = omega (arith, times_in_is b items) in r)
+        ap (λ v. n_if (not v) (holds tags b a.party)) e ∙ (let r : 0 ≡ holds tags b a.party - occurrences_in tags b items = omega (arith, times_in_is tags b items) in r)
 
 pub member_take : (a : Actor) (m n : Member) (span : Span) (items : List Item) (reply : Reply) → MemberAgrees a m → span.side ≡ Take → is_done reply ≡ true → MemberSettled m n reply → n.buffers.items ≡ m.buffers.items ++ flat_map tags items
     → ((b : ℕ) → moved tags Put b a.party ≤ occurrences b a.party.given + moved tags Take b a.party)
@@ -381,7 +383,7 @@ member_take a m n span items reply h took done s got had = record {
   observed = s.observed ∙ h.observed;
   buffers = λ b.
       let split = sum_by-append (λ n. if n == b then 1 else 0) m.buffers.items (flat_map tags items) in
-      ap (occurrences b) got ∙ (let r : occurrences b (m.buffers.items ++ flat_map tags items) ≡ holds tags b (with_settled a.party span items) = omega (arith, h.buffers b, times_in_is b items, left_after_take a span items b took (had b)) in r);
+      ap (occurrences b) got ∙ (let r : occurrences b (m.buffers.items ++ flat_map tags items) ≡ holds tags b (with_settled a.party span items) = omega (arith, h.buffers b, times_in_is tags b items, left_after_take a span items b took (had b)) in r);
   cached = λ b. ap (λ v. list_any (λ c. c == b) v) s.cached ∙ h.cached b;
 }
 

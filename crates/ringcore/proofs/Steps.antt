@@ -11,7 +11,8 @@ use Rattle.ringcore_laws.specs.declared.contents.Item.{Item}
 use Rattle.ringcore_laws.specs.declared.protocol.Span.{Span}
 use Rattle.ringcore_laws.specs.declared.protocol.Reply.{Reply}
 use Rattle.ringcore_laws.specs.declared.protocol.Reply.TheVariants.{Seen, Granted, Busy, NoSpan}
-use Rattle.ringcore_laws.specs.Party.{Party, is_on, with_open}
+use Rattle.ringcore_laws.specs.declared.party.Party.{Party}
+use Rattle.ringcore_laws.specs.Party.{is_on, with_open}
 use Rattle.ringcore_laws.specs.Moves.{reserved_by}
 use Rattle.ringcore_laws.specs.RingSide.{RingSide, side_of, span_count, span_end}
 use Rattle.ringcore_laws.specs.Sound.{holds, moved}

@@ -15,7 +15,8 @@ use Rattle.ringcore_laws.specs.declared.protocol.Reply.{Reply}
 use Rattle.ringcore_laws.specs.declared.protocol.Reply.TheVariants.{Granted, Seen, Busy, NoSpan, BadCount, NotYours, NotYet, Done}
 use Rattle.ringcore_laws.specs.declared.protocol.Span.{Span}
 use Rattle.ringcore_laws.specs.declared.protocol.Observed.{Observed}
-use Rattle.ringcore_laws.specs.Party.{Party, is_on}
+use Rattle.ringcore_laws.specs.declared.party.Party.{Party}
+use Rattle.ringcore_laws.specs.Party.{is_on}
 use Rattle.ringcore_laws.specs.RingSide.{RingSide, side_of}
 use Rattle.ringcore_laws.specs.Sound.{occurrences, holds, queue}
 use Rattle.ringcore_laws.specs.History.{Actor, tags, is_cached, parties_of, with_tail, is_bad_settle, reserve_seen, seen_on}

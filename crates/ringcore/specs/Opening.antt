@@ -1,7 +1,5 @@
 -- A plan that may be opened, part by part, and what stands right after
-use Rattle.std.specs.Prelude.{ℕ, true, ◌≡◌, ◌<◌, ◌≤◌, List, [], length, slice_get, slice_index_or, Some, None}
-use Rattle.geom.specs.Extent.{IsExtent}
-use Rattle.geom.specs.declared.plan.RingPlan.{RingPlan}
+use Rattle.std.specs.Prelude.{ℕ, ◌≡◌, ◌<◌, ◌≤◌, List, [], length, slice_index_or, None}
 use Rattle.ringcore_laws.specs.History.{gifts_to}
 use Rattle.ringcore.specs.declared.ring.Ring.{Ring}
 use Rattle.ringcore.specs.declared.member.Member.{Member}
@@ -12,15 +10,6 @@ pub record AreFew (rings actors buffers : ℕ) : Type 0 where
   pub some_actor : 0 < actors
   pub few_actors : actors ≤ 64
   pub few_buffers : buffers ≤ 65536
-
--- a ring beside so many buffers: all of them fit if it is a free ring
-pub record Fits (plan : RingPlan) (buffers : ℕ) : Type 0 where
-  pub extent : IsExtent plan.geometry
-  pub free_rings : plan.free ≡ true → buffers ≤ plan.geometry.capacity
-
--- the same of each ring
-abbrev pub AllFit : List RingPlan → ℕ → Type 0
-AllFit rings buffers = (r : ℕ) (plan : RingPlan) → slice_get rings r ≡ Some plan → Fits plan buffers
 
 -- a ring of which nothing is reserved
 pub record IsFresh (ring : Ring) : Type 0 where

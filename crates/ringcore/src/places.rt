@@ -1,4 +1,5 @@
-//! Where a buffer is: on the first ring that has it queued, else with the first actor that holds it. In a world there is no second place.
+//! Where a buffer is: on the first ring that has it queued, else with the first actor that holds it. In a world there
+//! is no second place.
 
 ghost use Rattle.std.specs.Prelude.{◌≡◌, ◌+◌, ◌<◌, ◌^◌, length, nat_lt};
 ghost use Rattle.ringcore_laws.specs.History.{tags};

@@ -3,9 +3,9 @@
 ghost use Rattle.std.specs.Prelude.{◌≡◌, ◌↔◌, IsTrue, nat_lt};
 ghost use Rattle.std.specs.List.{list_all};
 ghost use Rattle.ringcore_laws.specs.Runs.{IsPlan};
-ghost use Rattle.ringcore.specs.Opening.{AllFit, AreFew, Fits};
+ghost use Rattle.ringcore.specs.Opening.{AreFew};
 
-use geom::RingPlan;
+use geom::{RingPlan, all_fit};
 use thiserror::Error;
 
 /// The most rings, and the most actors.
@@ -35,8 +35,8 @@ pub struct WorldPlan {
 }
 
 impl WorldPlan {
-    /// Whether a world of this plan may be opened: the numbers of rings, actors and buffers are in their ranges, each gift names an
-    /// actor, and all buffers fit into each free ring.
+    /// Whether a world of this plan may be opened: the numbers of rings, actors and buffers are in their ranges, each
+    /// gift names an actor, and all buffers fit into each free ring.
     pub fn is_lawful(&self) -> bool
         ensures { IsTrue result ↔ IsPlan self.now.rings.items self.now.actors self.now.gifts.items }
     {
@@ -61,23 +61,4 @@ fn are_below(gifts: &[usize], actors: usize) -> bool
     ensures { result ≡ list_all (λ g. nat_lt g actors) gifts.now }
 {
     gifts.iter().all(|g| *g < actors)
-}
-
-fn all_fit(rings: &[RingPlan], buffers: u64) -> bool
-    ensures { IsTrue result ↔ AllFit rings.now buffers }
-{
-    for plan in rings {
-        if !fits(*plan, buffers) {
-            return false;
-        }
-    }
-    true
-}
-
-/// Whether a ring may stand beside so many buffers.
-fn fits(plan: RingPlan, buffers: u64) -> bool
-    ensures { IsTrue result ↔ Fits plan buffers }
-{
-    let capacity = plan.geometry.capacity();
-    !plan.free || buffers <= capacity
 }

@@ -82,7 +82,8 @@ pub fn try_reserve(
     word: u64,
     tail: u64,
 ) -> Reply
-    ensures reply { (l : RingSide AnItem) → SideAgrees (mode_of plan.now side) l words.old → plan.now.geometry.capacity + tail < 2 ^ 64
+    ensures reply { (l : RingSide AnItem)
+        → SideAgrees (mode_of plan.now side) l words.old → plan.now.geometry.capacity + tail < 2 ^ 64
         → result ≡ reserve_seen plan.now side how count l had (Some (word, tail)) }
     ensures after { words.new ≡ words_after words.old result }
     ensures answered { result ≢ NoSpan }

@@ -14,8 +14,8 @@ use ringcore_laws::{Item, Items, Reply, Span};
 use std::alloc::{AllocError, Global};
 use std::mem;
 
-/// Publishes these items at the first positions of the open put span, if it is the first of its side. After want of memory nothing has
-/// changed.
+/// Publishes these items at the first positions of the open put span, if it is the first of its side. After want of
+/// memory nothing has changed.
 pub fn settle_put(
     alloc: Global,
     plan: &RingPlan,
@@ -25,7 +25,8 @@ pub fn settle_put(
     member: &mut Member,
 ) -> Result<Reply, AllocError>
     ensures reply { IfOk result (λ r. r
-        ≡ put_answer plan.now number ring.old.put.tail member.old.buffers.items member.old.cached.items items member.old.span) }
+        ≡ put_answer plan.now number ring.old.put.tail member.old.buffers.items member.old.cached.items items
+        member.old.span) }
     ensures settled { IfOk result (λ r. PutResult plan.now member.old member.new ring.old ring.new items r) }
     ensures memory { OnErr result (IsSame member.old member.new × IsSameRing ring.old ring.new) }
 {
@@ -57,7 +58,8 @@ fn answer_put(
     numbers: &[u64],
 ) -> Reply
     requires { numbers.now ≡ flat_map tags items.now }
-    ensures { result ≡ put_answer plan.now number tail member.now.buffers.items member.now.cached.items items.now member.now.span }
+    ensures { result
+        ≡ put_answer plan.now number tail member.now.buffers.items member.now.cached.items items.now member.now.span }
 {
     let Some(span) = member.span else {
         return Reply::NoSpan;
@@ -77,8 +79,8 @@ fn answer_put(
     Reply::Done(items.len() as u64, Items::of(Vec::new(alloc)))
 }
 
-/// Dequeues the items at the first so many positions of the open take span, if it is the first of its side. After want of memory nothing
-/// has changed.
+/// Dequeues the items at the first so many positions of the open take span, if it is the first of its side. After want
+/// of memory nothing has changed.
 pub fn settle_take(
     alloc: Global,
     plan: &RingPlan,
@@ -118,7 +120,8 @@ fn answer_take(
     count: u64,
     span: Option<Span>,
 ) -> Reply
-    ensures { (queued : List AnItem) → take_answer plan.now number tail queued count span ≡ with_items result (take count queued) }
+    ensures { (queued : List AnItem)
+        → take_answer plan.now number tail queued count span ≡ with_items result (take count queued) }
 {
     let Some(span) = span else {
         return Reply::NoSpan;
@@ -138,7 +141,8 @@ fn answer_take(
 /// Takes the first so many items out of a queue.
 fn take_items(queue: &mut Vec<Item>, many: usize) -> Result<Vec<Item>, AllocError>
     requires { many ≤ vec_len queue.old }
-    ensures ok { IfOk result (λ v. (v.items ≡ take many queue.old.items) × (queue.new.items ≡ drop many queue.old.items)) }
+    ensures ok { IfOk result (λ v. (v.items ≡ take many queue.old.items)
+        × (queue.new.items ≡ drop many queue.old.items)) }
     ensures err { OnErr result (queue.new.items ≡ queue.old.items) }
 {
     let rest = queue.split_off(many)?;

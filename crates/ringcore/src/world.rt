@@ -1,5 +1,6 @@
-//! The machine of shared rings in single atomic steps, without threads: for each ring the numbers in its words and a queue of its
-//! items, for each actor its buffers, its open span and its look. What each step is answered is `ringcore_laws`' definition.
+//! The machine of shared rings in single atomic steps, without threads: for each ring the numbers in its words and a
+//! queue of its items, for each actor its buffers, its open span and its look. What each step is answered is
+//! `ringcore_laws`' definition.
 
 ghost use Rattle.std.specs.Prelude.{◌≡◌, ◌∷◌, [], List, ◌<◌, length, vec_len, IsTrue, ◌↔◌, ℕ, Err, IfOk, OnErr};
 ghost use Rattle.ringcore_laws.specs.History.{reply_to};
@@ -104,8 +105,8 @@ impl World {
 
     /// One step of an actor. Takes memory where buffers change hands or are marked.
     ///
-    /// Where the world is what a right history leaves, the reply is the one to the step, and the world is what that history with
-    /// this event leaves, which is right again.
+    /// Where the world is what a right history leaves, the reply is the one to the step, and the world is what that
+    /// history with this event leaves, which is right again.
     pub fn step(&mut self, actor: usize, step: Step) -> Result<Reply, AllocError>
         requires { StepExists self.old actor step }
         ensures ok { IfOk result (λ reply. (h : History) → AgreesWith self.old h → IsRight h
@@ -118,10 +119,12 @@ impl World {
         Ok(reply)
     }
 
-    /// A list of steps, each by an actor, with the reply to each: the headline. Takes memory as `step` does, and for the replies.
+    /// A list of steps, each by an actor, with the reply to each: the headline. Takes memory as `step` does, and for
+    /// the replies.
     ///
-    /// Where the world is what a right history leaves, the replies are those to the steps, one after the other, and the world is what
-    /// that history followed by the list with its replies leaves, which is right again: sound after each event.
+    /// Where the world is what a right history leaves, the replies are those to the steps, one after the other, and the
+    /// world is what that history followed by the list with its replies leaves, which is right again: sound after each
+    /// event.
     pub fn run(&mut self, entries: Vec<(usize, Step)>) -> Result<Vec<Reply>, AllocError>
         requires { StepsExist self.old entries.items }
         ensures ok { IfOk result (λ replies. (h : History) → AgreesWith self.old h → IsRight h

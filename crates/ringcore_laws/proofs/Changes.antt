@@ -18,11 +18,14 @@ use Rattle.ringcore_laws.specs.declared.protocol.Step.{Step}
 use Rattle.ringcore_laws.specs.declared.protocol.Step.TheVariants.{Look, Room, Reserve, SettlePut, SettleTake, Stash, Unstash}
 use Rattle.ringcore_laws.specs.declared.protocol.Reply.{Reply}
 use Rattle.ringcore_laws.specs.declared.protocol.Reply.TheVariants.{Seen, Granted, Done, Busy, NoSpan}
-use Rattle.ringcore_laws.specs.Party.{Party, Settled, is_on, with_open, with_settled}
+use Rattle.ringcore_laws.specs.declared.party.Party.{Party}
+use Rattle.ringcore_laws.specs.declared.party.Settled.{Settled}
+use Rattle.ringcore_laws.specs.Party.{is_on, with_open, with_settled}
 use Rattle.ringcore_laws.specs.Moves.{reserved_by, settled_by}
-use Rattle.ringcore_laws.specs.RingSide.{IsGapless, RingSide, side_of, listed, settled_end, span_end}
+use Rattle.ringcore_laws.specs.RingSide.{IsGapless, side_of, listed, settled_end, span_end}
 use Rattle.ringcore_laws.specs.Runs.{is_done, is_grant}
 use Rattle.ringcore_laws.specs.Sound.{SoundRing, occurrences}
+use Rattle.ringcore_laws.specs.HeadTailRule.{base}
 use Rattle.ringcore_laws.specs.Invariant.{Invariant}
 use Rattle.ringcore_laws.specs.History.{Event, after, one_stepped, Actor, after_step, buffer_count, earlier_open, is_bad_reserve, is_held, may_put, on_ring, parties_of, put_reply, reply_of, reserve_reply, settled_span, tags, take_reply}
 use Rattle.ringcore_laws.proofs.SideLaws.{Settles, reserves, settles_side_of}
@@ -31,11 +34,6 @@ use Rattle.ringcore_laws.proofs.RingLaws.{held_cases, length-listed}
 use Rattle.ringcore_laws.proofs.HeadTailLaws.{first_in_line, on_or_off, own_span}
 use Rattle.ringcore_laws.proofs.HistoryLaws.{and_true, on_true, parties_at, parties_length, parties_set, parties_unchanged, settle_fits}
 use Rattle.ringcore_laws.proofs.Telling.{granted_tells, on_some_ring, put_done_tells, reserve_tells, take_done_tells}
-
--- up to where a side can't come back: a multi side shows how far it is reserved, an HTS side how far it is settled
-abbrev pub base : Mode → RingSide Item → ℕ
-base Multi l = l.reach
-base Hts l = l.len
 
 pub record Opens (plans : List RingPlan) (pool : ℕ) (a b : Actor) : Type 0 where
   pub span : Span

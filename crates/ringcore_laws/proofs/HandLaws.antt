@@ -1,19 +1,19 @@
 -- Reservations stay in order as a newcomer comes and as two parties become one
-use Rattle.std.proofs.Common.{ℕ, ◌<◌, ◌≤◌, ◌≢◌, ◌≡◌, List, [], ◌∷◌, ◌++◌, length, ap, sym, subst, ◌∙◌, arith, inl, inr}
+use Rattle.std.proofs.Common.{ℕ, ◌<◌, ◌≢◌, ◌≡◌, List, [], ◌∷◌, ◌++◌, length, ap, sym, subst, ◌∙◌, arith}
 use Rattle.std.specs.Prelude.{slice_get, slice_set, slice_index_or, Some, None}
 use Rattle.geom.specs.declared.plan.Side.{Side}
 use Rattle.geom.specs.declared.plan.Side.TheVariants.{Put, Take}
 use Rattle.geom.specs.declared.plan.RingPlan.{RingPlan}
 use Rattle.geom.specs.Plan.{mode_of}
 use Rattle.ringcore_laws.specs.declared.protocol.Span.{Span}
-use Rattle.ringcore_laws.specs.Party.{Party, newcomer, joined}
-use Rattle.ringcore_laws.specs.RingSide.{RingSide, side_of, IsGapless}
+use Rattle.ringcore_laws.specs.declared.party.Party.{Party}
+use Rattle.ringcore_laws.specs.Party.{newcomer, joined}
+use Rattle.ringcore_laws.specs.RingSide.{RingSide, side_of}
 use Rattle.ringcore_laws.specs.Sound.{Sound}
 use Rattle.ringcore_laws.specs.HeadTailRule.{HeadTailRule, RuledSide, RuledSpan}
 use Rattle.ringcore_laws.proofs.Lists.{each_set, each_push}
-use Rattle.ringcore_laws.proofs.SideLaws.{side_of_newcomer, side_of_together}
-use Rattle.ringcore_laws.proofs.RingLaws.{below_or_not}
-use Rattle.ringcore_laws.proofs.Laws.{element, joined_by}
+use Rattle.ringcore_laws.proofs.SideLaws.{side_of_newcomer}
+use Rattle.ringcore_laws.proofs.Laws.{element, joined_by, joined_sides}
 
 module _ {I : Type 0} where
   -- where each side is as before, so are the spans
@@ -51,12 +51,5 @@ module _ {I : Type 0} where
       (λ s busy. absurd (let u : None ≡ Some s = busy in cc)))
       (λ s busy. absurd (let u : None ≡ Some s = busy in cc)))
     where
-      one_at : (l : RingSide I) → IsGapless l → (p : ℕ) → length (l.items_at p) ≤ 1
-      one_at l g p = elim (below_or_not p l.len) [ inl lt ↦ omega (arith, g.one p lt) | inr le ↦ omega (arith, ap length (g.none p le)) ]
-
-      gapless : (r : ℕ) (plan : RingPlan) (side : Side) → slice_get plans r ≡ Some plan → IsGapless (side_of parties r side)
-      gapless r plan Put h = (sound.rings r plan h).published
-      gapless r plan Take h = (sound.rings r plan h).dequeued
-
       same : (r : ℕ) (plan : RingPlan) (side : Side) → slice_get plans r ≡ Some plan → side_of (joined_by tags parties i j d) r side ≡ side_of parties r side
-      same r plan side h = side_of_together parties i j d r side at_i at_j apart idle_i idle_j (one_at (side_of parties r side) (gapless r plan side h))
+      same r plan side h = joined_sides tags plans pool parties i j d r plan side sound h at_i at_j apart idle_i idle_j

@@ -13,7 +13,9 @@ use Rattle.geom.specs.declared.plan.RingPlan.{RingPlan}
 use Rattle.geom.specs.declared.word.TheConstants.{LAST, RESERVED}
 use Rattle.geom.specs.Plan.{mode_of}
 use Rattle.ringcore_laws.specs.declared.protocol.Span.{Span}
-use Rattle.ringcore_laws.specs.Party.{Settled, Party, is_on, same_side, covers, with_open, with_settled}
+use Rattle.ringcore_laws.specs.declared.party.Party.{Party}
+use Rattle.ringcore_laws.specs.declared.party.Settled.{Settled}
+use Rattle.ringcore_laws.specs.Party.{is_on, same_side, covers, with_open, with_settled}
 use Rattle.ringcore_laws.specs.Moves.{limit, reserved_by, settled_by}
 use Rattle.ringcore_laws.specs.RingSide.{RingSide, side_of, IsGapless, end_of, span_at, span_count, span_end, settled_count, settled_end}
 use Rattle.ringcore_laws.specs.HeadTailRule.{RuledSide, RuledSpan, HeadTailRule}

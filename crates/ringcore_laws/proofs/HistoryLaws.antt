@@ -3,7 +3,7 @@ use Rattle.std.proofs.Common.{ℕ, zero, suc, ◌+◌, ◌-◌, ◌*◌, ◌<◌
 use Rattle.std.specs.Prelude.{slice_get, slice_set, slice_index_or, Option, Some, None, is_some, not, ◌&&◌, ◌||◌, ◌==◌, nat_lt, if◌then◌else◌}
 use Rattle.std.specs.List.{list_all, flat_map, filter}
 use Rattle.std.proofs.lemmas.List.{length-set, length-take, length-drop, get_or-set_other, get_or-set_same}
-use Rattle.std.proofs.lemmas.List.Sums.{sum_by-cons, sum_by-append}
+use Rattle.std.proofs.lemmas.List.Sums.{sum_by-cons}
 use Rattle.std.proofs.lemmas.Option.{slice_get_within, get_or_from_slice_get}
 use Rattle.std.proofs.lemmas.Bool.Decides.{nat_tests}
 use Rattle.geom.specs.declared.plan.Mode.{Mode}
@@ -22,7 +22,8 @@ use Rattle.ringcore_laws.specs.declared.protocol.Step.TheVariants.{Look, Room, R
 use Rattle.ringcore_laws.specs.declared.protocol.Reply.{Reply}
 use Rattle.ringcore_laws.specs.declared.protocol.Reply.TheVariants.{Seen, Granted, Done, Busy, Contended, NoRoom, NotYet, Worn, NoSpan, BadCount, NotYours}
 use Rattle.ringcore_laws.specs.declared.protocol.Span.{Span}
-use Rattle.ringcore_laws.specs.Party.{Party, is_on, with_open, with_settled}
+use Rattle.ringcore_laws.specs.declared.party.Party.{Party}
+use Rattle.ringcore_laws.specs.Party.{is_on, with_open, with_settled}
 use Rattle.ringcore_laws.specs.Moves.{limit, reserved_by, settled_by}
 use Rattle.ringcore_laws.specs.RingSide.{RingSide, side_of, listed}
 use Rattle.ringcore_laws.specs.Sound.{Sound, SoundRing, holds, queue, occurrences, occurrences_in}
@@ -31,7 +32,7 @@ use Rattle.ringcore_laws.specs.declared.protocol.Observed.{Observed}
 use Rattle.ringcore_laws.specs.History.{Actor, Event, tags, after_step, reply_to, reply_to_one, reply_of, on_ring, after, one_stepped, parties_of, look_reply, room_reply, reserve_reply, room_of, sees, with_tail, buffer_count, is_bad_reserve, own_word, position_of, is_busy, other_side, put_reply, take_reply, IsRun, StaysSound, is_bad_settle, may_put, is_held, is_cached, earlier_open, settled_span, IsLawful, reserve_seen, seen_on, both_seen}
 use Rattle.ringcore_laws.specs.Invariant.{Invariant, TrueObserved}
 use Rattle.ringcore_laws.proofs.SideLaws.{reserves, settles_side_of}
-use Rattle.ringcore_laws.proofs.Laws.{reserve_keeps, put_keeps, take_keeps, same_plan}
+use Rattle.ringcore_laws.proofs.Laws.{reserve_keeps, put_keeps, take_keeps, same_plan, times_in_is}
 use Rattle.ringcore_laws.proofs.RingLaws.{takes_le_puts, below_or_not, length-listed, held_cases}
 use Rattle.ringcore_laws.proofs.HeadTailLaws.{orderly_reserved, orderly_settled, IsNext, next_above, first_in_line, on_or_off, own_span}
 
@@ -40,7 +41,7 @@ pub on_true : (ring r : ℕ) (side s : Side) → is_on ring side r s ≡ true �
 on_true ring r side s on = elim (on_or_off ring r side s) [ inl own ↦ own | inr off ↦ absurd (let h : true ≡ false = sym on ∙ off in cc) ]
 
 -- an own word that is the word after_look at shows where the next span starts
-pub is_next : (mode : Mode) (l : RingSide Item) (word : ℕ) → own_word mode l ≡ word → (mode ≡ Hts → (q : ℕ) × (word ≡ q * RESERVED)) → (mode ≡ Hts → l.open_count < RESERVED) → IsNext mode l (position_of mode word)
+pub is_next : {I : Type 0} (mode : Mode) (l : RingSide I) (word : ℕ) → own_word mode l ≡ word → (mode ≡ Hts → (q : ℕ) × (word ≡ q * RESERVED)) → (mode ≡ Hts → l.open_count < RESERVED) → IsNext mode l (position_of mode word)
 is_next Multi l word won whole small = record { multi = λ _. sym won; hts = λ h. absurd (let h' : Multi ≡ Hts = h in cc) }
 is_next Hts l word won whole small =
     let q = (whole refl).0 in
@@ -81,10 +82,6 @@ passes p (x ∷ xs) b all some =
     by_test true e here count rest = let same : x ≡ b = grind (arith, nat_tests) in ap p (sym same) ∙ here
     by_test false e here count rest = rest (omega (arith, zero_if (x == b) e))
 
-pub times_in_is : (b : ℕ) (items : List Item) → occurrences_in tags b items ≡ occurrences b (flat_map tags items)
-times_in_is b [] = refl
-times_in_is b (x ∷ xs) = omega (arith, sum_by-cons (λ v. occurrences b (tags v)) x xs, sum_by-append (λ n. if n == b then 1 else 0) (tags x) (flat_map tags xs), times_in_is b xs)
-
 -- what may be put is owned
 pub may_put_owned : (free : Bool) (a : Actor) (items : List Item) → may_put free a items ≡ true → (b : ℕ) → occurrences_in tags b items ≤ holds tags b a.party
 may_put_owned free a items ok b =
@@ -97,8 +94,8 @@ may_put_owned free a items ok b =
           let once = passes (λ n. occurrences n numbers == 1) numbers b both.1 some in
           let one : holds tags b a.party ≡ 1 = eqb_is (holds tags b a.party) 1 mine.0 in
           let one' : occurrences b numbers ≡ 1 = eqb_is (occurrences b numbers) 1 once in
-          omega (arith, times_in_is b items)
-      | inr none ↦ omega (arith, times_in_is b items)
+          omega (arith, times_in_is tags b items)
+      | inr none ↦ omega (arith, times_in_is tags b items)
     ]
   where
     eqb_is : (m n : ℕ) → (m == n) ≡ true → m ≡ n

@@ -12,7 +12,8 @@ use Rattle.geom.specs.declared.plan.Side.TheVariants.{Put, Take}
 use Rattle.geom.specs.declared.plan.RingPlan.{RingPlan}
 use Rattle.geom.specs.Extent.{Extent}
 use Rattle.ringcore_laws.specs.declared.protocol.Span.{Span}
-use Rattle.ringcore_laws.specs.Party.{Party, is_on, same_side, covers, newcomer, with_open, joined}
+use Rattle.ringcore_laws.specs.declared.party.Party.{Party}
+use Rattle.ringcore_laws.specs.Party.{is_on, same_side, covers, newcomer, with_open, joined}
 use Rattle.ringcore_laws.specs.Moves.{IsReservable, Owns, reserved_by, settled_by}
 use Rattle.ringcore_laws.specs.RingSide.{RingSide, side_of, listed, IsGapless, span_end, settled_end, item_at}
 use Rattle.ringcore_laws.specs.Sound.{Sound, SoundRing, queue, occurrences, occurrences_in, moved, settled_times, holds, in_ring, places}
@@ -158,6 +159,11 @@ module _ {I : Type 0} where
       subst (λ (v : RingSide I). SoundRing e v (side_of (reserved_by parties i d span) ring Take)) (sym other) (subst (λ (v : RingSide I). SoundRing e (side_of parties ring Put) v) (sym own) new)
 
 module _ {I : Type 0} (tags : I → List ℕ) where
+  -- the buffers in items, one item after the other
+  pub times_in_is : (b : ℕ) (items : List I) → occurrences_in tags b items ≡ occurrences b (flat_map tags items)
+  times_in_is b [] = refl
+  times_in_is b (x ∷ xs) = omega (arith, sum_by-cons (λ v. occurrences b (tags v)) x xs, sum_by-append (λ n. if n == b then 1 else 0) (tags x) (flat_map tags xs), times_in_is b xs)
+
   pub same_queue : (before after : List (Party I)) (ring : ℕ) → ((side : Side) (p : ℕ) → (side_of after ring side).items_at p ≡ (side_of before ring side).items_at p) → ((side : Side) → (side_of after ring side).len ≡ (side_of before ring side).len)
       → queue after ring ≡ queue before ring
   same_queue before after ring settled len =
@@ -399,6 +405,21 @@ module _ {I : Type 0} (tags : I → List ℕ) where
   abbrev pub joined_by : List (Party I) → ℕ → ℕ → Party I → List (Party I)
   joined_by parties i j d = slice_set (slice_set parties i (joined (slice_index_or parties i d) (slice_index_or parties j d))) j (newcomer [])
 
+  -- every side is as before
+  pub joined_sides : (plans : List RingPlan) (pool : ℕ) (parties : List (Party I)) (i j : ℕ) (d : Party I) (r : ℕ) (plan : RingPlan) (side : Side)
+      → Sound tags plans pool parties → slice_get plans r ≡ Some plan → i < length parties → j < length parties → j ≢ i
+      → (slice_index_or parties i d).span ≡ None → (slice_index_or parties j d).span ≡ None
+      → side_of (joined_by parties i j d) r side ≡ side_of parties r side
+  joined_sides plans pool parties i j d r plan side s there at_i at_j apart idle_i idle_j =
+      side_of_together parties i j d r side at_i at_j apart idle_i idle_j (one_at (side_of parties r side) (gapless side))
+    where
+      one_at : (l : RingSide I) → IsGapless l → (p : ℕ) → length (l.items_at p) ≤ 1
+      one_at l g p = elim (below_or_not p l.len) [ inl lt ↦ omega (arith, g.one p lt) | inr le ↦ omega (arith, ap length (g.none p le)) ]
+
+      gapless : (side : Side) → IsGapless (side_of parties r side)
+      gapless Put = (s.rings r plan there).published
+      gapless Take = (s.rings r plan there).dequeued
+
   -- two parties without open spans made one keep soundness. The second's place is a newcomer's from then on
   pub joined_keeps : (plans : List RingPlan) (pool : ℕ) (parties : List (Party I)) (i j : ℕ) (d : Party I)
       → Sound tags plans pool parties → i < length parties → j < length parties → j ≢ i → (slice_index_or parties i d).span ≡ None → (slice_index_or parties j d).span ≡ None
@@ -428,14 +449,11 @@ module _ {I : Type 0} (tags : I → List ℕ) where
       after : List (Party I)
       after = joined_by parties i j d
 
-      one_at : (l : RingSide I) → IsGapless l → (p : ℕ) → length (l.items_at p) ≤ 1
-      one_at l g p = elim (below_or_not p l.len) [ inl lt ↦ omega (arith, g.one p lt) | inr le ↦ omega (arith, ap length (g.none p le)) ]
-
       same_put : (r : ℕ) (plan : RingPlan) → slice_get plans r ≡ Some plan → side_of after r Put ≡ side_of parties r Put
-      same_put r plan h = side_of_together parties i j d r Put at_i at_j apart idle_i idle_j (one_at (side_of parties r Put) (s.rings r plan h).published)
+      same_put r plan h = joined_sides plans pool parties i j d r plan Put s h at_i at_j apart idle_i idle_j
 
       same_take : (r : ℕ) (plan : RingPlan) → slice_get plans r ≡ Some plan → side_of after r Take ≡ side_of parties r Take
-      same_take r plan h = side_of_together parties i j d r Take at_i at_j apart idle_i idle_j (one_at (side_of parties r Take) (s.rings r plan h).dequeued)
+      same_take r plan h = joined_sides plans pool parties i j d r plan Take s h at_i at_j apart idle_i idle_j
 
       moved_both : (side : Side) (b : ℕ) → moved tags side b both ≡ moved tags side b a + moved tags side b b'
       moved_both side b = sum_by-append (settled_times tags side b) a.settled b'.settled

@@ -12,6 +12,8 @@ pub mod RunLaws
 pub mod PlaceLaws
 pub mod Telling
 pub mod Changes
+pub mod FreeKept
+pub mod FreeRoom
 pub mod FreeLaws
 pub mod LookLaws
 pub mod RefusalLaws

@@ -1,5 +1,5 @@
 -- What holds of the looks of all actors along a run: what was looked at is not behind its side, and what the last question for room found
-use Rattle.std.proofs.Common.{ℕ, ◌≤◌, ◌<◌, ◌≡◌, ◌≢◌, ◌∙◌, ◌⊎◌, inl, inr, List, length, refl, ap, sym, subst, arith, true, false, Bool}
+use Rattle.std.proofs.Common.{ℕ, ◌<◌, ◌≡◌, ◌≢◌, ◌∙◌, ◌⊎◌, inl, inr, List, length, refl, ap, sym, subst, arith, true, false, Bool}
 use Rattle.std.specs.Prelude.{slice_get, slice_set, slice_index_or, Option, Some, None, ◌&&◌, ◌==◌, if◌then◌else◌}
 use Rattle.std.proofs.lemmas.Bool.Decides.{nat_tests}
 use Rattle.std.proofs.lemmas.Option.{get_or_from_slice_get, slice_get_within}
@@ -14,30 +14,26 @@ use Rattle.ringcore_laws.specs.declared.protocol.Step.{Step}
 use Rattle.ringcore_laws.specs.declared.protocol.Step.TheVariants.{Look, Room, Reserve, SettlePut, SettleTake, Stash, Unstash}
 use Rattle.ringcore_laws.specs.declared.protocol.Reply.{Reply}
 use Rattle.ringcore_laws.specs.declared.protocol.Reply.TheVariants.{Seen, Granted, Done, Busy, NoSpan}
-use Rattle.ringcore_laws.specs.Party.{Party}
+use Rattle.ringcore_laws.specs.declared.party.Party.{Party}
 use Rattle.ringcore_laws.specs.RingSide.{RingSide, side_of}
-use Rattle.ringcore_laws.specs.Invariant.{Invariant}
+use Rattle.ringcore_laws.specs.HeadTailRule.{base}
+use Rattle.ringcore_laws.specs.Invariant.{Invariant, IsBehind}
 use Rattle.ringcore_laws.specs.FreeRings.{FreeRule}
 use Rattle.ringcore_laws.specs.Refusals.{is_room_answer}
-use Rattle.ringcore_laws.specs.History.{Actor, after_step, is_busy, look_reply, on_ring, other_side, own_word, parties_of, position_of, reply_of, room_reply, sees, with_tail}
+use Rattle.ringcore_laws.specs.History.{Actor, after_step, is_busy, look_reply, on_ring, other_side, own_word, parties_of, position_of, reply_of, room_reply, sees, tags, with_tail}
 use Rattle.ringcore_laws.proofs.Laws.{same_or_not, same_plan}
 use Rattle.ringcore_laws.proofs.Lists.{get_set, get_set_other}
 use Rattle.ringcore_laws.proofs.HistoryLaws.{on_true}
 use Rattle.ringcore_laws.proofs.Telling.{look_seen_tells, on_some_ring, room_seen_tells}
-use Rattle.ringcore_laws.proofs.Changes.{Opens, Closes, base, changes, grows}
-
--- where a look stands on its side, as the side is now
-abbrev pub IsBehind : List RingPlan → List Actor → Observed → Type 0
-IsBehind plans actors s = (plan : RingPlan) → slice_get plans s.ring ≡ Some plan
-    → position_of (mode_of plan s.side) s.looked_at ≤ base (mode_of plan s.side) (side_of (parties_of actors) s.ring s.side)
+use Rattle.ringcore_laws.proofs.Changes.{Opens, Closes, changes, grows}
 
 -- what stood when the actor last asked for room
 pub record Asked (plans : List RingPlan) (pool : ℕ) (found : Option (List Actor)) (i : ℕ) (a : Actor) (s : Observed) (tail : ℕ) : Type 0 where
   pub past : List Actor
   pub is : found ≡ Some past
   pub kept : Invariant plans pool past
-  pub rule : FreeRule plans pool past
-  pub behind : IsBehind plans past s
+  pub rule : FreeRule tags plans pool (parties_of past)
+  pub behind : IsBehind plans (parties_of past) s
   pub seen : tail ≡ (side_of (parties_of past) s.ring (other_side s.side)).len
   pub me : Actor
   pub at : slice_get past i ≡ Some me
@@ -46,7 +42,7 @@ pub record Asked (plans : List RingPlan) (pool : ℕ) (found : Option (List Acto
 -- what holds of an actor's look
 pub record LookLaw (plans : List RingPlan) (pool : ℕ) (now : List Actor) (found : Option (List Actor)) (i : ℕ) (a : Actor) (s : Observed) : Type 0 where
   pub idle : a.party.span ≡ None
-  pub behind : IsBehind plans now s
+  pub behind : IsBehind plans (parties_of now) s
   pub asked : (t : ℕ) → s.tail_seen ≡ Some t → Asked plans pool found i a s t
 
 pub record Looks (plans : List RingPlan) (pool : ℕ) (now : List Actor) (found : ℕ → Option (List Actor)) : Type 0 where
@@ -67,7 +63,7 @@ own_position Multi l free = refl
 own_position Hts l free = let none : l.open_count ≡ 0 = grind (arith, nat_tests) in omega arith
 
 module _ (plans : List RingPlan) (pool : ℕ) (actors : List Actor) (found : ℕ → Option (List Actor)) (looks : Looks plans pool actors found)
-    (j : ℕ) (me : Actor) (mine : slice_get actors j ≡ Some me) (k : Invariant plans pool actors) (rule : FreeRule plans pool actors) where
+    (j : ℕ) (me : Actor) (mine : slice_get actors j ≡ Some me) (k : Invariant plans pool actors) (rule : FreeRule tags plans pool (parties_of actors)) where
   abbrev parties : List (Party Item)
   parties = parties_of actors
 
@@ -80,7 +76,7 @@ module _ (plans : List RingPlan) (pool : ℕ) (actors : List Actor) (found : ℕ
   abbrev Change : Actor → Type 0
   Change b = (b.party ≡ me.party) ⊎ (Opens plans pool me b ⊎ Closes plans actors me b)
 
-  still_behind : (b : Actor) → Change b → (s : Observed) → IsBehind plans actors s → IsBehind plans (slice_set actors j b) s
+  still_behind : (b : Actor) → Change b → (s : Observed) → IsBehind plans (parties_of actors) s → IsBehind plans (parties_of (slice_set actors j b)) s
   still_behind b change s behind plan there =
       omega (arith, behind plan there, grows plans pool actors j me lt at k b change s.ring s.side plan there)
 

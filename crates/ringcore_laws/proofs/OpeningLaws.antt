@@ -9,7 +9,8 @@ use Rattle.geom.specs.declared.plan.Side.TheVariants.{Put, Take}
 use Rattle.geom.specs.declared.plan.RingPlan.{RingPlan}
 use Rattle.geom.specs.Extent.{Extent}
 use Rattle.ringcore_laws.specs.declared.contents.Item.{Item}
-use Rattle.ringcore_laws.specs.Party.{Party, newcomer}
+use Rattle.ringcore_laws.specs.declared.party.Party.{Party}
+use Rattle.ringcore_laws.specs.Party.{newcomer}
 use Rattle.ringcore_laws.specs.RingSide.{RingSide, side_of, listed, items_of, count_of, end_of}
 use Rattle.ringcore_laws.specs.Sound.{SoundRing, claims, holds, moved, places, occurrences, occurrences_in, in_ring, queue}
 use Rattle.ringcore_laws.specs.HeadTailRule.{RuledSide}
@@ -24,7 +25,7 @@ abbrev fresh : List ℕ → Actor
 fresh given = record { party = newcomer given; observed = None; cached = [] }
 
 -- a side on which nothing was reserved
-abbrev pub empty : RingSide Item
+abbrev pub empty : {I : Type 0} → RingSide I
 empty = record { items_at = λ p. []; len = 0; openers = λ p. 0; open_count = 0; reach = 0 }
 
 -- actors that only were given buffers leave every side empty
@@ -43,9 +44,9 @@ side_of_fresh (g ∷ gs) r side =
     zero_plus : (n : ℕ) → 0 + n ≡ n
     zero_plus n = omega arith
 
-ring_fresh : (e : Extent) → SoundRing e empty empty
+pub ring_fresh : {I : Type 0} (e : Extent) → SoundRing {I = I} e empty empty
 unfolding claims listed
-ring_fresh e = record {
+ring_fresh {I} e = record {
   published = record { one = λ p lt. absurd (omega arith); none = λ p le. refl };
   dequeued = record { one = λ p lt. absurd (omega arith); none = λ p le. refl };
   fifo = ([], refl);
@@ -57,10 +58,10 @@ ring_fresh e = record {
   takes_unsettled = λ p h. refl;
 }
   where
-    none_claimed : (p : ℕ) → claims empty empty p ≡ 0
+    none_claimed : (p : ℕ) → claims {I = I} empty empty p ≡ 0
     none_claimed p = grind (arith, nat_tests)
 
-    unclaimed : (p : ℕ) → claims empty empty p ≤ 1
+    unclaimed : (p : ℕ) → claims {I = I} empty empty p ≤ 1
     unclaimed p = omega (arith, none_claimed p)
 
 held_fresh : (gs : List (List ℕ)) (b : ℕ) → sum_by (holds tags b) (parties_of (map fresh gs)) ≡ sum_by (occurrences b) gs

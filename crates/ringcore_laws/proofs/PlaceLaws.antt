@@ -11,7 +11,7 @@ use Rattle.geom.specs.declared.plan.Side.TheVariants.{Take}
 use Rattle.ringcore_laws.specs.declared.contents.Item.{Item}
 use Rattle.ringcore_laws.specs.declared.protocol.Step.{Step}
 use Rattle.ringcore_laws.specs.declared.protocol.Place.TheVariants.{AtRing, Held, Cached}
-use Rattle.ringcore_laws.specs.Party.{Party}
+use Rattle.ringcore_laws.specs.declared.party.Party.{Party}
 use Rattle.ringcore_laws.specs.RingSide.{side_of}
 use Rattle.ringcore_laws.specs.Sound.{holds, in_ring, occurrences, occurrences_in, places, queue}
 use Rattle.ringcore_laws.specs.History.{Actor, after_all, is_cached, opening, parties_of, tags}

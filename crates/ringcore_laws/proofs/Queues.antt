@@ -6,7 +6,9 @@ use Rattle.geom.specs.declared.plan.Side.{Side}
 use Rattle.geom.specs.declared.plan.Side.TheVariants.{Put, Take}
 use Rattle.geom.specs.Extent.{Extent}
 use Rattle.ringcore_laws.specs.declared.protocol.Span.{Span}
-use Rattle.ringcore_laws.specs.Party.{Settled, Party, is_on}
+use Rattle.ringcore_laws.specs.declared.party.Party.{Party}
+use Rattle.ringcore_laws.specs.declared.party.Settled.{Settled}
+use Rattle.ringcore_laws.specs.Party.{is_on}
 use Rattle.ringcore_laws.specs.Moves.{settled_by}
 use Rattle.ringcore_laws.specs.RingSide.{RingSide, side_of, listed, span_count, span_end, settled_count, settled_end}
 use Rattle.ringcore_laws.specs.Sound.{SoundRing, queue}

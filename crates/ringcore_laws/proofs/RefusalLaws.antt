@@ -21,39 +21,41 @@ use Rattle.ringcore_laws.specs.declared.protocol.Step.{Step}
 use Rattle.ringcore_laws.specs.declared.protocol.Step.TheVariants.{Look, Reserve, SettlePut, SettleTake}
 use Rattle.ringcore_laws.specs.declared.protocol.Reply.{Reply}
 use Rattle.ringcore_laws.specs.declared.protocol.Reply.TheVariants.{Busy, Contended, NoRoom, NoSpan, NotYet}
-use Rattle.ringcore_laws.specs.Party.{Party, is_on, newcomer}
+use Rattle.ringcore_laws.specs.declared.party.Party.{Party}
+use Rattle.ringcore_laws.specs.Party.{is_on, newcomer}
 use Rattle.ringcore_laws.specs.RingSide.{RingSide, side_of, span_count}
-use Rattle.ringcore_laws.specs.HeadTailRule.{RuledSide}
+use Rattle.ringcore_laws.specs.HeadTailRule.{RuledSide, base}
 use Rattle.ringcore_laws.specs.Invariant.{Invariant}
-use Rattle.ringcore_laws.specs.FreeRings.{AreSingle, FreeRule}
+use Rattle.ringcore_laws.specs.FreeRings.{AreSingle, FreeRule, buffers_of}
 use Rattle.ringcore_laws.specs.Refusals.{is_room_answer, HasEarlier, HasMoved, IsTaken, IsTooLittle, PutsFindRoom, at_last_room, is_room_of, room_on}
 use Rattle.ringcore_laws.specs.Runs.{IsPlan, history_of}
-use Rattle.ringcore_laws.specs.History.{Actor, Event, IsLawful, IsRun, after, after_all, after_step, buffer_count, earlier_open, gifts_to, is_bad_reserve, is_busy, look_reply, one_stepped, opening, other_side, parties_of, position_of, put_reply, reply_of, reply_to, reply_to_one, reserve_reply, room_of, starts_below, take_reply}
-use Rattle.ringcore_laws.proofs.Laws.{same_plan}
+use Rattle.ringcore_laws.specs.History.{Actor, Event, IsLawful, IsRun, after, after_all, after_step, buffer_count, earlier_open, gifts_to, is_bad_reserve, is_busy, look_reply, one_stepped, opening, other_side, parties_of, position_of, put_reply, reply_of, reply_to, reply_to_one, reserve_reply, room_of, starts_below, tags, take_reply}
+use Rattle.ringcore_laws.proofs.Laws.{element, same_plan}
 use Rattle.ringcore_laws.proofs.RingLaws.{below_or_not}
-use Rattle.ringcore_laws.proofs.HistoryLaws.{and_true, event_kept, on_true}
+use Rattle.ringcore_laws.proofs.HistoryLaws.{and_true, event_kept, on_true, parties_length}
 use Rattle.ringcore_laws.proofs.OpeningLaws.{opening_kept, queue_of_opening}
 use Rattle.ringcore_laws.proofs.RunLaws.{plan_lawful, replies_of}
 use Rattle.ringcore_laws.proofs.Telling.{contended_tells, look_busy_tells, no_room_tells, on_some_ring, put_early_tells, reserve_tells, take_early_tells}
-use Rattle.ringcore_laws.proofs.Changes.{base, changes, free_count}
-use Rattle.ringcore_laws.proofs.FreeLaws.{count_of_party, room_for_all, rule_after}
+use Rattle.ringcore_laws.proofs.Changes.{changes, free_count}
+use Rattle.ringcore_laws.proofs.FreeRoom.{room_for_all}
+use Rattle.ringcore_laws.proofs.FreeLaws.{rule_after}
 use Rattle.ringcore_laws.proofs.LookLaws.{LookLaw, Looks, looks_after, no_room_answer}
 
 -- 1. Along a run
 
 -- one more event
 event_looks : (plans : List RingPlan) (pool : ℕ) (actors : List Actor) (found : ℕ → Option (List Actor)) (e : Event)
-    → e.reply ≡ reply_to plans pool actors e.actor e.step → Invariant plans pool actors → FreeRule plans pool actors → Looks plans pool actors found
-    → FreeRule plans pool (after actors e) × Looks plans pool (after actors e) (λ i. if is_room_of i e then Some actors else found i)
+    → e.reply ≡ reply_to plans pool actors e.actor e.step → Invariant plans pool actors → FreeRule tags plans pool (parties_of actors) → Looks plans pool actors found
+    → FreeRule tags plans pool (parties_of (after actors e)) × Looks plans pool (after actors e) (λ i. if is_room_of i e then Some actors else found i)
 unfolding reply_to after
 event_looks plans pool actors found e right k rule looks = by_actor (slice_get actors e.actor) refl
   where
     by_actor : (o : Option Actor) → slice_get actors e.actor ≡ o
-        → FreeRule plans pool (one_stepped actors e.actor (slice_get actors e.actor) e.step e.reply)
+        → FreeRule tags plans pool (parties_of (one_stepped actors e.actor (slice_get actors e.actor) e.step e.reply))
         × Looks plans pool (one_stepped actors e.actor (slice_get actors e.actor) e.step e.reply) (λ i. if is_room_of i e then Some actors else found i)
     by_actor None h =
         let reply : e.reply ≡ NoSpan = right ∙ ap (λ (v : Option Actor). reply_to_one plans pool (parties_of actors) v e.step) h in
-        subst (λ (v : Option Actor). FreeRule plans pool (one_stepped actors e.actor v e.step e.reply)
+        subst (λ (v : Option Actor). FreeRule tags plans pool (parties_of (one_stepped actors e.actor v e.step e.reply))
         × Looks plans pool (one_stepped actors e.actor v e.step e.reply) (λ i. if is_room_of i e then Some actors else found i)) (sym h) (
           rule,
           record {
@@ -73,16 +75,16 @@ event_looks plans pool actors found e right k rule looks = by_actor (slice_get a
         let lt = slice_get_within actors e.actor a h in
         let at : (d : Actor) → slice_index_or actors e.actor d ≡ a = λ d. get_or_from_slice_get actors e.actor a d h in
         let reply : e.reply ≡ reply_of plans pool (parties_of actors) a e.step = right ∙ ap (λ (v : Option Actor). reply_to_one plans pool (parties_of actors) v e.step) h in
-        subst (λ (v : Option Actor). FreeRule plans pool (one_stepped actors e.actor v e.step e.reply)
+        subst (λ (v : Option Actor). FreeRule tags plans pool (parties_of (one_stepped actors e.actor v e.step e.reply))
         × Looks plans pool (one_stepped actors e.actor v e.step e.reply) (λ i. if is_room_of i e then Some actors else found i)) (sym h) (
-          rule_after plans pool actors e.actor a lt at k rule (after_step a e.step e.reply) (changes plans pool actors e.actor a lt at k e.step e.reply (sym reply)) h,
+          rule_after plans pool actors e.actor a lt at k rule (after_step a e.step e.reply) (changes plans pool actors e.actor a lt at k e.step e.reply (sym reply)),
           looks_after plans pool actors found looks e.actor a h k rule e.step e.reply (sym reply),
         )
 
 -- what stands after these events
 pub record Standing (plans : List RingPlan) (pool : ℕ) (actors : List Actor) (found : ℕ → Option (List Actor)) : Type 0 where
   pub kept : Invariant plans pool actors
-  pub rule : FreeRule plans pool actors
+  pub rule : FreeRule tags plans pool (parties_of actors)
   pub looks : Looks plans pool actors found
 
 along : (plans : List RingPlan) (pool : ℕ) (actors : List Actor) (found : ℕ → Option (List Actor)) (events : List Event)
@@ -94,6 +96,12 @@ along plans pool actors found (e ∷ events) lawful run s =
     along plans pool (after actors e) (λ i. if is_room_of i e then Some actors else found i) events lawful run.1
     record { kept = event_kept plans pool actors e lawful run.0 s.kept; rule = next.0; looks = next.1 }
 
+-- the party of an actor
+party_at : (actors : List Actor) (i : ℕ) (d : Party Item) (a : Actor) → slice_get actors i ≡ Some a → slice_index_or (parties_of actors) i d ≡ a.party
+party_at [] i d a at = absurd (let u : None ≡ Some a = at in cc)
+party_at (x ∷ xs) zero d a at = ap (λ (v : Actor). v.party) (same_plan at)
+party_at (x ∷ xs) (suc i) d a at = party_at xs i d a at
+
 -- at the opening nobody has an open span or a look
 fresh_actor : (n : ℕ) (gifts : List ℕ) (i : ℕ) (a : Actor) → slice_get (opening n gifts) i ≡ Some a → (a.party.span ≡ None) × (a.observed ≡ None)
 fresh_actor n gifts i a at =
@@ -104,12 +112,18 @@ fresh_actor n gifts i a at =
     given : ℕ → Actor
     given j = record { party = newcomer (gifts_to gifts j); observed = None; cached = [] }
 
+fresh_party : (n : ℕ) (gifts : List ℕ) (i : ℕ) (d : Party Item) → i < length (parties_of (opening n gifts)) → (slice_index_or (parties_of (opening n gifts)) i d).span ≡ None
+fresh_party n gifts i d lt =
+    let a = element (opening n gifts) i (omega (arith, lt, parties_length (opening n gifts))) in
+    let is = party_at (opening n gifts) i d a.0 a.1 in
+    ap (λ (p : Party Item). p.span) is ∙ (fresh_actor n gifts i a.0 a.1).0
+
 standing_first : (plans : List RingPlan) (actors : ℕ) (gifts : List ℕ) → IsPlan plans actors gifts → Standing plans (length gifts) (opening actors gifts) (λ i. None)
 standing_first plans actors gifts plan = record {
   kept = opening_kept plans actors gifts plan.to_actors;
   rule = record {
-    singles = λ r p there free. subst AreSingle (sym (queue_of_opening actors gifts r)) refl;
-    few = λ i a s p at busy there put free. absurd (let u : None ≡ Some s = sym (fresh_actor actors gifts i a at).0 ∙ busy in cc);
+    singles = λ r p there free. subst (AreSingle tags) (sym (queue_of_opening actors gifts r)) refl;
+    few = λ i d lt s p busy there put free. absurd (let u : None ≡ Some s = sym (fresh_party actors gifts i d lt) ∙ busy in cc);
   };
   looks = record { each = λ i a s at seen. absurd (let u : None ≡ Some s = sym (fresh_actor actors gifts i a at).1 ∙ seen in cc) };
 }
@@ -264,8 +278,9 @@ module _ (plans : List RingPlan) (pool : ℕ) (now : List Actor) (found : ℕ �
           enough = λ put free fits.
               enough side put (parties_of q.past) (position_of (mode_of plan side) r.look.looked_at) r.tail (buffer_count pool a) behind seen
               (subst (λ (v : ℕ). base plan.put (side_of (parties_of q.past) ring Put) + v ≤ plan.geometry.capacity + (side_of (parties_of q.past) ring Take).len)
-              (sym (count_of_party pool q.me a (sym q.same)))
-              (room_for_all plans pool q.past q.kept q.rule i q.me q.at (ap (λ (p : Party Item). p.span) q.same ∙ r.idle) ring plan there free fits))
+              (ap (buffers_of tags pool) (party_at q.past i a.party q.me q.at ∙ q.same))
+              (room_for_all tags plans pool (parties_of q.past) q.kept.sound q.kept.ruled q.rule i a.party (omega (arith, slice_get_within q.past i q.me q.at, parties_length q.past))
+              (ap (λ (p : Party Item). p.span) (party_at q.past i a.party q.me q.at ∙ q.same) ∙ r.idle) ring plan there free fits))
               (had side put n.0 free);
         }
       where

@@ -10,7 +10,8 @@ use Rattle.ringcore_laws.specs.declared.protocol.Step.{Step}
 use Rattle.ringcore_laws.specs.declared.protocol.Step.TheVariants.{Look, Room, Reserve, SettlePut, SettleTake, Stash, Unstash}
 use Rattle.ringcore_laws.specs.declared.protocol.Reply.{Reply}
 use Rattle.ringcore_laws.specs.declared.protocol.Reply.TheVariants.{NoSpan, Seen, NotYours, BadCount, NotYet, Done}
-use Rattle.ringcore_laws.specs.Party.{Party, is_on}
+use Rattle.ringcore_laws.specs.declared.party.Party.{Party}
+use Rattle.ringcore_laws.specs.Party.{is_on}
 use Rattle.ringcore_laws.specs.RingSide.{side_of, listed}
 use Rattle.ringcore_laws.specs.History.{Actor, Event, IsRun, StaysSound, IsLawful, opening, reply_to, after, after_all, reserve_reply, on_ring, put_reply, take_reply, reply_of, reply_to_one, parties_of, is_held, is_cached, tags, is_bad_settle, may_put, earlier_open, look_reply, room_reply, other_side}
 use Rattle.ringcore_laws.specs.Runs.{IsPlan, history_of, is_grant, OneSpanEach}

@@ -7,7 +7,9 @@ use Rattle.std.proofs.lemmas.List.Concat.{flat_map-append}
 use Rattle.std.proofs.lemmas.List.Sums.{sum_by-set, sum_by-append, sum_by-cons}
 use Rattle.geom.specs.declared.plan.Side.{Side}
 use Rattle.ringcore_laws.specs.declared.protocol.Span.{Span}
-use Rattle.ringcore_laws.specs.Party.{Settled, Party, newcomer, joined}
+use Rattle.ringcore_laws.specs.declared.party.Party.{Party}
+use Rattle.ringcore_laws.specs.declared.party.Settled.{Settled}
+use Rattle.ringcore_laws.specs.Party.{newcomer, joined}
 use Rattle.ringcore_laws.specs.RingSide.{RingSide, side_of, items_of, count_of, end_of, span_at, span_count, span_end, settled_at, settled_count, settled_end, greatest}
 use Rattle.ringcore_laws.proofs.Lists.{flat_map-set_same, flat_map-set_only, flat_map_part, flat_map_joined, sum_by_joined, greatest_ge, greatest-set, greatest-append, greatest_joined}
 

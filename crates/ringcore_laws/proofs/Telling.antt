@@ -15,7 +15,8 @@ use Rattle.ringcore_laws.specs.declared.protocol.Observed.{Observed}
 use Rattle.ringcore_laws.specs.declared.protocol.Span.{Span}
 use Rattle.ringcore_laws.specs.declared.protocol.Reply.{Reply}
 use Rattle.ringcore_laws.specs.declared.protocol.Reply.TheVariants.{Seen, Granted, Done, Busy, Contended, NoRoom, NotYet, Worn, NoSpan, BadCount, NotYours}
-use Rattle.ringcore_laws.specs.Party.{Party, is_on}
+use Rattle.ringcore_laws.specs.declared.party.Party.{Party}
+use Rattle.ringcore_laws.specs.Party.{is_on}
 use Rattle.ringcore_laws.specs.RingSide.{RingSide, side_of, listed}
 use Rattle.ringcore_laws.specs.History.{Actor, both_seen, buffer_count, earlier_open, is_bad_reserve, is_bad_settle, is_busy, look_reply, may_put, on_ring, own_word, position_of, put_reply, reserve_reply, reserve_seen, room_of, room_reply, seen_on, sees, take_reply}
 

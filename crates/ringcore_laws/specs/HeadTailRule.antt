@@ -8,10 +8,16 @@ use Rattle.geom.specs.declared.plan.RingPlan.{RingPlan}
 use Rattle.geom.specs.declared.word.TheConstants.{LAST, RESERVED}
 use Rattle.geom.specs.Plan.{mode_of}
 use Rattle.ringcore_laws.specs.declared.protocol.Span.{Span}
-use Rattle.ringcore_laws.specs.Party.{Party}
+use Rattle.ringcore_laws.specs.declared.party.Party.{Party}
 use Rattle.ringcore_laws.specs.RingSide.{RingSide, side_of}
 
 module _ {I : Type 0} where
+  -- The position that the own word of a side shows: of a multi side how far it is reserved, of an HTS side how far it is settled.
+  -- It never goes back
+  abbrev pub base : Mode → RingSide I → ℕ
+  base Multi l = l.reach
+  base Hts l = l.len
+
   -- a side of a ring: nothing reaches behind what is settled, and of a multi side all from there on is reserved
   pub record RuledSide (mode : Mode) (l : RingSide I) : Type 0 where
     pub behind : l.len ≤ l.reach

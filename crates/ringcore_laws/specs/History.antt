@@ -1,8 +1,8 @@
 -- The history of a run: what each actor has after the events so far, and the reply to each next step (DPDK Programmer's Guide, "Ring
--- Library", "Anatomy of a Ring Buffer": a local copy of the own head and of the other tail, a compare-and-exchange of the head, and the tail
--- moved once all earlier reservations are; head/tail sync keeps both in one word and takes one reservation at a time)
+-- Library", "Anatomy of a Ring Buffer": a local copy of the own head and of the other tail, a compare-and-exchange of the head, and
+-- the tail moved once all earlier reservations are; head/tail sync keeps both in one word and takes one reservation at a time)
 use Rattle.std.specs.Prelude.{ℕ, Bool, true, false, not, ◌&&◌, ◌||◌, nat_lt, ◌==◌, ◌+◌, ◌-◌, ◌*◌, ◌/◌, if◌then◌else◌, is_some, ◌≡◌, ◌≤◌, slice_index, List, [], ◌∷◌, map, length, take, drop, slice_get, slice_set, Option, Some, None}
-use Rattle.std.specs.List.{flat_map, filter, list_all, list_any, sum_by, range_with_len}
+use Rattle.std.specs.List.{flat_map, filter, list_all, list_any, range_with_len}
 use Rattle.geom.specs.declared.plan.Mode.{Mode}
 use Rattle.geom.specs.declared.plan.Mode.TheVariants.{Multi, Hts}
 use Rattle.geom.specs.declared.plan.Side.{Side}
@@ -20,9 +20,11 @@ use Rattle.ringcore_laws.specs.declared.protocol.Step.{Step}
 use Rattle.ringcore_laws.specs.declared.protocol.Step.TheVariants.{Look, Room, Reserve, SettlePut, SettleTake, Stash, Unstash}
 use Rattle.ringcore_laws.specs.declared.protocol.Reply.{Reply}
 use Rattle.ringcore_laws.specs.declared.protocol.Reply.TheVariants.{Seen, Granted, Done, Busy, Contended, NoRoom, NotYet, Worn, NoSpan, BadCount, NotYours}
-use Rattle.ringcore_laws.specs.Party.{Party, is_on, with_open, with_settled, newcomer}
+use Rattle.ringcore_laws.specs.declared.party.Party.{Party}
+use Rattle.ringcore_laws.specs.Party.{is_on, with_open, with_settled, newcomer}
 use Rattle.ringcore_laws.specs.RingSide.{RingSide, side_of, listed}
 use Rattle.ringcore_laws.specs.Sound.{Sound, occurrences, holds}
+use Rattle.ringcore_laws.specs.FreeRings.{buffers_of}
 
 -- the buffers of an item
 abbrev pub tags : Item → List ℕ
@@ -94,7 +96,7 @@ after_step a (Unstash b) reply = after_unstash a b reply
 -- 2. The reply to a step
 
 -- The word of a side. A multi side shows how far it is reserved, an HTS side how far it is settled and how much is reserved from there on
-abbrev pub own_word : Mode → RingSide Item → ℕ
+abbrev pub own_word : {I : Type 0} → Mode → RingSide I → ℕ
 own_word Multi l = l.reach
 own_word Hts l = l.len * RESERVED + l.open_count
 
@@ -103,7 +105,7 @@ abbrev pub position_of : Mode → ℕ → ℕ
 position_of Multi word = word
 position_of Hts word = word / RESERVED
 
-abbrev pub is_busy : Mode → RingSide Item → Bool
+abbrev pub is_busy : {I : Type 0} → Mode → RingSide I → Bool
 is_busy Multi l = false
 is_busy Hts l = nat_lt 0 l.open_count
 
@@ -129,8 +131,8 @@ room_of Put capacity position tail = capacity + tail - position
 room_of Take capacity position tail = tail - position
 
 -- how many buffers an actor has, held or cached
-unfoldable pub buffer_count : ℕ → Actor → ℕ
-buffer_count pool a = sum_by (λ b. holds tags b a.party) (range_with_len 0 pool)
+abbrev pub buffer_count : ℕ → Actor → ℕ
+buffer_count pool a = buffers_of tags pool a.party
 
 abbrev pub is_bad_reserve : Side → Bool → ℕ → ℕ → Bool
 is_bad_reserve Put free count had = (count == 0) || (free && nat_lt had count)
@@ -174,8 +176,8 @@ starts_below ring side position None = false
 starts_below ring side position (Some s) = is_on s.ring s.side ring side && nat_lt s.start position
 
 -- whether some party has such an open span
-abbrev pub earlier_open : ℕ → Side → ℕ → List (Party Item) → Bool
-earlier_open ring side position parties = list_any (λ (party : Party Item). starts_below ring side position party.span) parties
+abbrev pub earlier_open : {I : Type 0} → ℕ → Side → ℕ → List (Party I) → Bool
+earlier_open {I} ring side position parties = list_any (λ (party : Party I). starts_below ring side position party.span) parties
 
 abbrev pub is_cached : Actor → ℕ → Bool
 is_cached a b = list_any (λ c. c == b) a.cached

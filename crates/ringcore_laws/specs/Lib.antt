@@ -1,11 +1,11 @@
 pub mod Party
 pub mod RingSide
 pub mod Sound
+pub mod FreeRings
 pub mod History
 pub mod HeadTailRule
 pub mod Moves
 pub mod Invariant
 pub mod Runs
 pub mod Place
-pub mod FreeRings
 pub mod Refusals

@@ -4,7 +4,8 @@ use Rattle.geom.specs.Extent.{Extent}
 use Rattle.geom.specs.declared.plan.Side.{Side}
 use Rattle.geom.specs.declared.plan.Side.TheVariants.{Put, Take}
 use Rattle.ringcore_laws.specs.declared.protocol.Span.{Span}
-use Rattle.ringcore_laws.specs.Party.{Party, with_open, with_settled}
+use Rattle.ringcore_laws.specs.declared.party.Party.{Party}
+use Rattle.ringcore_laws.specs.Party.{with_open, with_settled}
 use Rattle.ringcore_laws.specs.RingSide.{side_of}
 use Rattle.ringcore_laws.specs.Sound.{holds, occurrences_in}
 

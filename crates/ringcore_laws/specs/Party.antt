@@ -1,21 +1,9 @@
 -- A party to the rings: an actor of the core, or a hand of a fabric. It has its spans of positions, and the buffers that it was given.
-use Rattle.std.specs.Prelude.{ℕ, Bool, true, false, ◌&&◌, ◌==◌, nat_lt, nat_le, ◌+◌, List, [], ◌∷◌, ◌++◌, Option, None, Some}
+use Rattle.std.specs.Prelude.{ℕ, Bool, true, false, ◌&&◌, ◌==◌, nat_lt, nat_le, ◌+◌, List, [], ◌∷◌, ◌++◌, None, Some}
 use Rattle.geom.specs.declared.plan.Side.{Side}
 use Rattle.geom.specs.declared.plan.Side.TheVariants.{Put, Take}
 use Rattle.ringcore_laws.specs.declared.protocol.Span.{Span}
-
--- a settled span: its items stand at start, start + 1 and so on
-pub record Settled (I : Type 0) : Type 0 where
-  pub ring : ℕ
-  pub side : Side
-  pub start : ℕ
-  pub items : List I
-
--- a party has at most one open span
-pub record Party (I : Type 0) : Type 0 where
-  pub given : List ℕ
-  pub settled : List (Settled I)
-  pub span : Option Span
+use Rattle.ringcore_laws.specs.declared.party.Party.{Party}
 
 abbrev pub same_side : Side → Side → Bool
 same_side Put Put = true

@@ -5,7 +5,7 @@ use Rattle.geom.specs.declared.plan.Side.TheVariants.{Take}
 use Rattle.ringcore_laws.specs.declared.contents.Item.{Item}
 use Rattle.ringcore_laws.specs.declared.protocol.Place.{Place}
 use Rattle.ringcore_laws.specs.declared.protocol.Place.TheVariants.{AtRing, Held, Cached, Nowhere}
-use Rattle.ringcore_laws.specs.Party.{Party}
+use Rattle.ringcore_laws.specs.declared.party.Party.{Party}
 use Rattle.ringcore_laws.specs.RingSide.{side_of}
 use Rattle.ringcore_laws.specs.Sound.{occurrences, holds, queue}
 use Rattle.ringcore_laws.specs.History.{Actor, tags, parties_of, is_cached}
@@ -40,6 +40,7 @@ abbrev pub first_place : List Place → Place
 first_place [] = Nowhere
 first_place (x ∷ places) = x
 
--- The place of a buffer. After every list of steps a buffer of the pool has exactly one, any other number none: so the first is the only one
+-- The place of a buffer. After every list of steps a buffer of the pool has exactly one, any other number none: so the first is
+-- the only one
 abbrev pub place : ℕ → List Actor → ℕ → Place
 place rings actors b = first_place (all_places rings actors b)

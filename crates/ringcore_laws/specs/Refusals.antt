@@ -13,7 +13,8 @@ use Rattle.ringcore_laws.specs.declared.protocol.Step.{Step}
 use Rattle.ringcore_laws.specs.declared.protocol.Step.TheVariants.{Reserve, Room}
 use Rattle.ringcore_laws.specs.declared.protocol.Reply.{Reply}
 use Rattle.ringcore_laws.specs.declared.protocol.Reply.TheVariants.{NoRoom, Seen}
-use Rattle.ringcore_laws.specs.Party.{Party, is_on}
+use Rattle.ringcore_laws.specs.declared.party.Party.{Party}
+use Rattle.ringcore_laws.specs.Party.{is_on}
 use Rattle.ringcore_laws.specs.RingSide.{side_of}
 use Rattle.ringcore_laws.specs.History.{Actor, Event, after, own_word, parties_of}
 

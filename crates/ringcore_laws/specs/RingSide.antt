@@ -4,7 +4,9 @@ use Rattle.std.specs.List.{flat_map, sum_by, range_with_len}
 use Rattle.std.specs.Option.{option_to_list}
 use Rattle.geom.specs.declared.plan.Side.{Side}
 use Rattle.ringcore_laws.specs.declared.protocol.Span.{Span}
-use Rattle.ringcore_laws.specs.Party.{Settled, Party, is_on, covers}
+use Rattle.ringcore_laws.specs.declared.party.Party.{Party}
+use Rattle.ringcore_laws.specs.declared.party.Settled.{Settled}
+use Rattle.ringcore_laws.specs.Party.{is_on, covers}
 
 -- the greatest value of f on a list, or 0
 abbrev pub greatest : {X : Type 0} → (X → ℕ) → List X → ℕ

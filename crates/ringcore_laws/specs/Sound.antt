@@ -5,7 +5,9 @@ use Rattle.geom.specs.declared.plan.Side.{Side}
 use Rattle.geom.specs.declared.plan.Side.TheVariants.{Put, Take}
 use Rattle.geom.specs.declared.plan.RingPlan.{RingPlan}
 use Rattle.geom.specs.Extent.{Extent}
-use Rattle.ringcore_laws.specs.Party.{Settled, Party, same_side}
+use Rattle.ringcore_laws.specs.declared.party.Party.{Party}
+use Rattle.ringcore_laws.specs.declared.party.Settled.{Settled}
+use Rattle.ringcore_laws.specs.Party.{same_side}
 use Rattle.ringcore_laws.specs.RingSide.{RingSide, side_of, listed, IsGapless}
 
 abbrev pub IsPrefixOf : {X : Type 0} → List X → List X → Type 0

@@ -1,5 +1,6 @@
-//! The laws of the protocol, each the contract of a function without a body: what holds of every list of atomic steps of any number
-//! of actors, in any interleaving and wherever any actor stops for ever, and what changes of the parties keep it.
+//! The laws of the protocol, each the contract of a function without a body: what holds of every list of atomic steps
+//! of any number of actors, in any interleaving and wherever any actor stops for ever, and what changes of the parties
+//! keep it.
 
 ghost use Rattle.std.specs.Prelude.{◌≡◌, ◌≢◌, ◌<◌, ◌≤◌, ◌+◌, ◌++◌, ◌∷◌, [], ℕ, List, None, Some, false, length, slice_get, slice_index, slice_index_or, slice_set, take, true};
 ghost use Rattle.geom.specs.declared.plan.How.{How};
@@ -12,7 +13,8 @@ ghost use Rattle.ringcore_laws.specs.HeadTailRule.{HeadTailRule};
 ghost use Rattle.ringcore_laws.specs.Refusals.{HadNoRoom, HasEarlier, HasMoved, IsTaken};
 ghost use Rattle.ringcore_laws.specs.declared.contents.Item.{Item};
 ghost use Rattle.ringcore_laws.specs.declared.protocol.Step.{Step};
-ghost use Rattle.ringcore_laws.specs.Party.{Party, newcomer, joined};
+ghost use Rattle.ringcore_laws.specs.declared.party.Party.{Party};
+ghost use Rattle.ringcore_laws.specs.Party.{newcomer, joined};
 ghost use Rattle.ringcore_laws.specs.declared.protocol.Span.{Span};
 ghost use Rattle.ringcore_laws.specs.Moves.{IsReservable, Owns, reserved_by, settled_by};
 ghost use Rattle.ringcore_laws.specs.RingSide.{side_of};
@@ -21,10 +23,10 @@ ghost use Rattle.ringcore_laws.specs.History.{Actor, Event, IsRun, StaysSound, I
 ghost use Rattle.ringcore_laws.specs.Place.{all_places};
 ghost use Rattle.ringcore_laws.specs.Runs.{IsPlan, OneSpanEach, history_of, is_done, is_grant};
 
-/// Every list of steps is sound: before the first event and after each, no slot and no buffer has two holders, no two actors
-/// differ on the item at a position, what was dequeued from each ring is a beginning of what was published there, and each
-/// buffer of the pool has exactly one place. Each reply is the one to its step, and a span is granted only to an actor that
-/// has none open.
+/// Every list of steps is sound: before the first event and after each, no slot and no buffer has two holders, no two
+/// actors differ on the item at a position, what was dequeued from each ring is a beginning of what was published
+/// there, and each buffer of the pool has exactly one place. Each reply is the one to its step, and a span is granted
+/// only to an actor that has none open.
 pub fn every_list_of_steps_is_sound()
     ensures sound { (plans : List RingPlan) (actors : ℕ) (gifts : List ℕ) (steps : List (ℕ × Step))
         → IsPlan plans actors gifts → let start = opening actors gifts in
@@ -37,8 +39,8 @@ pub fn every_list_of_steps_is_sound()
         OneSpanEach start (history_of plans (length gifts) start steps) }
 {}
 
-/// After every list of steps each buffer of the pool has exactly one place: queued on one ring, or with one actor, held or cached.
-/// Any other number has none.
+/// After every list of steps each buffer of the pool has exactly one place: queued on one ring, or with one actor, held
+/// or cached. Any other number has none.
 pub fn every_buffer_has_one_place()
     ensures one { (plans : List RingPlan) (actors : ℕ) (gifts : List ℕ) (steps : List (ℕ × Step)) (b : ℕ)
         → IsPlan plans actors gifts → b < length gifts → let start = opening actors gifts in
@@ -48,29 +50,35 @@ pub fn every_buffer_has_one_place()
         length (all_places (length plans) (after_all start (history_of plans (length gifts) start steps)) b) ≡ 0 }
 {}
 
-/// Refusals are true, after every list of steps: where the next step is answered `NoRoom`, there was too little room when that actor
-/// last asked for it; where `Contended`, the own word is another one than the actor looked at; where `Busy`, another actor's span of
-/// the side is open; where `NotYet`, a span of the side with a lower start is open.
+/// Refusals are true, after every list of steps: where the next step is answered `NoRoom`, there was too little room
+/// when that actor last asked for it; where `Contended`, the own word is another one than the actor looked at; where
+/// `Busy`, another actor's span of the side is open; where `NotYet`, a span of the side with a lower start is open.
 pub fn every_refusal_is_true()
-    ensures no_room { (plans : List RingPlan) (actors : ℕ) (gifts : List ℕ) (steps : List (ℕ × Step)) → IsPlan plans actors gifts
+    ensures no_room { (plans : List RingPlan) (actors : ℕ) (gifts : List ℕ) (steps : List (ℕ × Step))
+        → IsPlan plans actors gifts
         → let start = opening actors gifts in let events = history_of plans (length gifts) start steps in
         (i ring : ℕ) (side : Side) (how : How) (count room : ℕ) (plan : RingPlan) → slice_get plans ring ≡ Some plan
         → reply_to plans (length gifts) (after_all start events) i (Reserve ring side how count) ≡ NoRoom room
         → HadNoRoom plan start events i ring side how count }
-    ensures contended { (plans : List RingPlan) (actors : ℕ) (gifts : List ℕ) (steps : List (ℕ × Step)) → IsPlan plans actors gifts
+    ensures contended { (plans : List RingPlan) (actors : ℕ) (gifts : List ℕ) (steps : List (ℕ × Step))
+        → IsPlan plans actors gifts
         → let start = opening actors gifts in let now = after_all start (history_of plans (length gifts) start steps) in
         (i ring : ℕ) (side : Side) (how : How) (count word : ℕ) (plan : RingPlan) → slice_get plans ring ≡ Some plan
         → reply_to plans (length gifts) now i (Reserve ring side how count) ≡ Contended word
         → HasMoved plan now i ring side word }
-    ensures busy { (plans : List RingPlan) (actors : ℕ) (gifts : List ℕ) (steps : List (ℕ × Step)) → IsPlan plans actors gifts
+    ensures busy { (plans : List RingPlan) (actors : ℕ) (gifts : List ℕ) (steps : List (ℕ × Step))
+        → IsPlan plans actors gifts
         → let start = opening actors gifts in let now = after_all start (history_of plans (length gifts) start steps) in
         (i ring : ℕ) (side : Side) (word : ℕ) → reply_to plans (length gifts) now i (Look ring side) ≡ Busy word
         → IsTaken now i ring side }
-    ensures early_put { (plans : List RingPlan) (actors : ℕ) (gifts : List ℕ) (steps : List (ℕ × Step)) → IsPlan plans actors gifts
+    ensures early_put { (plans : List RingPlan) (actors : ℕ) (gifts : List ℕ) (steps : List (ℕ × Step))
+        → IsPlan plans actors gifts
         → let start = opening actors gifts in let now = after_all start (history_of plans (length gifts) start steps) in
-        (i ring : ℕ) (items : List Item) (tail : ℕ) → reply_to plans (length gifts) now i (SettlePut ring items) ≡ NotYet tail
+        (i ring : ℕ) (items : List Item) (tail : ℕ)
+        → reply_to plans (length gifts) now i (SettlePut ring items) ≡ NotYet tail
         → HasEarlier now i }
-    ensures early_take { (plans : List RingPlan) (actors : ℕ) (gifts : List ℕ) (steps : List (ℕ × Step)) → IsPlan plans actors gifts
+    ensures early_take { (plans : List RingPlan) (actors : ℕ) (gifts : List ℕ) (steps : List (ℕ × Step))
+        → IsPlan plans actors gifts
         → let start = opening actors gifts in let now = after_all start (history_of plans (length gifts) start steps) in
         (i ring count tail : ℕ) → reply_to plans (length gifts) now i (SettleTake ring count) ≡ NotYet tail
         → HasEarlier now i }
@@ -78,9 +86,11 @@ pub fn every_refusal_is_true()
 
 /// After every list of steps, a Reserve for a put into a free ring is never answered `NoRoom`.
 pub fn a_free_ring_has_room()
-    ensures { (plans : List RingPlan) (actors : ℕ) (gifts : List ℕ) (steps : List (ℕ × Step)) → IsPlan plans actors gifts
+    ensures { (plans : List RingPlan) (actors : ℕ) (gifts : List ℕ) (steps : List (ℕ × Step))
+        → IsPlan plans actors gifts
         → let start = opening actors gifts in let now = after_all start (history_of plans (length gifts) start steps) in
-        (i ring : ℕ) (how : How) (count room : ℕ) (plan : RingPlan) → slice_get plans ring ≡ Some plan → plan.free ≡ true
+        (i ring : ℕ) (how : How) (count room : ℕ) (plan : RingPlan)
+        → slice_get plans ring ≡ Some plan → plan.free ≡ true
         → reply_to plans (length gifts) now i (Reserve ring Put how count) ≢ NoRoom room }
 {}
 
@@ -93,18 +103,19 @@ pub fn every_history_is_sound()
         → StaysSound plans (length gifts) (opening actors gifts) events }
 {}
 
-/// A granted Reserve keeps soundness: a party without an open span opens one behind all that is settled or reserved on its side, up
-/// to where the ring has room, or items.
+/// A granted Reserve keeps soundness: a party without an open span opens one behind all that is settled or reserved on
+/// its side, up to where the ring has room, or items.
 pub fn a_granted_reserve_keeps_soundness()
-    ensures { (plans : List RingPlan) (pool : ℕ) (parties : List (Party Item)) (i : ℕ) (d : Party Item) (span : Span) (plan : RingPlan)
+    ensures { (plans : List RingPlan) (pool : ℕ) (parties : List (Party Item)) (i : ℕ) (d : Party Item)
+        (span : Span) (plan : RingPlan)
         → Sound tags plans pool parties → i < length parties → (slice_index_or parties i d).span ≡ None
         → slice_get plans span.ring ≡ Some plan → plan.geometry.capacity < plan.geometry.size
         → IsReservable plan.geometry parties span
         → Sound tags plans pool (reserved_by parties i d span) }
 {}
 
-/// A Settle that is Done keeps soundness: a party settles the first open span of its side, a put with items that are its own and that
-/// the ring has room for, a take with the items that are queued there first.
+/// A Settle that is Done keeps soundness: a party settles the first open span of its side, a put with items that are
+/// its own and that the ring has room for, a take with the items that are queued there first.
 pub fn a_done_settle_keeps_soundness()
     ensures put { (plans : List RingPlan) (pool : ℕ) (parties : List (Party Item)) (i : ℕ) (d : Party Item)
         (ring start count : ℕ) (items : List Item) (plan : RingPlan)
@@ -129,7 +140,8 @@ pub fn every_other_step_leaves_the_parties()
         → parties_of (after actors e) ≡ parties_of actors }
 {}
 
-/// A party without spans and buffers may join at any time: soundness stays, and how the open spans stand behind what is settled.
+/// A party without spans and buffers may join at any time: soundness stays, and how the open spans stand behind what is
+/// settled.
 pub fn a_newcomer_keeps_soundness()
     ensures rule { (plans : List RingPlan) (parties : List (Party Item))
         → HeadTailRule plans parties → HeadTailRule plans (parties ++ newcomer [] ∷ []) }
@@ -137,8 +149,8 @@ pub fn a_newcomer_keeps_soundness()
         → Sound tags plans pool parties → Sound tags plans pool (parties ++ newcomer [] ∷ []) }
 {}
 
-/// Two parties without open spans may become one; the other is then as a newcomer. Soundness stays, and how the open spans stand
-/// behind what is settled.
+/// Two parties without open spans may become one; the other is then as a newcomer. Soundness stays, and how the open
+/// spans stand behind what is settled.
 pub fn two_made_one_keep_soundness()
     ensures rule { (plans : List RingPlan) (pool : ℕ) (parties : List (Party Item)) (i j : ℕ) (d : Party Item)
         → Sound tags plans pool parties → HeadTailRule plans parties → i < length parties → j < length parties → j ≢ i

@@ -1,12 +1,14 @@
-//! The protocol of rings that any number of actors share, as definitions and laws (DPDK Programmer's Guide, "Ring Library": a
-//! producer or consumer reserves positions, works on them, and then moves the tail in the order of reservation).
+//! The protocol of rings that any number of actors share, as definitions and laws (DPDK Programmer's Guide, "Ring
+//! Library": a producer or consumer reserves positions, works on them, and then moves the tail in the order of
+//! reservation).
 //!
-//! Nothing runs here. `specs/` says what a history of atomic steps is, what the reply to each step has to be, and when parties share
-//! rings and buffers soundly; the functions of `headline` carry the laws as their contracts.
+//! Nothing runs here. `specs/` says what a history of atomic steps is, what the reply to each step has to be, and when
+//! parties share rings and buffers soundly; the functions of `headline` carry the laws as their contracts.
 #![tactic(auto)]
 
 mod contents;
 mod headline;
+mod party;
 mod protocol;
 
 pub use contents::{Item, Items, Numbers};
@@ -16,4 +18,5 @@ pub use headline::{
     every_list_of_steps_is_sound, every_other_step_leaves_the_parties, every_refusal_is_true,
     two_made_one_keep_soundness,
 };
+pub use party::{Party, Settled};
 pub use protocol::{Observed, Place, Reply, Span, Step};

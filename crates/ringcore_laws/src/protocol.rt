@@ -1,9 +1,11 @@
-//! The steps of the protocol and their replies. Each step is at most one load, one store or one compare-and-exchange on one word.
+//! The steps of the protocol and their replies. Each step is at most one load, one store or one compare-and-exchange on
+//! one word.
 
 use crate::contents::Items;
 use geom::{How, Side};
 
-/// An open span: the positions from `start` on, `count` of them, of one side of a ring, which one party has reserved and not settled.
+/// An open span: the positions from `start` on, `count` of them, of one side of a ring, which one party has reserved
+/// and not settled.
 #[derive(Clone, Copy, Debug)]
 pub struct Span {
     pub ring: usize,
@@ -32,7 +34,8 @@ pub enum Step {
     Look(usize, Side),
     /// Loads the tail of the other side, after a look.
     Room(usize, Side),
-    /// Reserves positions of a side from the one looked at on, by one exchange of the own word, after a look and a question for room.
+    /// Reserves positions of a side from the one looked at on, by one exchange of the own word, after a look and a
+    /// question for room.
     Reserve(usize, Side, How, u64),
     /// Settles the own open put span with these items: publishes them.
     SettlePut(usize, Items),

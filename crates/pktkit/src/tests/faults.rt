@@ -1,7 +1,7 @@
 //! Files, devices that fail, and statuses of the command line.
 
 use super::{Ran, run};
-use crate::program::program;
+use crate::program::{out_of_memory, program};
 use std::fs;
 use std::io::{self, ErrorKind, Read, Write};
 use std::test::Fail;
@@ -100,6 +100,14 @@ fn an_error_stream_that_fails(rt: HostRuntime) -> Result<(), Fail> {
         program(&rt, &[], b"count\n".as_slice(), &mut out, &mut Broken),
         0
     );
+    Ok(())
+}
+
+#[test]
+fn no_memory_for_the_words(rt: HostRuntime) -> Result<(), Fail> {
+    let mut err = Vec::new(rt.alloc());
+    assert_eq!(rt; out_of_memory(&mut err), 1);
+    assert_eq!(rt; text(&err), Some("pktkit: memory\n"));
     Ok(())
 }
 

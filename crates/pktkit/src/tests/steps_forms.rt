@@ -1,6 +1,8 @@
 //! The forms of the lines of a steps file.
 
 use super::{expect_replies, expect_steps};
+use std::process::Abort;
+use std::rt::Files;
 use std::test::Fail;
 
 #[test]
@@ -20,8 +22,20 @@ fn numbers_blanks_and_modes(rt: HostRuntime) -> Result<(), Fail> {
     expect_replies(&rt, "pktkit_numbers_blanks_and_modes.steps", plan, &lines)
 }
 
+/// Tests that each of these lines has no form: a file of it alone is refused at line 1.
+fn expect_no_form<R: Abort + Files + AllocGlobal>(
+    rt: &R,
+    name: &str,
+    lines: &[&str],
+) -> Result<(), Fail> {
+    for line in lines {
+        expect_steps(rt, name, line, 1, "", "pktkit: line 1\n")?;
+    }
+    Ok(())
+}
+
 #[test]
-fn words_of_no_form(rt: HostRuntime) -> Result<(), Fail> {
+fn plan_lines_of_no_form(rt: HostRuntime) -> Result<(), Fail> {
     let lines = [
         "ring",
         "ring power 4",
@@ -38,6 +52,13 @@ fn words_of_no_form(rt: HostRuntime) -> Result<(), Fail> {
         "give",
         "give 0 b0",
         "give x 0",
+    ];
+    expect_no_form(&rt, "pktkit_plan_lines_of_no_form.steps", &lines)
+}
+
+#[test]
+fn step_lines_of_no_form(rt: HostRuntime) -> Result<(), Fail> {
+    let lines = [
         "0",
         "0 look",
         "0 look 0",
@@ -72,17 +93,7 @@ fn words_of_no_form(rt: HostRuntime) -> Result<(), Fail> {
         "place b0",
         "count",
     ];
-    for line in lines {
-        expect_steps(
-            &rt,
-            "pktkit_words_of_no_form.steps",
-            line,
-            1,
-            "",
-            "pktkit: line 1\n",
-        )?;
-    }
-    Ok(())
+    expect_no_form(&rt, "pktkit_step_lines_of_no_form.steps", &lines)
 }
 
 #[test]

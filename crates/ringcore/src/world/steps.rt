@@ -29,7 +29,8 @@ impl World {
         requires plan { ring < vec_len self.old.plans }
         ensures counts { SameCounts self.old self.new }
         ensures kept { SameRings self.old self.new }
-        ensures member { MemberAt self.old actor (λ m. SetMember self.old self.new actor (member_looked m ring side result)) }
+        ensures member { MemberAt self.old actor (λ m.
+            SetMember self.old self.new actor (member_looked m ring side result)) }
         ensures reply { FoundAt self.old actor ring (λ m plan r. (l : RingSide AnItem) (a : Actor)
             → SideAgrees (mode_of plan side) l (words_of r side) → a.party.span ≡ m.span
             → result ≡ look_reply (mode_of plan side) l a) }
@@ -71,7 +72,8 @@ impl World {
         requires plan { ring < vec_len self.old.plans }
         ensures counts { SameCounts self.old self.new }
         ensures kept { SamePlans self.old self.new }
-        ensures member { MemberAt self.old actor (λ m. SetMember self.old self.new actor (member_tried m ring side result)) }
+        ensures member { MemberAt self.old actor (λ m.
+            SetMember self.old self.new actor (member_tried m ring side result)) }
         ensures ring { RingAt self.old ring (λ r. SetRing self.old self.new ring (ring_tried r side result)) }
         ensures reply { FoundAt self.old actor ring (λ m plan r. (l : RingSide AnItem)
             → SideAgrees (mode_of plan side) l (words_of r side) → TailFits plan m.observed

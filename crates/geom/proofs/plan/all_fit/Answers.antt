@@ -2,9 +2,9 @@ use Rattle.std.proofs.Common.{inl, inr, true, false, refl, ◌≡◌, ◌∙◌,
 use Rattle.std.specs.Prelude.{slice_get, Some}
 use Rattle.std.proofs.lemmas.Option.{get_or_from_slice_get, slice_get_within}
 use Rattle.geom.specs.declared.plan.RingPlan.{RingPlan}
-use Rattle.ringcore_laws.proofs.Laws.{element, same_or_not}
-use Rattle.ringcore.specs.Opening.{Fits}
-use Rattle.ringcore.proofs.plan.all_fit.Goals as goal
+use Rattle.geom.proofs.Lists.{element, same_or_not}
+use Rattle.geom.specs.Fit.{Fits}
+use Rattle.geom.proofs.plan.all_fit.Goals as goal
 
 pub loop-plan-init : goal.loop-plan-init
 loop-plan-init c = λ r plan lt is. absurd (omega (arith, lt))
