@@ -1,12 +1,8 @@
 -- The items among optional ones.
-use Rattle.std.specs.Prelude.{List, [], ◌∷◌, Option, Some, None}
+use Rattle.std.specs.Prelude.{List, [], ◌∷◌, Option}
+use Rattle.fabric_laws.specs.Kinds.{with_item}
 
 module _ {T : Type 0} where
-  -- the item before the others, where there is one
-  abbrev pub with_item : Option T → List T → List T
-  with_item None xs = xs
-  with_item (Some x) xs = x ∷ xs
-
   -- the items that are there, in order
   abbrev pub somes : List (Option T) → List T
   somes [] = []

@@ -1,2 +1,10 @@
 pub mod Items
 pub mod Numbers
+pub mod Shapes
+pub mod Views
+pub mod Slots
+pub mod Owned
+pub mod Starts
+pub mod Settles
+pub mod Hands
+pub mod Making

@@ -1,11 +1,33 @@
-//! Rings and items that threads share. Of this crate stand so far: what an item tells of its buffers (`Tagged`), and
-//! the short lists in which items come to a ring and go from it (`Burst`).
+//! Rings and items that threads share: multi-producer multi-consumer and head/tail-sync rings, a mode for each side, on
+//! atomic words.
 #![tactic(auto)]
 
+mod about;
 mod burst;
+mod carried;
+mod fabric;
+mod hand;
+mod join;
+mod make;
+mod opens;
+mod owned;
+mod plan;
+mod plays;
+mod rule;
+mod settle;
+mod slots;
+mod split;
+mod start;
+mod steps;
 mod tagged;
 #[cfg(test)]
 mod tests;
 
 pub use burst::Burst;
+pub use fabric::Fabric;
+pub use hand::{Hand, PutOpen, SettleFault, Share, StartFault, TakeSpan};
+pub use make::{OpenFault, Opened};
+pub use plan::{FabricPlan, Shape};
+pub use split::SplitFault;
+pub use start::Probe;
 pub use tagged::Tagged;

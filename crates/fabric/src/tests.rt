@@ -1,4 +1,6 @@
 //! An item with one number, and each call of a burst once.
+mod threads;
+
 use crate::{Burst, Tagged};
 use arrayvec::ArrayVec;
 use std::alloc::{AllocError, Global};
@@ -8,12 +10,14 @@ use std::test::Fail;
 #[derive(Drop)]
 struct Ticket {
     number: Box<u32>,
+    load: u64,
 }
 
 impl Ticket {
     fn new(alloc: Global, number: u32) -> Result<Ticket, AllocError> {
         Ok(Ticket {
             number: Box::new(alloc, number)?,
+            load: 0,
         })
     }
 }

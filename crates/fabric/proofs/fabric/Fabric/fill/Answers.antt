@@ -1,0 +1,30 @@
+use Rattle.std.proofs.Common.{◌∷◌, ap, drop, length, set, sym, None, ◌∙◌}
+use Rattle.atomic_table.specs.Table.{rest}
+use Rattle.fabric.specs.Shapes.{slot_of}
+use Rattle.fabric.proofs.Turns.{fill_asks, fill_cells, fill_next}
+use Rattle.fabric.proofs.fabric.Fabric.fill.Goals as goal
+
+pub exchange-found-requires : goal.exchange-found-requires
+exchange-found-requires g c =
+    let inv = c.loop-i.invariant in (
+      inv.same_table ∙ c.requires.fabric,
+      fill_asks (slot_of c.args.shape.now) c.args.start c.loop-i.i None c.args.cells.now (drop (length c.args.cells.now) c.args.seat.now.me.1) c.loop-i.seat.me.1 c.loop-i.cells
+          inv.held inv.cells c.loop-i-test.true c.slot-slot.result c.slot-slot.ensures,
+    )
+
+pub loop-i-preserved : goal.loop-i-preserved
+loop-i-preserved g c =
+    let inv = c.loop-i.invariant in
+    let x = c.exchange-found.ensures in
+    let t = c.turn.ensures in
+    record {
+      same_table = t.0 ∙ (x.0 ∙ inv.same_table);
+      same_id = t.1 ∙ (x.1 ∙ inv.same_id);
+      same_view = ap (λ m. m.0) t.2 ∙ (ap (λ m. m.0) x.3 ∙ inv.same_view);
+      held = fill_next (slot_of c.args.shape.now) c.args.start c.loop-i.i None c.args.cells.now (drop (length c.args.cells.now) c.args.seat.now.me.1) c.loop-i.seat.me.1 c.loop-i.cells
+          inv.held inv.cells c.loop-i-test.true c.slot-slot.result c.slot-slot.ensures c.index-cells-i.result c.exchange-found.new.seat.me.1 c.turn.new.self.me.1 c.index-cells-i.is
+          (ap (λ m. m.1) x.3 ∙ ap (λ z. (c.slot-slot.result, z) ∷ rest c.loop-i.seat.me.1) (c.take-given.ensures.value ∙ sym c.index-cells-i.is)) (ap (λ m. m.1) t.2);
+      cells = ap (λ z. set c.loop-i.cells c.loop-i.i z) c.take-given.ensures.after
+          ∙ fill_cells (slot_of c.args.shape.now) c.args.start c.loop-i.i None c.args.cells.now (drop (length c.args.cells.now) c.args.seat.now.me.1) c.loop-i.seat.me.1 c.loop-i.cells
+          inv.held inv.cells c.loop-i-test.true c.slot-slot.result c.slot-slot.ensures;
+    }

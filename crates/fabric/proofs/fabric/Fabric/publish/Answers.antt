@@ -1,0 +1,30 @@
+use Rattle.std.proofs.Common.{ap, length, rules, sym, ◌∙◌}
+use Rattle.fabric_laws.specs.Changes.{missed}
+use Rattle.fabric_laws.specs.Words.{slot_at}
+use Rattle.fabric.proofs.Settling.{back_held, back_is, count_whole}
+use Rattle.fabric.proofs.fabric.Fabric.publish.Goals as goal
+
+pub withdraw-requires : goal.withdraw-requires
+withdraw-requires g c =
+    let q = c.requires in
+    let p = c.args.shape.now.plan in
+    let cells = c.args.cells.now.items in
+    let lost = c.settle-found.ensures.lost c.if-found-start.false in
+    let all = count_whole p.put (length cells) c.args.count c.in-Multi.is q.count in
+    let held = back_held (slot_at c.args.self.now.plan.rings.items c.args.ring p) c.args.start c.args.count cells c.settle-found.new.seat.me.1 (lost.1 ∙ c.offer.ensures.slots) all in
+    (search rules, (search rules, (c.settle-found.ensures.fabric.0 ∙ (c.offer.ensures.fabric.0 ∙ q.fabric), (q.base, (q.last, (q.fits, (c.offer.ensures.cells, held)))))))
+
+pub returns-else-found-start-clause-early : goal.returns-else-found-start-clause-early
+returns-else-found-start-clause-early g c =
+    let q = c.requires in
+    let p = c.args.shape.now.plan in
+    let cells = c.args.cells.now.items in
+    let lost = c.settle-found.ensures.lost c.if-found-start.false in
+    let all = count_whole p.put (length cells) c.args.count c.in-Multi.is q.count in
+    let back = back_is (slot_at c.args.self.now.plan.rings.items c.args.ring p) c.args.start c.args.count cells c.settle-found.new.seat.me.1 (lost.1 ∙ c.offer.ensures.slots) all in (
+      c.in-Multi.is,
+      lost.2,
+      c.withdraw.ensures.fabric.2 ∙ (lost.0 ∙ ap (missed c.settle-found.result) c.offer.ensures.fabric.2),
+      c.withdraw.ensures.slots ∙ sym q.slots,
+      c.withdraw.ensures.cells ∙ back,
+    )

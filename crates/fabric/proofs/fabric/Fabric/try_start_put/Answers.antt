@@ -1,0 +1,157 @@
+use Rattle.std.proofs.Common.{[], ◌+◌, ◌-◌, ◌<◌, ◌≤◌, ◌++◌, None, Some, ap, append-nil, arith, refl, replicate, rules, subst, sym, ◌∙◌}
+use Rattle.geom.specs.declared.word.TheConstants.{LAST}
+use Rattle.fabric_laws.specs.Kinds.{IsHeldOnce}
+use Rattle.fabric.specs.Owned.{IsRow}
+use Rattle.geom.specs.declared.plan.Side.TheVariants.{Put}
+use Rattle.ringcore_laws.specs.History.{position_of}
+use Rattle.fabric_laws.specs.Kinds.{run}
+use Rattle.fabric_laws.specs.Words.{slot_at}
+use Rattle.fabric.specs.Starts.{Refuses, Starts}
+use Rattle.fabric.specs.declared.hand.StartFault.TheVariants.{BadCount, Contended}
+use Rattle.fabric.specs.Views.{span_of}
+use Rattle.fabric.proofs.Starting.{alive_on, bad_put, contended, few_buffers, has_seen, idle_on, put_room, row_on, row_opened, same_ring, shape_at, started, well_on, well_opened}
+use Rattle.fabric.proofs.fabric.Fabric.try_start_put.Goals as goal
+
+pub returns-then-is_bad_count-clause-refused : goal.returns-then-is_bad_count-clause-refused
+returns-then-is_bad_count-clause-refused g c =
+    let f = c.args.self.now in
+    let at = shape_at f.plan.rings.items f.shapes.items c.args.ring c.index.result.now f.laid c.requires.ring c.index.ensures in (
+      c.requires.hand,
+      λ plan there.
+          subst (λ p. Refuses g.T.Tagged.numbers g.row.N c.args.how c.args.n c.args.ring Put p c.args.hand.share.seat.me.0 c.args.hand.share.seat.me.0 BadCount)
+          (same_ring f.plan.rings.items c.args.ring c.index.result.now.plan plan at.0 there)
+          (bad_put g.T.Tagged.numbers g.row.N c.args.n c.args.ring c.args.ring c.args.how c.args.hand.share.seat.me.0 c.args.hand.share.owned c.index.result.now.plan c.args.hand.share.row
+          (c.is_bad_count.ensures.bad c.if-is_bad_count.true)),
+    )
+
+pub aim-requires : goal.aim-requires
+aim-requires g c =
+    let f = c.args.self.now in
+    let at = shape_at f.plan.rings.items f.shapes.items c.args.ring c.index.result.now f.laid c.requires.ring c.index.ensures in
+    (search rules, (c.requires.hand.0, (at.0, (c.requires.hand.1, (c.args.hand.share.alive, c.args.hand.idle)))))
+
+pub returns-in-Err-clause-refused : goal.returns-in-Err-clause-refused
+returns-in-Err-clause-refused g c =
+    let f = c.args.self.now in
+    let at = shape_at f.plan.rings.items f.shapes.items c.args.ring c.index.result.now f.laid c.requires.ring c.index.ensures in
+    let k = c.aim.ensures.kept in (
+      (c.aim.ensures.fabric.0 ∙ c.requires.hand.0, k.plans ∙ c.requires.hand.1, k.pool ∙ c.requires.hand.2),
+      λ plan there.
+          subst (λ p. Refuses g.T.Tagged.numbers g.row.N c.args.how c.args.n c.args.ring Put p c.args.hand.share.seat.me.0 c.aim.new.seat.me.0 c.in-Err.fault)
+          (same_ring f.plan.rings.items c.args.ring c.index.result.now.plan plan at.0 there) (c.in-Err.ensures.err),
+    )
+
+pub reserve_put-found-requires : goal.reserve_put-found-requires
+reserve_put-found-requires g c =
+    let f = c.args.self.now in
+    let v = c.args.hand.share.seat.me.0 in
+    let w = c.aim.new.seat.me.0 in
+    let at = shape_at f.plan.rings.items f.shapes.items c.args.ring c.index.result.now f.laid c.requires.ring c.index.ensures in
+    let k = c.aim.ensures.kept in
+    let a = c.in-Ok.ensures.ok in
+    let q = c.in-Ok.aim.0 in
+    let p = c.index.result.now.plan in
+    let tags = g.T.Tagged.numbers in (
+      search rules,
+      (
+        c.aim.ensures.fabric.0 ∙ c.requires.hand.0,
+        (
+          at.0,
+          (
+            (k.plans ∙ c.requires.hand.1, k.pool ∙ c.requires.hand.2),
+            (
+              alive_on tags v w k c.args.hand.share.alive,
+              (
+                idle_on tags v w k c.args.hand.idle,
+                (
+                  (q.tail, has_seen tags c.args.ring Put p v w q a.0, put_room tags c.args.ring Put p v w q c.in-Ok.aim.1 refl a.0 a.2 a.4),
+                  (
+                    a.2,
+                    (
+                      subst (λ z. z + c.in-Ok.aim.1 ≤ LAST) a.0.1 a.5,
+                      few_buffers tags c.in-Ok.aim.1 c.args.n v w c.args.hand.share.owned p c.args.hand.share.row k a.3 (c.is_bad_count.ensures.good c.if-is_bad_count.false).2,
+                    ),
+                  ),
+                ),
+              ),
+            ),
+          ),
+        ),
+      ),
+    )
+
+pub returns-then-found-probe-clause-refused : goal.returns-then-found-probe-clause-refused
+returns-then-found-probe-clause-refused g c =
+    let f = c.args.self.now in
+    let v = c.args.hand.share.seat.me.0 in
+    let w = c.aim.new.seat.me.0 in
+    let at = shape_at f.plan.rings.items f.shapes.items c.args.ring c.index.result.now f.laid c.requires.ring c.index.ensures in
+    let k = c.aim.ensures.kept in
+    let a = c.in-Ok.ensures.ok in
+    let lost = c.reserve_put-found.ensures.lost c.if-found-probe.true in (
+      (
+        c.reserve_put-found.ensures.fabric.0 ∙ (c.aim.ensures.fabric.0 ∙ c.requires.hand.0),
+        ap (λ z. z.plans) lost.0 ∙ (k.plans ∙ c.requires.hand.1),
+        ap (λ z. z.pool) lost.0 ∙ (k.pool ∙ c.requires.hand.2),
+      ),
+      λ plan there.
+          subst (λ p. Refuses g.T.Tagged.numbers g.row.N c.args.how c.args.n c.args.ring Put p v c.reserve_put-found.new.seat.me.0 (Contended c.reserve_put-found.result))
+          (same_ring f.plan.rings.items c.args.ring c.index.result.now.plan plan at.0 there)
+          (contended g.T.Tagged.numbers c.args.ring Put c.index.result.now.plan g.row.N c.args.n c.args.how v w c.reserve_put-found.new.seat.me.0 c.in-Ok.aim.0 c.in-Ok.aim.1 c.reserve_put-found.result
+          a.0 a.1 a.2 c.if-found-probe.true lost.0),
+    )
+
+pub invariant_of-result-2 : goal.invariant_of-result-2
+invariant_of-result-2 g c =
+    let v = c.args.hand.share.seat.me.0 in
+    let w = c.aim.new.seat.me.0 in
+    let k = c.aim.ensures.kept in
+    let p = c.index.result.now.plan in
+    let tags = g.T.Tagged.numbers in
+    let won = c.reserve_put-found.ensures.won c.if-found-probe.false in
+    let span = span_of c.args.ring Put (position_of p.put c.in-Ok.aim.0.word) c.in-Ok.aim.1 in
+    record {
+      counted = c.args.hand.share.counted ∙ (sym k.parts ∙ ap (λ z. z.parts) (sym won.0));
+      alive = subst (λ z. 0 < z.parts) (sym won.0) (alive_on tags v w k c.args.hand.share.alive);
+      well = subst (λ z. IsHeldOnce tags z.pool z.party) (sym won.0) (well_opened tags w.pool w.party span (well_on tags v w k c.args.hand.share.well));
+      row = subst (λ z. IsRow tags z.pool z.party c.args.hand.share.owned) (sym won.0)
+          (row_opened tags w.pool w.party span c.args.hand.share.owned (row_on tags v w k c.args.hand.share.owned c.args.hand.share.row));
+    }
+
+pub invariant_of-result-3 : goal.invariant_of-result-3
+invariant_of-result-3 g c =
+    let f = c.args.self.now in
+    let at = shape_at f.plan.rings.items f.shapes.items c.args.ring c.index.result.now f.laid c.requires.ring c.index.ensures in
+    let k = c.aim.ensures.kept in
+    let a = c.in-Ok.ensures.ok in
+    let p = c.index.result.now.plan in
+    let m = c.in-Ok.aim.1 in
+    let won = c.reserve_put-found.ensures.won c.if-found-probe.false in
+    record {
+      table = c.reserve_put-found.ensures.fabric.0 ∙ (c.aim.ensures.fabric.0 ∙ c.requires.hand.0);
+      plans = (ap (λ z. z.plans) won.0 ∙ (k.plans ∙ c.requires.hand.1), ap (λ z. z.pool) won.0 ∙ (k.pool ∙ c.requires.hand.2));
+      in_plan = at;
+      span = ap (λ z. z.party.span) won.0 ∙ ap (λ n. Some (span_of c.args.ring Put n m)) (sym a.0.1);
+      slots = won.1
+          ∙ (ap (λ l. run (slot_at f.plan.rings.items c.args.ring p) (position_of p.put c.in-Ok.aim.0.word) (replicate m None) ++ l) (c.aim.ensures.fabric.2 ∙ c.args.hand.no_slots)
+          ∙ (append-nil (run (slot_at f.plan.rings.items c.args.ring p) (position_of p.put c.in-Ok.aim.0.word) (replicate m None))
+          ∙ ap (λ n. run (slot_at f.plan.rings.items c.args.ring p) n (replicate m None)) (sym a.0.1)));
+      fits = omega (arith, a.3, (c.is_bad_count.ensures.good c.if-is_bad_count.false).1);
+      last = a.5;
+    }
+
+pub returns-clause-started : goal.returns-clause-started
+returns-clause-started g c =
+    let f = c.args.self.now in
+    let v = c.args.hand.share.seat.me.0 in
+    let w = c.aim.new.seat.me.0 in
+    let at = shape_at f.plan.rings.items f.shapes.items c.args.ring c.index.result.now f.laid c.requires.ring c.index.ensures in
+    let a = c.in-Ok.ensures.ok in
+    let won = c.reserve_put-found.ensures.won c.if-found-probe.false in (
+      refl,
+      refl,
+      λ plan there.
+          subst (λ p. Starts g.T.Tagged.numbers c.args.how c.args.n c.args.ring Put p v c.in-Ok.aim.0.start c.in-Ok.aim.1 (c.in-Ok.aim.0.room - c.in-Ok.aim.1) [] c.reserve_put-found.new.seat.me.0)
+          (same_ring f.plan.rings.items c.args.ring c.index.result.now.plan plan at.0 there)
+          (started g.T.Tagged.numbers c.args.ring Put c.index.result.now.plan c.args.n c.args.how v w c.reserve_put-found.new.seat.me.0 c.in-Ok.aim.0 c.in-Ok.aim.1 (c.in-Ok.aim.0.room - c.in-Ok.aim.1) [] a.0 a.1 a.2 a.5 refl won.0),
+    )

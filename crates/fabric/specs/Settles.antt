@@ -1,0 +1,29 @@
+-- What a settle answers
+use Rattle.std.specs.Prelude.{◌≡◌, ℕ, ◌<◌, ◌≤◌, ◌⊎◌, List, true}
+use Rattle.geom.specs.declared.plan.Mode.{Mode}
+use Rattle.geom.specs.declared.plan.Mode.TheVariants.{Multi, Hts}
+use Rattle.geom.specs.declared.plan.RingPlan.{RingPlan}
+use Rattle.ringcore_laws.specs.FreeRings.{AreSingle}
+use Rattle.ringcore_laws.specs.Sound.{holds, occurrences_in}
+use Rattle.fabric_laws.specs.declared.view.View.{View}
+use Rattle.fabric_laws.specs.Changes.{missed}
+use Rattle.fabric.specs.declared.hand.SettleFault.{SettleFault}
+use Rattle.fabric.specs.declared.hand.SettleFault.TheVariants.{BadCount, NotYet, NotYours}
+
+-- how many of a span's positions may be settled: of a multi side all
+abbrev pub IsCount : Mode → ℕ → ℕ → Type 0
+IsCount Multi k count = k ≡ count
+IsCount Hts k count = k ≤ count
+
+module _ {T : Type 0} (tags : T → List ℕ) where
+  -- some item carries a buffer that the hand doesn't hold, or more of the items carry it; or the ring is free, and some carries none or
+  -- more
+  abbrev pub AreNotYours : RingPlan → View T → List T → Type 0
+  AreNotYours plan v items = ((b : ℕ) × (holds tags b v.party < occurrences_in tags b items))
+      ⊎ ((plan.free ≡ true) × (AreSingle tags items → ⊥))
+
+  -- nothing was settled, for this reason: k positions of a span of `count` from `start` on
+  abbrev pub Declines : Mode → RingPlan → ℕ → ℕ → ℕ → List T → View T → View T → SettleFault → Type 0
+  Declines mode plan k count start items v w BadCount = (IsCount mode k count → ⊥) × (w ≡ v)
+  Declines mode plan k count start items v w NotYours = IsCount mode k count × AreNotYours plan v items × (w ≡ v)
+  Declines mode plan k count start items v w (NotYet x) = (mode ≡ Multi) × (k ≡ count) × (x < start) × (w ≡ missed x v)

@@ -1,0 +1,81 @@
+//! The buffers that the items of a burst carry, and a hand's row of bits for them.
+ghost use Rattle.std.specs.Prelude.{◌≡◌, ◌≢◌, ◌≤◌, ◌==◌, length, slice_get, take, true, false};
+ghost use Rattle.std.specs.List.{flat_map, list_all};
+ghost use Rattle.fabric.specs.Owned.{all_there, cleared, marked, told};
+
+use crate::burst::Burst;
+use crate::owned::Owned;
+use crate::tagged::Tagged;
+use arrayvec::ArrayVec;
+
+/// The numbers of the item at place `i`, in place of what `out` has.
+#[inline]
+fn numbers_at<T: Tagged, const N: usize>(items: &Burst<T, N>, i: usize, out: &mut ArrayVec<u32, 64>)
+    ensures { out.new.items ≡ told T.numbers (slice_get items.now i) }
+{
+    out.clear();
+    match items.get(i) {
+        Some(item) => item.tags(out),
+        None => (),
+    }
+}
+
+/// Whether each item carries exactly one buffer, as those of a free ring do.
+pub(crate) fn are_single<T: Tagged, const N: usize>(items: &Burst<T, N>) -> bool
+    ensures { result ≡ list_all (λ x. length (T.numbers x) == 1) items.now }
+{
+    let mut out = ArrayVec::new();
+    for i in 0..items.len() {
+        numbers_at(items, i, &mut out);
+        if out.len() != 1 {
+            return false;
+        }
+    }
+    true
+}
+
+impl Owned {
+    /// Marks the buffers of the first `n` items.
+    pub(crate) fn own<T: Tagged, const N: usize>(&mut self, items: &Burst<T, N>, n: usize)
+        requires { n ≤ length items.now }
+        ensures { self.new ≡ marked self.old (flat_map T.numbers (take n items.now)) }
+    {
+        let mut out = ArrayVec::new();
+        for i in 0..n {
+            numbers_at(items, i, &mut out);
+            self.mark_all(out.as_slice());
+        }
+    }
+
+    /// Clears the buffers of the items, up to the first item that carries one that isn't marked, and says how many
+    /// items it passed.
+    fn disown_first<T: Tagged, const N: usize>(&mut self, items: &Burst<T, N>) -> usize
+        ensures fits { result ≤ length items.now }
+        ensures cleared { self.new ≡ cleared self.old (flat_map T.numbers (take result items.now)) }
+        ensures there { all_there self.old (flat_map T.numbers (take result items.now)) ≡ true }
+        ensures stopped { result ≢ length items.now → all_there self.old (flat_map T.numbers items.now) ≡ false }
+    {
+        let mut out = ArrayVec::new();
+        for i in 0..items.len() {
+            numbers_at(items, i, &mut out);
+            if !self.clear_all(out.as_slice()) {
+                return i;
+            }
+        }
+        items.len()
+    }
+
+    /// Clears the buffers of the items, where each is marked and none stands twice; else nothing changes.
+    pub(crate) fn disown<T: Tagged, const N: usize>(&mut self, items: &Burst<T, N>) -> bool
+        ensures value { result ≡ all_there self.old (flat_map T.numbers items.now) }
+        ensures cleared { result ≡ true → self.new ≡ cleared self.old (flat_map T.numbers items.now) }
+        ensures refused { result ≡ false → self.new ≡ self.old }
+    {
+        let passed = self.disown_first(items);
+        if passed == items.len() {
+            return true;
+        }
+        self.own(items, passed);
+        false
+    }
+}

@@ -1,0 +1,111 @@
+//! A thread's share of a fabric, and the spans that it has reserved.
+ghost use Rattle.std.specs.Prelude.{◌≡◌, ◌+◌, ◌≤◌, ◌<◌, [], None, Some, replicate, length, slice_get};
+ghost use Rattle.geom.specs.declared.plan.Side.TheVariants.{Put, Take};
+ghost use Rattle.geom.specs.declared.word.TheConstants.{LAST};
+ghost use Rattle.fabric_laws.specs.Kinds.{IsHeldOnce, run};
+ghost use Rattle.fabric_laws.specs.Words.{slot_at, slots_before};
+ghost use Rattle.fabric.specs.Owned.{IsRow};
+ghost use Rattle.fabric.specs.Views.{span_of};
+
+use crate::fabric::Fabric;
+use crate::owned::Owned;
+use crate::plan::Shape;
+use crate::tagged::Tagged;
+use atomic_table::Seat;
+use fabric_laws::View;
+
+/// The parts of a whole fabric: a split halves a hand's parts, a join adds them up.
+pub(crate) const ALL_PARTS: u64 = 1 << 63;
+
+/// What a thread has of a fabric, with or without an open span: what it has seen, reserved and settled, the slots of
+/// its open span, and the buffers that are its own.
+#[derive(Drop)]
+pub struct Share<T: Tagged> {
+    pub(crate) seat: Seat<Option<T>, View<T>>,
+    pub(crate) owned: Owned,
+    pub(crate) parts: u64,
+    pub ghost counted: { parts ≡ seat.me.0.parts },
+    pub ghost alive: { 0 < seat.me.0.parts },
+    pub ghost well: { IsHeldOnce T.numbers seat.me.0.pool seat.me.0.party },
+    pub ghost row: { IsRow T.numbers seat.me.0.pool seat.me.0.party owned },
+}
+
+/// A thread's hand on a fabric. It has no open span. One that is dropped keeps its buffers for ever.
+#[derive(Drop)]
+pub struct Hand<T: Tagged> {
+    pub(crate) share: Share<T>,
+    pub ghost no_slots: { share.seat.me.1 ≡ [] },
+    pub ghost idle: { share.seat.me.0.party.span ≡ None },
+}
+
+/// A hand with a span that it will put items into. One that is dropped keeps its span for ever.
+#[derive(Drop)]
+pub struct PutOpen<'f, T: Tagged, const N: usize> {
+    pub(crate) fabric: &'f Fabric<T, N>,
+    pub(crate) share: Share<T>,
+    pub(crate) ring: usize,
+    pub(crate) shape: Shape,
+    pub(crate) start: u64,
+    pub(crate) count: usize,
+    pub(crate) left: u64,
+    pub ghost table: { share.seat.table_id ≡ fabric.now.table.shared.table_id },
+    pub ghost plans: { (share.seat.me.0.plans ≡ fabric.now.plan.rings.items)
+        × (share.seat.me.0.pool ≡ fabric.now.plan.buffers) },
+    pub ghost in_plan: { (slice_get fabric.now.plan.rings.items ring ≡ Some shape.plan)
+        × (shape.base ≡ slots_before fabric.now.plan.rings.items ring) },
+    pub ghost span: { share.seat.me.0.party.span ≡ Some (span_of ring Put start count) },
+    pub ghost slots: { share.seat.me.1
+        ≡ run (slot_at fabric.now.plan.rings.items ring shape.plan) start (replicate count None) },
+    pub ghost fits: { count ≤ N },
+    pub ghost last: { start + count ≤ LAST },
+}
+
+/// A hand with a span whose items it takes. They were moved out at the start, into a burst that the caller lent.
+#[derive(Drop)]
+pub struct TakeSpan<'f, T: Tagged, const N: usize> {
+    pub(crate) fabric: &'f Fabric<T, N>,
+    pub(crate) share: Share<T>,
+    pub(crate) ring: usize,
+    pub(crate) shape: Shape,
+    pub(crate) start: u64,
+    pub(crate) count: usize,
+    pub(crate) left: u64,
+    pub ghost table: { share.seat.table_id ≡ fabric.now.table.shared.table_id },
+    pub ghost plans: { (share.seat.me.0.plans ≡ fabric.now.plan.rings.items)
+        × (share.seat.me.0.pool ≡ fabric.now.plan.buffers) },
+    pub ghost in_plan: { (slice_get fabric.now.plan.rings.items ring ≡ Some shape.plan)
+        × (shape.base ≡ slots_before fabric.now.plan.rings.items ring) },
+    pub ghost span: { share.seat.me.0.party.span ≡ Some (span_of ring Take start count) },
+    pub ghost many: { length share.seat.me.0.shown ≡ count },
+    pub ghost slots: { share.seat.me.1
+        ≡ run (slot_at fabric.now.plan.rings.items ring shape.plan) start (replicate count None) },
+    pub ghost fits: { count ≤ N },
+    pub ghost last: { start + count ≤ LAST },
+}
+
+/// Why a start reserves nothing. Each number is one that this call found.
+#[derive(Drop, Clone, Copy, Debug, PartialEq, Eq)]
+pub enum StartFault {
+    /// Another hand's span of that head/tail-sync side is open: the word found.
+    Busy(u64),
+    /// The exchange lost against another hand: the word found.
+    Contended(u64),
+    /// There is too little room, or too few items: so much.
+    NoRoom(u64),
+    /// The positions of the ring are used up.
+    Worn,
+    /// A count of 0, of more than `N`, or on a free ring of more than the hand's buffers.
+    BadCount,
+}
+
+/// Why a settle settles nothing.
+#[derive(Drop, Clone, Copy, Debug, PartialEq, Eq)]
+pub enum SettleFault {
+    /// A multi span is settled whole, an HTS span with at most as many items as it has positions.
+    BadCount,
+    /// An earlier span of the side isn't settled yet: the tail found.
+    NotYet(u64),
+    /// An item carries a buffer that isn't the hand's own, or that another item carries too, or the ring is a free ring
+    /// and the item doesn't carry exactly one.
+    NotYours,
+}

@@ -1,0 +1,188 @@
+//! Open spans, and how they are settled.
+ghost use Rattle.std.specs.Prelude.{◌≡◌, ◌==◌, [], length, take, IfOk, IfErr, true, false};
+ghost use Rattle.std.specs.List.{flat_map, list_all};
+ghost use Rattle.fabric.specs.Hands.{DeclinesPut, DeclinesTake, HasPut, HasTaken, SamePut, SameTake, take_view};
+ghost use Rattle.fabric.specs.Owned.{all_there, cleared};
+
+use crate::burst::Burst;
+use crate::carried::are_single;
+use crate::hand::{Hand, PutOpen, SettleFault, Share, TakeSpan};
+use crate::owned::Owned;
+use crate::settle::is_count;
+use crate::tagged::Tagged;
+
+/// Whether items may be put on a ring: they carry buffers that are marked, none twice, and on a free ring exactly one
+/// each. The row is then without them; else nothing changes.
+fn may_put<T: Tagged, const N: usize>(owned: &mut Owned, free: bool, items: &Burst<T, N>) -> bool
+    ensures mine { result ≡ true → (owned.new ≡ cleared owned.old (flat_map T.numbers items.now))
+        × (all_there owned.old (flat_map T.numbers items.now) ≡ true)
+        × (free ≡ true → list_all (λ x. length (T.numbers x) == 1) items.now ≡ true) }
+    ensures kept { result ≡ false → owned.new ≡ owned.old }
+    ensures other { result ≡ false → all_there owned.old (flat_map T.numbers items.now) ≡ true
+        → (free ≡ true) × (list_all (λ x. length (T.numbers x) == 1) items.now ≡ false) }
+{
+    if free && !are_single(items) {
+        return false;
+    }
+    owned.disown(items)
+}
+
+impl<'f, T: Tagged, const N: usize> PutOpen<'f, T, N> {
+    /// The first position of the span.
+    pub fn start(&self) -> u64
+        ensures { result ≡ self.now.start }
+    {
+        self.start
+    }
+
+    /// How many positions the span has, 1 to `N`.
+    #[inline]
+    pub fn count(&self) -> usize
+        ensures { result ≡ self.now.count }
+    {
+        self.count
+    }
+
+    /// How many positions more were free as the span was reserved.
+    pub fn left(&self) -> u64
+        ensures { result ≡ self.now.left }
+    {
+        self.left
+    }
+
+    /// Tries once to publish the items at the positions of the span: on a multi side as many as it has, on an HTS side
+    /// at most so many, and the others are given up. One step on a word at most. The burst is empty then; at a refusal
+    /// it is as it was, and the span stays open.
+    ///
+    /// Refused, in the order of the tests: `BadCount`, `NotYours`, before any step; `NotYet`.
+    pub fn try_settle_from(
+        self,
+        items: &mut Burst<T, N>,
+    ) -> Result<Hand<T>, (PutOpen<'f, T, N>, SettleFault)>
+        ensures done { IfOk result (λ h. HasPut self.entry items.old h × (items.new ≡ [])) }
+        ensures refused { IfErr result (λ e. SamePut self.entry e.0 × (items.new ≡ items.old)
+            × DeclinesPut T.numbers self.entry items.old e.0 e.1) }
+    {
+        if !is_count(self.shape.plan.put, items.len(), self.count) {
+            return Err((self, SettleFault::BadCount));
+        }
+        let PutOpen {
+            fabric,
+            share,
+            ring,
+            shape,
+            start,
+            count,
+            left,
+        } = self;
+        let Share {
+            mut seat,
+            mut owned,
+            parts,
+        } = share;
+        if !may_put(&mut owned, shape.plan.free, items) {
+            let span = PutOpen {
+                fabric,
+                share: Share { seat, owned, parts },
+                ring,
+                shape,
+                start,
+                count,
+                left,
+            };
+            return Err((span, SettleFault::NotYours));
+        }
+        let Some(tail) = fabric.publish(&mut seat, ring, &shape, start, count, &mut items.cells)
+        else {
+            return Ok(Hand {
+                share: Share { seat, owned, parts },
+            });
+        };
+        owned.own(items, items.len());
+        let span = PutOpen {
+            fabric,
+            share: Share { seat, owned, parts },
+            ring,
+            shape,
+            start,
+            count,
+            left,
+        };
+        Err((span, SettleFault::NotYet(tail)))
+    }
+}
+
+impl<'f, T: Tagged, const N: usize> TakeSpan<'f, T, N> {
+    /// The first position of the span.
+    pub fn start(&self) -> u64
+        ensures { result ≡ self.now.start }
+    {
+        self.start
+    }
+
+    /// How many positions the span has, 1 to `N`.
+    #[inline]
+    pub fn count(&self) -> usize
+        ensures { result ≡ self.now.count }
+    {
+        self.count
+    }
+
+    /// How many items more were queued as the span was reserved.
+    pub fn left(&self) -> u64
+        ensures { result ≡ self.now.left }
+    {
+        self.left
+    }
+
+    /// Tries once to take the items at the first `k` positions of the span: on a multi side all, on an HTS side any
+    /// number, and the other items are queued again. One step on a word at most. The burst, as the start filled it,
+    /// then has the items that were taken; at a refusal it is as it was, and the span stays open. Asked: the burst has
+    /// the items that the start showed.
+    ///
+    /// Refused, in the order of the tests: `BadCount`, before any step; `NotYet`.
+    pub fn try_settle_with(
+        self,
+        k: usize,
+        items: &mut Burst<T, N>,
+    ) -> Result<Hand<T>, (TakeSpan<'f, T, N>, SettleFault)>
+        requires shows { items.old ≡ (take_view self).shown }
+        ensures done { IfOk result (λ h. HasTaken self.entry k items.old h × (items.new ≡ take k items.old)) }
+        ensures refused { IfErr result (λ e. SameTake self.entry e.0 × (items.new ≡ items.old)
+            × DeclinesTake T.numbers self.entry k items.old e.0 e.1) }
+    {
+        if !is_count(self.shape.plan.take, k, self.count) {
+            return Err((self, SettleFault::BadCount));
+        }
+        let TakeSpan {
+            fabric,
+            share,
+            ring,
+            shape,
+            start,
+            count,
+            left,
+        } = self;
+        let Share {
+            mut seat,
+            mut owned,
+            parts,
+        } = share;
+        let Some(tail) = fabric.dequeue(&mut seat, ring, &shape, start, k, &mut items.cells) else {
+            owned.own(items, items.len());
+            return Ok(Hand {
+                share: Share { seat, owned, parts },
+            });
+        };
+        let span = TakeSpan {
+            fabric,
+            share: Share { seat, owned, parts },
+            ring,
+            shape,
+            start,
+            count,
+            left,
+        };
+        Err((span, SettleFault::NotYet(tail)))
+    }
+}

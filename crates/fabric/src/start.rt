@@ -1,0 +1,268 @@
+//! Reserving a span: a look, a question for room, and an exchange of the own word.
+ghost use Rattle.std.specs.Prelude.{◌≡◌, ◌≢◌, ◌+◌, ◌%◌, ◌<◌, ◌≤◌, ◌⊎◌, [], length, slice_get, None, Some, IfOk, IfErr};
+ghost use Rattle.std.specs.Prelude.{true, false};
+ghost use Rattle.geom.specs.declared.plan.Mode.TheVariants.{Hts};
+ghost use Rattle.geom.specs.declared.word.TheConstants.{LAST, RESERVED};
+ghost use Rattle.geom.specs.declared.plan.RingPlan.{RingPlan};
+ghost use Rattle.geom.specs.declared.plan.Side.TheVariants.{Put, Take};
+ghost use Rattle.geom.specs.Plan.{granted, mode_of};
+ghost use Rattle.fabric_laws.specs.Changes.{found_busy};
+ghost use Rattle.fabric.specs.Hands.{IsHandOf, OnRing, put_view, rings_of, take_view, view};
+ghost use Rattle.fabric.specs.Owned.{count_true};
+ghost use Rattle.fabric.specs.Starts.{Denies, Probes, Refuses, Starts};
+ghost use Rattle.fabric.specs.Views.{IsKept};
+
+use crate::burst::Burst;
+use crate::fabric::Fabric;
+use crate::hand::{Hand, PutOpen, Share, StartFault, TakeSpan};
+use crate::owned::Owned;
+use crate::plan::Shape;
+use crate::steps::position;
+use crate::tagged::Tagged;
+use atomic_table::Seat;
+use fabric_laws::View;
+use geom::{How, LAST, Mode, RESERVED, Side};
+
+/// What a start found: the own word and the position in it, how far the other side is settled, and the room between
+/// them.
+#[derive(Clone, Copy)]
+pub struct Probe {
+    pub(crate) word: u64,
+    pub(crate) start: u64,
+    pub(crate) tail: u64,
+    pub(crate) room: u64,
+}
+
+/// Whether a word shows a reservation of a head/tail-sync side.
+#[inline]
+fn is_busy(mode: Mode, word: u64) -> bool
+    ensures busy { result ≡ true → (mode ≡ Hts) × (word % RESERVED ≢ 0) }
+    ensures idle { result ≡ false → mode ≡ Hts → word % RESERVED ≡ 0 }
+{
+    match mode {
+        Mode::Multi => false,
+        Mode::Hts => word % RESERVED != 0,
+    }
+}
+
+/// Whether a put of `n` is no lawful request.
+fn is_bad_count(shape: &Shape, owned: &Owned, n: usize, most: usize) -> bool
+    ensures bad { result ≡ true → (n ≡ 0) ⊎ ((most < n) ⊎ ((shape.now.plan.free ≡ true) × (count_true owned.now < n))) }
+    ensures good { result ≡ false → (0 < n) × (n ≤ most) × (shape.now.plan.free ≡ true → n ≤ count_true owned.now) }
+{
+    if n == 0 || n > most {
+        return true;
+    }
+    shape.plan.free && n > owned.count()
+}
+
+/// How many positions to reserve.
+fn measure(how: How, n: usize, start: u64, room: u64) -> Result<usize, StartFault>
+    requires { start ≤ LAST }
+    ensures ok { IfOk result (λ m. (m ≡ granted how n room) × (0 < m) × (m ≤ n) × (m ≤ room) × (start + m ≤ LAST)) }
+    ensures err { IfErr result (λ e. Denies how n start room e) }
+{
+    let count = how.granted(n as u64, room);
+    if count == 0 {
+        return Err(StartFault::NoRoom(room));
+    }
+    if count > LAST - start {
+        return Err(StartFault::Worn);
+    }
+    Ok(count as usize)
+}
+
+impl<T: Tagged, const N: usize> Fabric<T, N> {
+    /// Looks at a side and asks for its room: two steps on words, or one where the side is busy. Answers the word found
+    /// where it is.
+    pub(crate) fn probe(
+        &self,
+        seat: &mut Seat<Option<T>, View<T>>,
+        ring: usize,
+        shape: &Shape,
+        side: Side,
+    ) -> Result<Probe, u64>
+        requires fabric { seat.old.table_id ≡ self.now.table.shared.table_id }
+        requires ring { slice_get self.now.plan.rings.items ring ≡ Some shape.now.plan }
+        requires plans { seat.old.me.0.plans ≡ self.now.plan.rings.items }
+        requires alive { 0 < seat.old.me.0.parts }
+        requires idle { seat.old.me.0.party.span ≡ None }
+        ensures fabric { (seat.new.table_id ≡ seat.old.table_id) × (seat.new.id ≡ seat.old.id)
+            × (seat.new.me.1 ≡ seat.old.me.1) }
+        ensures found { IfOk result (λ q. Probes T.numbers ring side shape.now.plan seat.old.me.0 q seat.new.me.0) }
+        ensures busy { IfErr result (λ x. (mode_of shape.now.plan side ≡ Hts) × (x % RESERVED ≢ 0)
+            × (seat.new.me.0 ≡ found_busy seat.old.me.0)) }
+    {
+        let mode = shape.plan.mode(side);
+        let word = self.look(seat, ring, shape, side);
+        if is_busy(mode, word) {
+            return Err(word);
+        }
+        let tail = self.ask(seat, ring, shape, side, word);
+        let start = position(mode, word);
+        let capacity = shape.plan.geometry.capacity();
+        let room = match side {
+            Side::Put => tail + capacity - start,
+            Side::Take => tail - start,
+        };
+        Ok(Probe {
+            word,
+            start,
+            tail,
+            room,
+        })
+    }
+
+    /// What a start does before it reserves: it tells how many positions to reserve, and from where.
+    fn aim(
+        &self,
+        seat: &mut Seat<Option<T>, View<T>>,
+        ring: usize,
+        shape: &Shape,
+        side: Side,
+        n: usize,
+        how: How,
+    ) -> Result<(Probe, usize), StartFault>
+        requires fabric { seat.old.table_id ≡ self.now.table.shared.table_id }
+        requires ring { slice_get self.now.plan.rings.items ring ≡ Some shape.now.plan }
+        requires plans { seat.old.me.0.plans ≡ self.now.plan.rings.items }
+        requires alive { 0 < seat.old.me.0.parts }
+        requires idle { seat.old.me.0.party.span ≡ None }
+        ensures fabric { (seat.new.table_id ≡ seat.old.table_id) × (seat.new.id ≡ seat.old.id)
+            × (seat.new.me.1 ≡ seat.old.me.1) }
+        ensures kept { IsKept seat.old.me.0 seat.new.me.0 }
+        ensures ok { IfOk result (λ a. Probes T.numbers ring side shape.now.plan seat.old.me.0 a.0 seat.new.me.0
+            × (a.1 ≡ granted how n a.0.room) × (0 < a.1) × (a.1 ≤ n) × (a.1 ≤ a.0.room) × (a.0.start + a.1 ≤ LAST)) }
+        ensures err { IfErr result
+            (λ e. Refuses T.numbers N how n ring side shape.now.plan seat.old.me.0 seat.new.me.0 e) }
+    {
+        let probe = match self.probe(seat, ring, shape, side) {
+            Ok(probe) => probe,
+            Err(word) => return Err(StartFault::Busy(word)),
+        };
+        let count = measure(how, n, probe.start, probe.room)?;
+        Ok((probe, count))
+    }
+
+    /// Tries once to reserve a span of positions for a put: by bulk `n` of them, by burst at most `n`. At most three
+    /// steps on words.
+    ///
+    /// Refused, in the order of the tests: `BadCount` where `n` is 0 or above `N`, or above the number of the hand's
+    /// buffers on a free ring, before any step; `Busy`; `NoRoom`, never on a free ring; `Worn`; `Contended`. The hand
+    /// comes back.
+    pub fn try_start_put(
+        &self,
+        hand: Hand<T>,
+        ring: usize,
+        n: usize,
+        how: How,
+    ) -> Result<PutOpen<'_, T, N>, (Hand<T>, StartFault)>
+        requires hand { IsHandOf self.now hand }
+        requires ring { ring < length (rings_of self.now) }
+        ensures started { IfOk result (λ o. (o.fabric.now ≡ self.now) × (o.ring ≡ ring)
+            × OnRing self.now ring (λ plan. Starts T.numbers how n ring Put plan (view hand)
+            o.start o.count o.left [] (put_view o))) }
+        ensures refused { IfErr result (λ e. IsHandOf self.now e.0
+            × OnRing self.now ring (λ plan. Refuses T.numbers N how n ring Put plan (view hand) (view e.0) e.1)) }
+    {
+        let shape = self.shapes[ring];
+        if is_bad_count(&shape, &hand.share.owned, n, N) {
+            return Err((hand, StartFault::BadCount));
+        }
+        let Hand { share } = hand;
+        let Share {
+            mut seat,
+            owned,
+            parts,
+        } = share;
+        let (probe, count) = match self.aim(&mut seat, ring, &shape, Side::Put, n, how) {
+            Ok(aim) => aim,
+            Err(fault) => return Err((
+                Hand {
+                    share: Share { seat, owned, parts },
+                },
+                fault,
+            )),
+        };
+        let found = self.reserve_put(&mut seat, ring, &shape, probe.word, count);
+        if found != probe.word {
+            return Err((
+                Hand {
+                    share: Share { seat, owned, parts },
+                },
+                StartFault::Contended(found),
+            ));
+        }
+        Ok(PutOpen {
+            fabric: self,
+            share: Share { seat, owned, parts },
+            ring,
+            shape,
+            start: probe.start,
+            count,
+            left: probe.room - count as u64,
+        })
+    }
+
+    /// Tries once to reserve a span of positions for a take: by bulk `n` of them, by burst at most `n`. Its items go
+    /// into an empty burst at once; they stay queued until the span is settled. At most three steps on words.
+    ///
+    /// Refused, in the order of the tests: `BadCount` where `n` is 0 or above `N`, before any step; `Busy`; `NoRoom`;
+    /// `Worn`; `Contended`. The hand comes back, and the burst stays empty.
+    pub fn try_start_take_span(
+        &self,
+        hand: Hand<T>,
+        ring: usize,
+        n: usize,
+        how: How,
+        into: &mut Burst<T, N>,
+    ) -> Result<TakeSpan<'_, T, N>, (Hand<T>, StartFault)>
+        requires hand { IsHandOf self.now hand }
+        requires ring { ring < length (rings_of self.now) }
+        requires empty { into.old ≡ [] }
+        ensures started { IfOk result (λ o. (o.fabric.now ≡ self.now) × (o.ring ≡ ring)
+            × (into.new ≡ (take_view o).shown) × OnRing self.now ring (λ plan. Starts T.numbers how n ring Take plan
+            (view hand) o.start o.count o.left into.new (take_view o))) }
+        ensures refused { IfErr result (λ e. IsHandOf self.now e.0 × (into.new ≡ [])
+            × OnRing self.now ring (λ plan. Refuses T.numbers N how n ring Take plan (view hand) (view e.0) e.1)) }
+    {
+        let shape = self.shapes[ring];
+        if n == 0 || n > N {
+            return Err((hand, StartFault::BadCount));
+        }
+        let Hand { share } = hand;
+        let Share {
+            mut seat,
+            owned,
+            parts,
+        } = share;
+        let (probe, count) = match self.aim(&mut seat, ring, &shape, Side::Take, n, how) {
+            Ok(aim) => aim,
+            Err(fault) => return Err((
+                Hand {
+                    share: Share { seat, owned, parts },
+                },
+                fault,
+            )),
+        };
+        let found = self.reserve_take(&mut seat, ring, &shape, probe.word, count);
+        if found != probe.word {
+            return Err((
+                Hand {
+                    share: Share { seat, owned, parts },
+                },
+                StartFault::Contended(found),
+            ));
+        }
+        self.withdraw(&mut seat, ring, &shape, probe.start, count, &mut into.cells);
+        Ok(TakeSpan {
+            fabric: self,
+            share: Share { seat, owned, parts },
+            ring,
+            shape,
+            start: probe.start,
+            count,
+            left: probe.room - count as u64,
+        })
+    }
+}

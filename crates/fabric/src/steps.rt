@@ -1,0 +1,267 @@
+//! The kinds of step on a word, each as a function: what it finds, and what it changes of its hand's view.
+ghost use Rattle.std.specs.Prelude.{◌≡◌, ◌≢◌, ◌+◌, ◌*◌, ◌<◌, ◌≤◌, ℕ, [], ◌++◌, List, length, map, replicate, slice_get};
+ghost use Rattle.std.specs.Prelude.{take, None, Some, true};
+ghost use Rattle.geom.specs.declared.plan.Mode.TheVariants.{Hts, Multi};
+ghost use Rattle.geom.specs.declared.plan.Side.{Side};
+ghost use Rattle.geom.specs.declared.plan.Side.TheVariants.{Put, Take};
+ghost use Rattle.geom.specs.declared.word.TheConstants.{LAST, RESERVED};
+ghost use Rattle.geom.specs.Plan.{mode_of};
+ghost use Rattle.ringcore_laws.specs.declared.protocol.Observed.{Observed};
+ghost use Rattle.ringcore_laws.specs.declared.protocol.Span.{Span};
+ghost use Rattle.ringcore_laws.specs.FreeRings.{AreSingle, buffers_of};
+ghost use Rattle.ringcore_laws.specs.History.{other_side, position_of};
+ghost use Rattle.ringcore_laws.specs.Moves.{Owns};
+ghost use Rattle.fabric_laws.specs.Changes.{after_look, asked, missed, reserved, settled};
+ghost use Rattle.fabric_laws.specs.Kinds.{HasRoom, IsHeldOnce, IsNear, IsReady, ReadsBack, run};
+ghost use Rattle.fabric.specs.Views.{HasLooked, HasSeen, span_of};
+ghost use Rattle.fabric_laws.specs.Words.{own_at, settled_at, slot_at, tail_at};
+
+use crate::fabric::Fabric;
+use crate::plan::Shape;
+use crate::plays::{Asks, Looks, ReservesPut, ReservesTake, Settles, Stores};
+use crate::tagged::Tagged;
+use atomic_table::Seat;
+use fabric_laws::View;
+use geom::{Mode, RESERVED, Side};
+
+/// The word by which a side is reserved.
+fn own_word(ring: usize, side: Side) -> usize
+    requires { ring < 64 }
+    ensures { result ≡ own_at ring side }
+{
+    match side {
+        Side::Put => 64 * ring,
+        Side::Take => 64 * ring + 32,
+    }
+}
+
+/// The tail of a multi side.
+fn tail_word(ring: usize, side: Side) -> usize
+    requires { ring < 64 }
+    ensures { result ≡ tail_at ring side }
+{
+    match side {
+        Side::Put => 64 * ring + 16,
+        Side::Take => 64 * ring + 48,
+    }
+}
+
+/// The word that shows how far a side is settled.
+fn settled_word(mode: Mode, ring: usize, side: Side) -> usize
+    requires { ring < 64 }
+    ensures { result ≡ settled_at mode ring side }
+{
+    match mode {
+        Mode::Multi => tail_word(ring, side),
+        Mode::Hts => own_word(ring, side),
+    }
+}
+
+fn opposite(side: Side) -> Side
+    ensures { result ≡ other_side side }
+{
+    match side {
+        Side::Put => Side::Take,
+        Side::Take => Side::Put,
+    }
+}
+
+/// The position in a word that was found: the word itself, or on an HTS side its upper part.
+pub(crate) fn position(mode: Mode, word: u64) -> u64
+    ensures { result ≡ position_of mode word }
+{
+    match mode {
+        Mode::Multi => word,
+        Mode::Hts => word / RESERVED,
+    }
+}
+
+impl<T: Tagged, const N: usize> Fabric<T, N> {
+    /// Look: loads the own word of a side.
+    pub(crate) fn look(
+        &self,
+        seat: &mut Seat<Option<T>, View<T>>,
+        ring: usize,
+        shape: &Shape,
+        side: Side,
+    ) -> u64
+        requires fabric { seat.old.table_id ≡ self.now.table.shared.table_id }
+        requires ring { slice_get self.now.plan.rings.items ring ≡ Some shape.now.plan }
+        requires plans { seat.old.me.0.plans ≡ self.now.plan.rings.items }
+        requires alive { 0 < seat.old.me.0.parts }
+        ensures fabric { (seat.new.table_id ≡ seat.old.table_id) × (seat.new.id ≡ seat.old.id) }
+        ensures view { (seat.new.me.0 ≡ after_look (mode_of shape.now.plan side) ring side result seat.old.me.0)
+            × (seat.new.me.1 ≡ seat.old.me.1) }
+        ensures reads_back { ReadsBack ring side (position_of (mode_of shape.now.plan side) result) seat.old.me.0 }
+        ensures last { position_of (mode_of shape.now.plan side) result ≤ LAST }
+    {
+        self.table.shared.load::<Looks>(seat, own_word(ring, side))
+    }
+
+    /// Room: loads the word that shows how far the other side is settled, and gives that position.
+    pub(crate) fn ask(
+        &self,
+        seat: &mut Seat<Option<T>, View<T>>,
+        ring: usize,
+        shape: &Shape,
+        side: Side,
+        word: u64,
+    ) -> u64
+        requires fabric { seat.old.table_id ≡ self.now.table.shared.table_id }
+        requires ring { slice_get self.now.plan.rings.items ring ≡ Some shape.now.plan }
+        requires plans { seat.old.me.0.plans ≡ self.now.plan.rings.items }
+        requires alive { 0 < seat.old.me.0.parts }
+        requires idle { seat.old.me.0.party.span ≡ None }
+        requires looked { HasLooked ring side word seat.old.me.0 }
+        ensures fabric { (seat.new.table_id ≡ seat.old.table_id) × (seat.new.id ≡ seat.old.id) }
+        ensures view { (seat.new.me.0 ≡ asked result seat.old.me.0) × (seat.new.me.1 ≡ seat.old.me.1) }
+        ensures reads_back { ReadsBack ring (other_side side) result seat.old.me.0 }
+        ensures last { result ≤ LAST }
+        ensures near { IsNear side shape.now.plan.geometry.capacity
+            (position_of (mode_of shape.now.plan side) word) result }
+        ensures room { HasRoom T.numbers side shape.now.plan
+            (position_of (mode_of shape.now.plan side) word) result seat.old.me.0 }
+    {
+        let other = opposite(side);
+        let mode = shape.plan.mode(other);
+        let found = self
+            .table
+            .shared
+            .load::<Asks>(seat, settled_word(mode, ring, other));
+        position(mode, found)
+    }
+
+    /// Reserve of the put side: moves its own word from the one looked at past `count` positions, whose slots come to
+    /// the hand.
+    pub(crate) fn reserve_put(
+        &self,
+        seat: &mut Seat<Option<T>, View<T>>,
+        ring: usize,
+        shape: &Shape,
+        word: u64,
+        count: usize,
+    ) -> u64
+        requires fabric { seat.old.table_id ≡ self.now.table.shared.table_id }
+        requires ring { slice_get self.now.plan.rings.items ring ≡ Some shape.now.plan }
+        requires plans { (seat.old.me.0.plans ≡ self.now.plan.rings.items)
+            × (seat.old.me.0.pool ≡ self.now.plan.buffers) }
+        requires alive { 0 < seat.old.me.0.parts }
+        requires idle { seat.old.me.0.party.span ≡ None }
+        requires seen { (t : ℕ) × HasSeen ring Put word t seat.old.me.0
+            × (position_of shape.now.plan.put word + count ≤ shape.now.plan.geometry.capacity + t) }
+        requires some { 0 < count }
+        requires last { position_of shape.now.plan.put word + count ≤ LAST }
+        requires few { shape.now.plan.free ≡ true
+            → count ≤ buffers_of T.numbers seat.old.me.0.pool seat.old.me.0.party }
+        ensures fabric { (seat.new.table_id ≡ seat.old.table_id) × (seat.new.id ≡ seat.old.id) }
+        ensures won { let start = position_of shape.now.plan.put word in result ≡ word
+            → (seat.new.me.0 ≡ reserved (span_of ring Put start count) [] seat.old.me.0)
+            × (seat.new.me.1 ≡ run (slot_at self.now.plan.rings.items ring shape.now.plan) start
+            (replicate count None) ++ seat.old.me.1) }
+        ensures lost { result ≢ word → (seat.new.me.0 ≡ missed result seat.old.me.0) × (seat.new.me.1 ≡ seat.old.me.1) }
+    {
+        self.table
+            .shared
+            .compare_exchange::<ReservesPut>(
+                seat,
+                own_word(ring, Side::Put),
+                word,
+                word + count as u64,
+            )
+    }
+
+    /// Reserve of the take side: the slots come to the hand with the items that are published there.
+    pub(crate) fn reserve_take(
+        &self,
+        seat: &mut Seat<Option<T>, View<T>>,
+        ring: usize,
+        shape: &Shape,
+        word: u64,
+        count: usize,
+    ) -> u64
+        requires fabric { seat.old.table_id ≡ self.now.table.shared.table_id }
+        requires ring { slice_get self.now.plan.rings.items ring ≡ Some shape.now.plan }
+        requires plans { seat.old.me.0.plans ≡ self.now.plan.rings.items }
+        requires alive { 0 < seat.old.me.0.parts }
+        requires idle { seat.old.me.0.party.span ≡ None }
+        requires seen { (t : ℕ) × HasSeen ring Take word t seat.old.me.0
+            × (position_of shape.now.plan.take word + count ≤ t) }
+        requires some { 0 < count }
+        requires last { position_of shape.now.plan.take word + count ≤ LAST }
+        ensures fabric { (seat.new.table_id ≡ seat.old.table_id) × (seat.new.id ≡ seat.old.id) }
+        ensures won { let start = position_of shape.now.plan.take word in result ≡ word
+            → (items : List T) × (length items ≡ count)
+            × (seat.new.me.0 ≡ reserved (span_of ring Take start count) items seat.old.me.0)
+            × (seat.new.me.1 ≡ run (slot_at self.now.plan.rings.items ring shape.now.plan) start (map Some items)
+            ++ seat.old.me.1) }
+        ensures lost { result ≢ word → (seat.new.me.0 ≡ missed result seat.old.me.0) × (seat.new.me.1 ≡ seat.old.me.1) }
+    {
+        self.table.shared.compare_exchange::<ReservesTake>(
+            seat,
+            own_word(ring, Side::Take),
+            word,
+            word + count as u64,
+        )
+    }
+
+    /// Settle of a multi side: moves its tail from the start of the open span to its end, and the slots go home.
+    pub(crate) fn settle(
+        &self,
+        seat: &mut Seat<Option<T>, View<T>>,
+        ring: usize,
+        shape: &Shape,
+        side: Side,
+        start: u64,
+        count: usize,
+    ) -> u64
+        requires fabric { seat.old.table_id ≡ self.now.table.shared.table_id }
+        requires ring { slice_get self.now.plan.rings.items ring ≡ Some shape.now.plan }
+        requires alive { 0 < seat.old.me.0.parts }
+        requires multi { mode_of shape.now.plan side ≡ Multi }
+        requires last { start + count ≤ LAST }
+        requires ready { (items : List T) × (length items ≡ count)
+            × IsReady T.numbers self.now.plan.rings.items shape.now.plan
+            (span_of ring side start count) items seat.old.me }
+        ensures fabric { (seat.new.table_id ≡ seat.old.table_id) × (seat.new.id ≡ seat.old.id) }
+        ensures won { (items : List T) → length items ≡ count → let span = span_of ring side start count in
+            IsReady T.numbers self.now.plan.rings.items shape.now.plan span items seat.old.me → result ≡ start
+            → (seat.new.me.0 ≡ settled span items seat.old.me.0) × (seat.new.me.1 ≡ [])
+            × IsHeldOnce T.numbers seat.new.me.0.pool seat.new.me.0.party }
+        ensures lost { result ≢ start → (seat.new.me.0 ≡ missed result seat.old.me.0)
+            × (seat.new.me.1 ≡ seat.old.me.1) × (result < start) }
+    {
+        self.table
+            .shared
+            .compare_exchange::<Settles>(seat, tail_word(ring, side), start, start + count as u64)
+    }
+
+    /// Settle of an HTS side: stores its word, by which the first `k` positions of the open span are settled, and the
+    /// slots go home.
+    pub(crate) fn store(
+        &self,
+        seat: &mut Seat<Option<T>, View<T>>,
+        ring: usize,
+        shape: &Shape,
+        side: Side,
+        start: u64,
+        k: usize,
+    )
+        requires fabric { seat.old.table_id ≡ self.now.table.shared.table_id }
+        requires ring { slice_get self.now.plan.rings.items ring ≡ Some shape.now.plan }
+        requires alive { 0 < seat.old.me.0.parts }
+        requires hts { mode_of shape.now.plan side ≡ Hts }
+        requires last { start + k ≤ LAST }
+        requires ready { (items : List T) × (count : ℕ) × (length items ≡ k)
+            × IsReady T.numbers self.now.plan.rings.items shape.now.plan
+            (span_of ring side start count) items seat.old.me }
+        ensures fabric { (seat.new.table_id ≡ seat.old.table_id) × (seat.new.id ≡ seat.old.id) }
+        ensures done { (items : List T) (count : ℕ) → length items ≡ k → let span = span_of ring side start count in
+            IsReady T.numbers self.now.plan.rings.items shape.now.plan span items seat.old.me
+            → (seat.new.me.0 ≡ settled span items seat.old.me.0) × (seat.new.me.1 ≡ [])
+            × IsHeldOnce T.numbers seat.new.me.0.pool seat.new.me.0.party }
+    {
+        self.table
+            .shared
+            .store::<Stores>(seat, own_word(ring, side), (start + k as u64) * RESERVED);
+    }
+}

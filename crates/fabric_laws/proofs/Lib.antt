@@ -1,0 +1,13 @@
+pub mod Slots
+pub mod Views
+pub mod Cells
+pub mod Homes
+pub mod Truths
+pub mod Lanes
+pub mod Steps
+pub mod Loads
+pub mod Reserves
+pub mod Settles
+pub mod Hands
+pub mod Openings
+pub mod Learning

@@ -1,0 +1,4 @@
+pub mod Words
+pub mod Changes
+pub mod Rule
+pub mod Kinds
