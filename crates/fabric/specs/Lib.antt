@@ -8,3 +8,5 @@ pub mod Starts
 pub mod Settles
 pub mod Hands
 pub mod Making
+pub mod Closing
+pub mod Closed

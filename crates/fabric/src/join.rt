@@ -2,6 +2,7 @@
 ghost use Rattle.std.specs.Prelude.{◌≡◌, ◌+◌, ◌≤◌, ℕ};
 ghost use Rattle.ringcore_laws.specs.Sound.{holds};
 ghost use Rattle.fabric_laws.specs.Changes.{both};
+ghost use Rattle.fabric_laws.specs.Closing.{IsWhole};
 ghost use Rattle.fabric_laws.specs.Kinds.{IsApart};
 ghost use Rattle.fabric.specs.Hands.{IsHandOf, rings_of, view};
 
@@ -13,12 +14,14 @@ use crate::tagged::Tagged;
 impl<T: Tagged> Hand<T> {
     /// One hand that has the spans, the buffers and the parts of both. What they hold together doesn't clash: no buffer
     /// is owned by both, no position is in settled spans of both on one side, and an item that one published and the
-    /// other took is the same. Takes no memory, and makes no step that counts.
+    /// other took is the same. A hand that has all parts then is the only one: its spans and buffers are all that there
+    /// are. Takes no memory, and makes no step that counts.
     pub fn join<const N: usize>(self, fabric: &Fabric<T, N>, other: Hand<T>) -> Hand<T>
         requires hand { IsHandOf fabric.now self }
         requires other { IsHandOf fabric.now other }
         ensures hand { IsHandOf fabric.now result × (view result ≡ both (view self) (view other)) }
         ensures once { (b : ℕ) → holds T.numbers b (view self).party + holds T.numbers b (view other).party ≤ 1 }
+        ensures whole { IsWhole T.numbers (view result) }
         ensures apart { IsApart (rings_of fabric.now) (view result).party }
     {
         let Hand { share } = self;

@@ -5,6 +5,8 @@
 mod about;
 mod burst;
 mod carried;
+mod close;
+mod closed;
 mod fabric;
 mod hand;
 mod join;
@@ -20,10 +22,13 @@ mod split;
 mod start;
 mod steps;
 mod tagged;
+mod take;
 #[cfg(test)]
 mod tests;
+mod values;
 
 pub use burst::Burst;
+pub use closed::Closed;
 pub use fabric::Fabric;
 pub use hand::{Hand, PutOpen, SettleFault, Share, StartFault, TakeSpan};
 pub use make::{OpenFault, Opened};
@@ -31,3 +36,4 @@ pub use plan::{FabricPlan, Shape};
 pub use split::SplitFault;
 pub use start::Probe;
 pub use tagged::Tagged;
+pub use take::TakeOpen;

@@ -25,7 +25,7 @@ use fabric_laws::View;
 use geom::{Mode, RESERVED, Side};
 
 /// The word by which a side is reserved.
-fn own_word(ring: usize, side: Side) -> usize
+pub(crate) fn own_word(ring: usize, side: Side) -> usize
     requires { ring < 64 }
     ensures { result ≡ own_at ring side }
 {
@@ -47,7 +47,7 @@ fn tail_word(ring: usize, side: Side) -> usize
 }
 
 /// The word that shows how far a side is settled.
-fn settled_word(mode: Mode, ring: usize, side: Side) -> usize
+pub(crate) fn settled_word(mode: Mode, ring: usize, side: Side) -> usize
     requires { ring < 64 }
     ensures { result ≡ settled_at mode ring side }
 {

@@ -1,4 +1,7 @@
 //! An item with one number, and each call of a burst once.
+mod calls;
+mod closing;
+mod rows;
 mod threads;
 
 use crate::{Burst, Tagged};

@@ -1,11 +1,10 @@
 -- What a hand may learn of itself at any moment: what it holds doesn't clash, also where two hands were made one
 use Rattle.std.proofs.Common.{◌≡◌, ℕ, zero, suc, ◌+◌, ◌<◌, ◌≤◌, List, [], ◌∷◌, ◌++◌, length, refl, sym, ap, ◌∙◌, subst, arith, inl, inr, Option}
 use Rattle.std.specs.Prelude.{slice_get, slice_index_or, Some}
-use mathlib.Core.Option.{none, some, some-injective, some-ne-none}
+use mathlib.Core.Option.{none, some}
 use lib.ListN.{get_elem?}
-use Rattle.std.specs.List.{flat_map, range_with_len, sum_by}
+use Rattle.std.specs.List.{flat_map, range_with_len}
 use Rattle.std.proofs.lemmas.List.{length-append}
-use Rattle.std.proofs.lemmas.List.Sums.{sum_by-cons}
 use Rattle.atomic_table.specs.Table.{Allows, Me, keeps, step}
 use Rattle.geom.specs.declared.plan.Side.{Side}
 use Rattle.geom.specs.declared.plan.Side.TheVariants.{Put, Take}
@@ -17,9 +16,10 @@ use Rattle.ringcore_laws.proofs.RingLaws.{below_or_not, length-listed}
 use Rattle.fabric_laws.specs.declared.view.View.{View}
 use Rattle.fabric_laws.specs.Rule.{IsConsistent, parties_of}
 use Rattle.fabric_laws.specs.Kinds.{IsApart, IsHeldOnce, learn_tells}
+use Rattle.fabric_laws.proofs.Closing.{whole}
 use Rattle.fabric_laws.proofs.Cells.{get_left}
 use Rattle.fabric_laws.proofs.Steps.{St, held_once, ring_sound, stays}
-use Rattle.fabric_laws.proofs.Views.{party_here, party_within}
+use Rattle.fabric_laws.proofs.Views.{parts_within, party_here, party_within}
 
 -- parts of a list of lists
 
@@ -75,11 +75,6 @@ module _ {T : Type 0} where
       ∙ (get_left (listed takes) s.fifo.0 p (omega (arith, py.0, length-listed takes s.dequeued)) ∙ py.1)) in
       cc
 
-parts_within : {T : Type 0} (views : List (View T)) (id : ℕ) (v : View T) → get_elem? views id ≡ some v → v.parts ≤ sum_by (λ (u : View T). u.parts) views
-parts_within {T} [] id v e = absurd (some-ne-none v (sym e))
-parts_within {T} (x ∷ xs) zero v e = omega (arith, sum_by-cons (λ (u : View T). u.parts) x xs, ap (λ (u : View T). u.parts) (some-injective x v e))
-parts_within {T} (x ∷ xs) (suc id) v e = omega (arith, sum_by-cons (λ (u : View T). u.parts) x xs, parts_within xs id v e)
-
 module _ {T : Type 0} (tags : T → List ℕ) (plans : List RingPlan) (pool : ℕ) where
   module _ (s : St T) (c : IsConsistent tags plans pool s) (id : ℕ) (v : View T) (here : get_elem? s.views id ≡ some v) where
     abbrev parties : List (Party T)
@@ -123,5 +118,6 @@ module _ {T : Type 0} (tags : T → List ℕ) (plans : List RingPlan) (pool : �
           subst (λ (n : ℕ). IsHeldOnce tags n me.0.party) (sym told.1) (held_once tags plans pool s c id me.0 here),
           subst (λ (l : List RingPlan). IsApart l me.0.party) (sym told.0) (apart s c id me.0 here),
           omega (arith, c.parts, parts_within s.views id me.0 here),
+          whole tags plans pool s c id me.0 here,
         ),
       )

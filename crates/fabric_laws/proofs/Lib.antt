@@ -10,4 +10,6 @@ pub mod Reserves
 pub mod Settles
 pub mod Hands
 pub mod Openings
+pub mod Alone
+pub mod Closing
 pub mod Learning

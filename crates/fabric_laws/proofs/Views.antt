@@ -1,5 +1,5 @@
 -- The hands as parties, as one hand's view changes
-use Rattle.std.proofs.Common.{◌≡◌, ℕ, zero, suc, ◌+◌, ◌<◌, List, [], ◌∷◌, ◌++◌, length, set, sym, refl, ap, ◌∙◌, arith}
+use Rattle.std.proofs.Common.{◌≡◌, ℕ, zero, suc, ◌+◌, ◌<◌, ◌≤◌, List, [], ◌∷◌, ◌++◌, length, set, sym, refl, ap, ◌∙◌, arith}
 use Rattle.std.specs.Prelude.{slice_index_or}
 use mathlib.Core.Option.{some, some-injective, some-ne-none}
 use lib.ListN.{get_elem?}
@@ -42,3 +42,8 @@ pub sum_by_at : {X : Type 0} (f : X → ℕ) (xs : List X) (i : ℕ) (v w : X) �
 sum_by_at f [] i v w e = absurd (some-ne-none v (sym e))
 sum_by_at f (x ∷ xs) zero v w e = omega (arith, sum_by-cons f x xs, sum_by-cons f w xs, ap f (some-injective x v e))
 sum_by_at f (x ∷ xs) (suc i) v w e = omega (arith, sum_by-cons f x xs, sum_by-cons f x (set xs i w), sum_by_at f xs i v w e)
+
+pub parts_within : {T : Type 0} (views : List (View T)) (id : ℕ) (v : View T) → get_elem? views id ≡ some v → v.parts ≤ sum_by (λ (u : View T). u.parts) views
+parts_within {T} [] id v e = absurd (some-ne-none v (sym e))
+parts_within {T} (x ∷ xs) zero v e = omega (arith, sum_by-cons (λ (u : View T). u.parts) x xs, ap (λ (u : View T). u.parts) (some-injective x v e))
+parts_within {T} (x ∷ xs) (suc id) v e = omega (arith, sum_by-cons (λ (u : View T). u.parts) x xs, parts_within xs id v e)

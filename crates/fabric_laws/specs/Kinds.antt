@@ -23,6 +23,7 @@ use Rattle.fabric_laws.specs.declared.view.View.{View}
 use Rattle.fabric_laws.specs.Rule.{all_parts}
 use Rattle.fabric_laws.specs.Words.{own_at, settled_at, slot_at, tail_at}
 use Rattle.fabric_laws.specs.Changes.{after_look, asked, missed, reserved, settled}
+use Rattle.fabric_laws.specs.Closing.{IsWhole}
 
 -- slots of positions from p on, with these values
 abbrev pub run : {S : Type 0} → (ℕ → ℕ) → ℕ → List S → List (ℕ × S)
@@ -122,11 +123,11 @@ module _ {T : Type 0} where
     pub same : (r p : ℕ) (plan : RingPlan) (x y : T) → slice_get plans r ≡ Some plan
         → items_of r Put p party ≡ x ∷ [] → items_of r Take p party ≡ y ∷ [] → x ≡ y
 
-  -- Learn: a load of any word, uncounted, by which a hand learns that what it holds doesn't clash, and that it has no more parts than there
-  -- are. Nothing changes
+  -- Learn: a load of any word, uncounted, by which a hand learns that what it holds doesn't clash, that it has no more parts than there
+  -- are, and that it is the only one where it has all. Nothing changes
   abbrev pub learn_tells : (T → List ℕ) → Step (Option T) → Me (Option T) (View T) → ℕ → Me (Option T) (View T) → Type 0
   learn_tells tags st m x m' = (m'.0 ≡ m.0) × (m'.1 ≡ m.1) × IsHeldOnce tags m.0.pool m.0.party × IsApart m.0.plans m.0.party
-      × (m.0.parts ≤ all_parts)
+      × (m.0.parts ≤ all_parts) × IsWhole tags m.0
 
   -- Settle of a multi side: an exchange of its tail, by which the slots of the span go home. Lost, it found that an earlier span isn't
   -- settled

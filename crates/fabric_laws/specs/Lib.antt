@@ -1,4 +1,5 @@
 pub mod Words
 pub mod Changes
 pub mod Rule
+pub mod Closing
 pub mod Kinds

@@ -5,9 +5,10 @@
 
 ghost use Rattle.std.specs.Prelude.{◌≡◌, ◌+◌, ◌*◌, ◌<◌, ◌≤◌, ◌==◌, ℕ, List, None, Some, length, replicate, slice_get};
 ghost use Rattle.std.specs.Prelude.{true};
-ghost use mathlib.Core.Option.{none};
+ghost use lib.ListN.{get_elem?};
+ghost use mathlib.Core.Option.{none, some};
 ghost use prog.Atomic.{either};
-ghost use Rattle.atomic_table.specs.Table.{Allows, Joins, Me, Splits, opening, step};
+ghost use Rattle.atomic_table.specs.Table.{Allows, Joins, Me, Splits, State, opening, step};
 ghost use Rattle.std.specs.Prelude.{Option};
 ghost use Rattle.geom.specs.declared.plan.Mode.TheVariants.{Hts, Multi};
 ghost use Rattle.geom.specs.declared.plan.RingPlan.{RingPlan};
@@ -22,6 +23,7 @@ ghost use Rattle.ringcore_laws.specs.History.{other_side, position_of};
 ghost use Rattle.std.specs.List.{range_with_len};
 ghost use Rattle.fabric_laws.specs.declared.view.View.{View};
 ghost use Rattle.fabric_laws.specs.Changes.{both, kept, newborn, spent, split_off};
+ghost use Rattle.fabric_laws.specs.Closing.{IsWhole, LeavesQueue, LiesLeft};
 ghost use Rattle.fabric_laws.specs.Kinds.{IsReady, look_tells, reserve_put_tells, reserve_take_tells, room_tells};
 ghost use Rattle.fabric_laws.specs.Kinds.{learn_tells, settle_tells, store_tells};
 ghost use Rattle.fabric_laws.specs.Rule.{IsFitting, IsConsistent, all_parts};
@@ -94,6 +96,19 @@ pub fn a_load_that_learns_is_allowed<T>()
     ensures { (tags : T → List ℕ) (plans : List RingPlan) (pool slots id word : ℕ) (me : Me (Option T) (View T))
         → 0 < me.0.parts → Allows (IsConsistent tags plans pool) slots id me word (λ n. n)
         (learn_tells tags (step slots word 0 0 none) me) }
+{}
+
+/// At the end, whatever the hands did, the words show which positions of a ring are left: those of published items that
+/// no take has reserved. Each has its item in its slot. A hand that has all parts is then the only one, and where it
+/// has no open span, what is left is all that was published and not dequeued.
+pub fn what_is_left_lies_in_the_slots<T>()
+    ensures lies { (tags : T → List ℕ) (plans : List RingPlan) (pool : ℕ) (s : State (Option T) (View T))
+        → IsConsistent tags plans pool s → (r : ℕ) (plan : RingPlan) → slice_get plans r ≡ Some plan
+        → LiesLeft plans s r plan }
+    ensures whole { (tags : T → List ℕ) (plans : List RingPlan) (pool : ℕ) (s : State (Option T) (View T))
+        → IsConsistent tags plans pool s → (id : ℕ) (v : View T) → get_elem? s.views id ≡ some v
+        → IsWhole tags v × (v.party.span ≡ None → (r : ℕ) (plan : RingPlan) → slice_get plans r ≡ Some plan
+        → LeavesQueue s v r) }
 {}
 
 /// A hand may be split in two: the second knows the plan alone, and has half of the parts.

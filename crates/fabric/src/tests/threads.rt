@@ -47,7 +47,7 @@ fn taken<'f>(
 }
 
 /// Tries once to take at most `n` items.
-fn fetch(
+pub(super) fn fetch(
     f: &Fabric<Ticket, 8>,
     hand: Hand<Ticket>,
     ring: usize,
@@ -92,7 +92,7 @@ fn published<'f>(
 }
 
 /// Puts all items on a ring.
-fn pass(
+pub(super) fn pass(
     f: &Fabric<Ticket, 8>,
     mut hand: Hand<Ticket>,
     ring: usize,
@@ -240,7 +240,7 @@ fn note(seen: &mut Vec<bool>, got: &[u64]) -> bool {
     true
 }
 
-fn split(
+pub(super) fn split(
     f: &Fabric<Ticket, 8>,
     alloc: Global,
     hand: Hand<Ticket>,

@@ -1,0 +1,83 @@
+//! The end of a fabric: what is left on its rings.
+ghost use Rattle.std.specs.Prelude.{◌≡◌, ◌≢◌, ◌+◌, ◌<◌, ℕ, [], ◌∷◌, length, IfNone, IfSome};
+ghost use Rattle.geom.specs.declared.word.TheConstants.{LAST};
+ghost use Rattle.fabric_laws.specs.Closing.{reach_of};
+ghost use Rattle.fabric.specs.Closed.{IsAll, IsLast, left, ring_count};
+ghost use Rattle.fabric.specs.Hands.{IsHandOf, pool_of, rings_of, view};
+
+use crate::closed::Closed;
+use crate::fabric::Fabric;
+use crate::hand::{Hand, Share};
+use crate::steps::{own_word, position, settled_word};
+use crate::tagged::Tagged;
+use geom::{Mode, RESERVED, Side};
+
+/// How far a side is reserved, by its own word.
+fn reach(mode: Mode, word: u64) -> u64
+    ensures { result ≡ reach_of mode word }
+{
+    match mode {
+        Mode::Multi => word,
+        Mode::Hts => word / RESERVED + word % RESERVED,
+    }
+}
+
+/// The own word of a side that is reserved one position further.
+fn further(mode: Mode, word: u64) -> u64
+    requires { reach_of mode word < LAST }
+    ensures { reach_of mode result ≡ reach_of mode word + 1 }
+{
+    match mode {
+        Mode::Multi => word + 1,
+        Mode::Hts => word + RESERVED,
+    }
+}
+
+impl<T: Tagged, const N: usize> Fabric<T, N> {
+    /// Ends the fabric, with a hand of it. No open span holds a reference to it any more, but hands and open spans that
+    /// were dropped still count: the items of a take that never settled stay behind. Takes no memory.
+    pub fn close(self, hand: Hand<T>) -> Closed<T>
+        requires hand { IsHandOf self hand }
+        ensures last { IsLast T.numbers (rings_of self) (pool_of self) (view hand) result }
+        ensures rings { ring_count result ≡ length (rings_of self) }
+        ensures all { IsAll T.numbers (rings_of self) (view hand) result }
+    {
+        let Fabric {
+            table,
+            plan,
+            shapes,
+        } = self;
+        drop(plan);
+        let Hand { share } = hand;
+        let Share { seat, owned, parts } = share;
+        drop(owned);
+        Closed {
+            table: table.close_with(seat),
+            shapes,
+        }
+    }
+}
+
+impl<T: Tagged> Closed<T> {
+    /// The next item of a ring, in the order in which they were published, of those at positions that no take has
+    /// reserved; none where no item is left. Takes no memory.
+    pub fn next(&mut self, ring: usize) -> Option<T>
+        requires ring { ring < ring_count self.old }
+        ensures first { IfSome result (λ x. left self.old ring ≡ x ∷ left self.new ring) }
+        ensures none { IfNone result ((left self.old ring ≡ []) × (self.new ≡ self.old)) }
+        ensures others { (r : ℕ) → r ≢ ring → left self.new r ≡ left self.old r }
+        ensures rings { ring_count self.new ≡ ring_count self.old }
+    {
+        let shape = self.shapes[ring];
+        let own = own_word(ring, Side::Take);
+        let word = self.table.word(own);
+        let first = reach(shape.plan.take, word);
+        let put = shape.plan.put;
+        let end = position(put, self.table.word(settled_word(put, ring, Side::Put)));
+        if first >= end {
+            return None;
+        }
+        *self.table.words.get_mut(own) = further(shape.plan.take, word);
+        self.table.slots.get_mut(shape.slot(first)).take()
+    }
+}
