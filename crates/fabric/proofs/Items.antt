@@ -1,17 +1,9 @@
 -- Lists of options whose entries are all there.
-use Rattle.std.proofs.Common.{◌≡◌, ◌<◌, ℕ, List, [], ◌∷◌, ◌++◌, map, length, drop, sym, refl, ap, ◌∙◌, Option, Some, IsSome, IfNone, arith, ◌↔◌, rules}
-use Rattle.std.specs.Prelude.{slice_get, remove, reverse}
-use Rattle.std.specs.List.{refill}
+use Rattle.std.proofs.Common.{◌≡◌, ◌<◌, List, [], ◌∷◌, ◌++◌, map, length, sym, refl, ap, ◌∙◌, Option, Some, None, IsSome, IfNone, arith, ◌↔◌, rules}
+use Rattle.std.specs.Prelude.{reverse}
 use Rattle.std.specs.Option.{option_to_list}
-use Rattle.std.proofs.lemmas.List.{length-map, map-append, append-nil, take_all, drop_all, length-append, reverse-append, length-reverse}
+use Rattle.std.proofs.lemmas.List.{length-map, map-append, length-append, reverse-append, reverse-reverse}
 use Rattle.fabric.specs.Items.{somes}
-
--- a list that is written over whole is what was written
-refill_whole : {X : Type 0} (n : ℕ) (xs ws : List X) → n ≡ length xs → length ws ≡ n → refill n xs ws ≡ ws
-refill_whole n xs ws e f = take_all n (ws ++ drop (length ws) xs) (omega (arith, ap length (whole))) ∙ whole
-  where
-    whole : ws ++ drop (length ws) xs ≡ ws
-    whole = ap (λ l. ws ++ l) (drop_all (length ws) xs (omega arith)) ∙ append-nil ws
 
 module _ {T : Type 0} where
   somes_of : (xs : List T) → somes (map Some xs) ≡ xs
@@ -41,8 +33,8 @@ module _ {T : Type 0} where
   map_reverse [] = refl
   map_reverse (x ∷ xs) = reverse-append (Some x ∷ []) (map Some xs) ∙ ap (λ (l : List (Option T)). l ++ Some x ∷ []) (map_reverse xs) ∙ sym (map-append Some (reverse xs) (x ∷ [])) ∙ ap (map Some) (sym (reverse-append (x ∷ []) xs))
 
-  pub turned : (cells : List (Option T)) (xs : List T) (later : List (Option T)) → Holds cells xs → later ≡ reverse cells → Holds (refill (length cells) cells later) (reverse xs)
-  turned cells xs later h e = record { cells_are = refill_whole (length cells) cells later refl (ap length e ∙ length-reverse cells) ∙ e ∙ ap reverse h.cells_are ∙ map_reverse xs }
+  pub turned : (cells : List (Option T)) (xs : List T) (later : List (Option T)) → Holds cells xs → later ≡ reverse cells → Holds later (reverse xs)
+  turned cells xs later h e = record { cells_are = e ∙ ap reverse h.cells_are ∙ map_reverse xs }
 
   -- what a list of items is before and after its last one went
   pub record Pops (xs : List T) (cells : List (Option T)) (cell : Option T) : Type 0 where
@@ -61,21 +53,6 @@ module _ {T : Type 0} where
       let first : c ≡ Some x = cc in
       record { rest = x ∷ p.rest; item = p.item; is = p.is; holds = record { cells_are = (λ k. first k ∷ p.holds.cells_are k) }; items = ap (λ (l : List T). x ∷ l) p.items }
 
-  -- what a list of items is before and after its first one went
-  pub record Shifts (xs : List T) (cells : List (Option T)) (cell : Option T) : Type 0 where
-    pub item : T
-    pub rest : List T
-    pub is : cell ≡ Some item
-    pub holds : Holds cells rest
-    pub items : xs ≡ item ∷ rest
-
-  pub shifted : (xs : List T) (before cells : List (Option T)) (cell : Option T) → Holds before xs → ◌≡◌ {A = Option (Option T)} (Some cell) (slice_get before 0) → cells ≡ remove before 0 → Shifts xs cells cell
-  shifted xs before cells cell h first rest = shift xs cells cell (first ∙ ap (λ (l : List (Option T)). slice_get l 0) h.cells_are) (rest ∙ ap (λ (l : List (Option T)). remove l 0) h.cells_are)
-    where
-      shift : (xs : List T) (cells : List (Option T)) (cell : Option T) → ◌≡◌ {A = Option (Option T)} (Some cell) (slice_get (map Some xs) 0) → cells ≡ remove (map Some xs) 0 → Shifts xs cells cell
-      shift [] cells cell first rest = absurd (cc)
-      shift (x ∷ xs) cells cell first rest = record { item = x; rest = xs; is = cc; holds = record { cells_are = rest }; items = refl }
-
   pub popped_items : (xs : List T) (cells : List (Option T)) (cell : Option T) → Pops xs cells cell → xs ≡ somes cells ++ option_to_list cell
   popped_items xs cells cell p = rw (p.is, seen cells p.rest p.holds) p.items
 
@@ -85,8 +62,15 @@ module _ {T : Type 0} where
   pub popped_there : (xs : List T) (cells : List (Option T)) (cell : Option T) (P : Type 0) → Pops xs cells cell → IfNone cell P
   popped_there xs cells cell P p = rw p.is (search rules)
 
-  pub shifted_variant : (xs : List T) (cells : List (Option T)) (cell : Option T) → Shifts xs cells cell → IsSome cell ↔ (0 < length xs)
-  shifted_variant xs cells cell p = (λ _. omega (arith, ap length p.items), λ _. rw p.is (search rules))
+  -- the first item goes: the list is turned round, the last one goes, and the list is turned round again
+  turned_single : (o : Option T) → reverse (option_to_list o) ≡ option_to_list o
+  turned_single None = refl
+  turned_single (Some x) = refl
 
-  pub shifted_there : (xs : List T) (cells : List (Option T)) (cell : Option T) (P : Type 0) → Shifts xs cells cell → IfNone cell P
-  shifted_there xs cells cell P p = rw p.is (search rules)
+  pub first_off : (xs ys zs later : List T) (o : Option T) → ys ≡ reverse xs → ys ≡ zs ++ option_to_list o → later ≡ reverse zs → xs ≡ option_to_list o ++ later
+  first_off xs ys zs later o e f h =
+      sym (reverse-reverse xs) ∙ (ap reverse (sym e ∙ f) ∙ (reverse-append zs (option_to_list o) ∙ (λ k. turned_single o k ++ sym h k)))
+
+  pub none_left : (zs later : List T) (o : Option T) → IfNone o (zs ≡ []) → later ≡ reverse zs → IfNone o (later ≡ [])
+  none_left zs later None e h = h ∙ ap reverse e
+  none_left zs later (Some x) e h = e

@@ -169,20 +169,18 @@ module _ {S : Type 0} where
           ∙ ap (λ n. mixed n xs (replicate (length xs) gone)) (let q : suc i ≡ i + 1 = omega arith in q))
 
     -- and comes out of it
-    module _ (p i count : ℕ) (gone : S) (ys : List S) (c : List (ℕ × S)) (cells : List S) (held : c ≡ half p i (replicate count gone) ys [])
-        (in_cells : cells ≡ take i ys) (all : length ys ≡ count) (below : i < count) (at : ℕ) (near : at ≡ slot (p + i)) where
+    module _ (p i count : ℕ) (gone : S) (ys : List S) (c : List (ℕ × S)) (before cells : List S) (held : c ≡ half p i (replicate count gone) ys [])
+        (in_cells : cells ≡ mixed i before ys) (all : length ys ≡ length before) (below : i < length before) (at : ℕ) (near : at ≡ slot (p + i)) where
       pub empty_asks : (y : S) × (c ≡ (at, y) ∷ rest c)
       empty_asks = front_asks p i (replicate count gone) ys [] c held at near (omega arith)
 
-      pub empty_next : (d e : List (ℕ × S)) → d ≡ (at, gone) ∷ rest c → e ≡ turned d → e ≡ half p (i + 1) (replicate count gone) ys []
-      empty_next d e filled turn =
-          half_next p i (replicate count gone) ys [] c held at near gone d e (omega arith) (one_of_many count gone i below) filled turn
+      pub empty_next : (d e : List (ℕ × S)) → i < count → d ≡ (at, gone) ∷ rest c → e ≡ turned d → e ≡ half p (i + 1) (replicate count gone) ys []
+      empty_next d e inside filled turn =
+          half_next p i (replicate count gone) ys [] c held at near gone d e (omega arith) (one_of_many count gone i inside) filled turn
           ∙ ap (λ n. half p n (replicate count gone) ys []) (let q : suc i ≡ i + 1 = omega arith in q)
 
-      pub empty_cells : (found : S) (new : List S) → c ≡ (at, found) ∷ rest c → new ≡ cells ++ found ∷ [] → new ≡ take (i + 1) ys
-      empty_cells found new e pushed =
+      pub empty_cells : (found : S) → c ≡ (at, found) ∷ rest c → set cells i found ≡ mixed (i + 1) before ys
+      empty_cells found e =
           let here = front_is p i (replicate count gone) ys [] c held at near (omega arith) found e in
-          pushed ∙ (ap (λ (l : List S). l ++ found ∷ []) in_cells ∙ (sym (take_next ys i found here) ∙ ap (λ n. take n ys) (let q : suc i ≡ i + 1 = omega arith in q)))
-
-      pub empty_room : length cells ≡ i
-      empty_room = ap length in_cells ∙ take_long ys i (omega arith)
+          ap (λ (l : List S). set l i found) in_cells
+          ∙ (mixed_set i before ys found here below ∙ ap (λ n. mixed n before ys) (let q : suc i ≡ i + 1 = omega arith in q))

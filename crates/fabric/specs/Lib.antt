@@ -1,4 +1,5 @@
 pub mod Items
+pub mod Cells
 pub mod Numbers
 pub mod Shapes
 pub mod Views

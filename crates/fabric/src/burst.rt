@@ -3,15 +3,15 @@ ghost use Rattle.std.specs.Prelude.{◌≡◌, ◌+◌, ◌<◌, ◌≤◌, ◌=
 ghost use Rattle.std.specs.Prelude.{IsSome, IfNone};
 ghost use Rattle.std.specs.Option.{option_copied, option_to_list};
 
-use arrayvec::ArrayVec;
+use crate::cells::Cells;
 use std::marker::Model;
 
-/// A list of at most `N` items, kept in the value itself: an `ArrayVec` whose entries are all `Some`.
+/// A list of at most `N` items, kept in the value itself: cells that all hold one.
 ///
 /// It is as large as `N` optional items, 16 bytes each where an item is a box, so pass it by `&mut` where that serves.
 #[derive(Drop)]
 pub struct Burst<T: Drop, const N: usize> {
-    pub(crate) cells: ArrayVec<Option<T>, N>,
+    pub(crate) cells: Cells<T, N>,
 }
 
 impl<T: Drop, const N: usize> Model for Burst<T, N> {
@@ -20,9 +20,9 @@ impl<T: Drop, const N: usize> Model for Burst<T, N> {
 
     ghost Value = { List T };
 
-    ghost view = { λ b. somes b.cells.items };
+    ghost view = { λ b. somes b.cells };
 
-    ghost invariant = { λ b. b.cells.items ≡ map Some (somes b.cells.items) };
+    ghost invariant = { λ b. b.cells ≡ map Some (somes b.cells) };
 }
 
 impl<T: Drop, const N: usize> Burst<T, N> {
@@ -31,7 +31,7 @@ impl<T: Drop, const N: usize> Burst<T, N> {
         ensures { result ≡ [] }
     {
         Burst {
-            cells: ArrayVec::new(),
+            cells: Cells::new(),
         }
     }
 
@@ -49,7 +49,7 @@ impl<T: Drop, const N: usize> Burst<T, N> {
     pub fn is_empty(&self) -> bool
         ensures { result ≡ (length self.now == 0) }
     {
-        self.cells.is_empty()
+        self.len() == 0
     }
 
     /// Whether there is no room for a further item.
@@ -58,7 +58,7 @@ impl<T: Drop, const N: usize> Burst<T, N> {
         ensures value { result ≡ (length self.now == N) }
         ensures fits { length self.now ≤ N }
     {
-        self.cells.is_full()
+        self.len() == N
     }
 
     /// The item at place `i`, counted from 0, where there is one.
@@ -98,20 +98,25 @@ impl<T: Drop, const N: usize> Burst<T, N> {
         ensures variant { IsSome result ↔ (0 < length self.old) }
         ensures empty { IfNone result (self.new ≡ []) }
     {
-        self.cells.pop_at(0)?
+        self.reverse();
+        let item = self.pop();
+        self.reverse();
+        item
     }
 
     /// Turns the order of the items round.
     pub fn reverse(&mut self)
         ensures { self.new ≡ reverse self.old }
     {
-        self.cells.as_mut_slice().reverse();
+        self.cells.reverse();
     }
 
     /// Drops every item.
     pub fn clear(&mut self)
         ensures { self.new ≡ [] }
     {
-        self.cells.clear();
+        for _i in 0..self.len() {
+            self.pop();
+        }
     }
 }

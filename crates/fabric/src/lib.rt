@@ -5,6 +5,7 @@
 mod about;
 mod burst;
 mod carried;
+mod cells;
 mod close;
 mod closed;
 mod fabric;

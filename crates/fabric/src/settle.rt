@@ -15,11 +15,11 @@ ghost use Rattle.fabric.specs.Shapes.{slot_of};
 ghost use Rattle.fabric.specs.Slots.{values};
 ghost use Rattle.fabric.specs.Views.{span_of};
 
+use crate::cells::Cells;
 use crate::fabric::Fabric;
 use crate::plan::Shape;
 use crate::slots::skip;
 use crate::tagged::Tagged;
-use arrayvec::ArrayVec;
 use atomic_table::Seat;
 use fabric_laws::View;
 use geom::{Mode, Side};
@@ -44,45 +44,45 @@ impl<T: Tagged, const N: usize> Fabric<T, N> {
         shape: &Shape,
         start: u64,
         count: usize,
-        cells: &mut ArrayVec<Option<T>, N>,
+        cells: &mut Cells<T, N>,
     )
         requires fabric { seat.old.table_id ≡ self.now.table.shared.table_id }
         requires base { shape.now.base ≡ slots_before self.now.plan.rings.items ring }
         requires last { start + count ≤ LAST }
-        requires fits { length cells.old.items ≤ count }
+        requires fits { length cells.old ≤ count }
         requires slots { seat.old.me.1 ≡ run (slot_at self.now.plan.rings.items ring shape.now.plan) start
             (replicate count None) }
         ensures fabric { (seat.new.table_id ≡ seat.old.table_id) × (seat.new.id ≡ seat.old.id)
             × (seat.new.me.0 ≡ seat.old.me.0) }
         ensures slots { seat.new.me.1 ≡ run (slot_at self.now.plan.rings.items ring shape.now.plan) start
-            (cells.old.items ++ replicate (count - length cells.old.items) None) }
-        ensures cells { cells.new.items ≡ [] }
+            (cells.old ++ replicate (count - length cells.old) None) }
+        ensures cells { cells.new ≡ [] }
     {
         let k = cells.len();
         self.fill_all(seat, shape, start, cells);
         skip(seat, count - k);
-        cells.clear();
     }
 
-    /// `fill` with all cells of a list.
+    /// `fill` with all cells of a list, which has none then.
     fn fill_all(
         &self,
         seat: &mut Seat<Option<T>, View<T>>,
         shape: &Shape,
         start: u64,
-        cells: &mut ArrayVec<Option<T>, N>,
+        cells: &mut Cells<T, N>,
     )
         requires fabric { seat.old.table_id ≡ self.now.table.shared.table_id }
-        requires low { start + length cells.old.items < 2 ^ 63 }
-        requires held { seat.old.me.1 ≡ run (slot_of shape.now) start (replicate (length cells.old.items) None)
-            ++ drop (length cells.old.items) seat.old.me.1 }
+        requires low { start + length cells.old < 2 ^ 63 }
+        requires held { seat.old.me.1 ≡ run (slot_of shape.now) start (replicate (length cells.old) None)
+            ++ drop (length cells.old) seat.old.me.1 }
         ensures fabric { (seat.new.table_id ≡ seat.old.table_id) × (seat.new.id ≡ seat.old.id)
             × (seat.new.me.0 ≡ seat.old.me.0) }
-        ensures filled { seat.new.me.1 ≡ drop (length cells.old.items) seat.old.me.1
-            ++ run (slot_of shape.now) start cells.old.items }
-        ensures cells { cells.new.items ≡ replicate (length cells.old.items) None }
+        ensures filled { seat.new.me.1 ≡ drop (length cells.old) seat.old.me.1
+            ++ run (slot_of shape.now) start cells.old }
+        ensures cells { cells.new ≡ [] }
     {
-        self.fill(seat, shape, start, cells.as_mut_slice());
+        self.fill_part(seat, shape, start, 0, cells.len, &mut cells.row);
+        cells.len = 0;
     }
 
     /// Moves the items out of the slots of a span into an empty list: those of a take, or those of a put again.
@@ -93,13 +93,13 @@ impl<T: Tagged, const N: usize> Fabric<T, N> {
         shape: &Shape,
         start: u64,
         count: usize,
-        cells: &mut ArrayVec<Option<T>, N>,
+        cells: &mut Cells<T, N>,
     )
         requires fabric { seat.old.table_id ≡ self.now.table.shared.table_id }
         requires base { shape.now.base ≡ slots_before self.now.plan.rings.items ring }
         requires last { start + count ≤ LAST }
         requires fits { count ≤ N }
-        requires blank { cells.old.items ≡ [] }
+        requires blank { cells.old ≡ [] }
         requires slots { (length (values seat.old.me.1) ≡ count)
             × (seat.old.me.1 ≡ run (slot_at self.now.plan.rings.items ring shape.now.plan) start
             (values seat.old.me.1)) }
@@ -107,7 +107,7 @@ impl<T: Tagged, const N: usize> Fabric<T, N> {
             × (seat.new.me.0 ≡ seat.old.me.0) }
         ensures slots { seat.new.me.1 ≡ run (slot_at self.now.plan.rings.items ring shape.now.plan) start
             (replicate count None) }
-        ensures cells { cells.new.items ≡ values seat.old.me.1 }
+        ensures cells { cells.new ≡ values seat.old.me.1 }
     {
         self.empty(seat, shape, start, count, cells);
     }
@@ -121,7 +121,7 @@ impl<T: Tagged, const N: usize> Fabric<T, N> {
         shape: &Shape,
         start: u64,
         count: usize,
-        cells: &mut ArrayVec<Option<T>, N>,
+        cells: &mut Cells<T, N>,
     ) -> Option<u64>
         requires fabric { seat.old.table_id ≡ self.now.table.shared.table_id }
         requires ring { slice_get self.now.plan.rings.items ring ≡ Some shape.now.plan }
@@ -129,20 +129,20 @@ impl<T: Tagged, const N: usize> Fabric<T, N> {
         requires alive { 0 < seat.old.me.0.parts }
         requires last { start + count ≤ LAST }
         requires fits { count ≤ N }
-        requires packed { cells.old.items ≡ map Some (somes cells.old.items) }
-        requires count { IsCount shape.now.plan.put (length cells.old.items) count }
+        requires packed { cells.old ≡ map Some (somes cells.old) }
+        requires count { IsCount shape.now.plan.put (length cells.old) count }
         requires span { seat.old.me.0.party.span ≡ Some (span_of ring Put start count) }
-        requires owned { Owns T.numbers seat.old.me.0.party (somes cells.old.items) }
-        requires single { shape.now.plan.free ≡ true → AreSingle T.numbers (somes cells.old.items) }
+        requires owned { Owns T.numbers seat.old.me.0.party (somes cells.old) }
+        requires single { shape.now.plan.free ≡ true → AreSingle T.numbers (somes cells.old) }
         requires slots { seat.old.me.1 ≡ run (slot_at self.now.plan.rings.items ring shape.now.plan) start
             (replicate count None) }
         ensures fabric { (seat.new.table_id ≡ seat.old.table_id) × (seat.new.id ≡ seat.old.id) }
         ensures done { IfNone result ((seat.new.me.0
-            ≡ settled (span_of ring Put start count) (somes cells.old.items) seat.old.me.0) × (seat.new.me.1 ≡ [])
-            × IsHeldOnce T.numbers seat.new.me.0.pool seat.new.me.0.party × (cells.new.items ≡ [])) }
+            ≡ settled (span_of ring Put start count) (somes cells.old) seat.old.me.0) × (seat.new.me.1 ≡ [])
+            × IsHeldOnce T.numbers seat.new.me.0.pool seat.new.me.0.party × (cells.new ≡ [])) }
         ensures early { IfSome result (λ x. (shape.now.plan.put ≡ Multi) × (x < start)
             × (seat.new.me.0 ≡ missed x seat.old.me.0) × (seat.new.me.1 ≡ seat.old.me.1)
-            × (cells.new.items ≡ cells.old.items)) }
+            × (cells.new ≡ cells.old)) }
     {
         let k = cells.len();
         self.offer(seat, ring, shape, start, count, cells);
@@ -170,51 +170,46 @@ impl<T: Tagged, const N: usize> Fabric<T, N> {
         shape: &Shape,
         start: u64,
         k: usize,
-        cells: &mut ArrayVec<Option<T>, N>,
+        cells: &mut Cells<T, N>,
     )
         requires fabric { seat.old.table_id ≡ self.now.table.shared.table_id }
         requires base { shape.now.base ≡ slots_before self.now.plan.rings.items ring }
-        requires last { start + length cells.old.items ≤ LAST }
-        requires fits { k ≤ length cells.old.items }
+        requires last { start + length cells.old ≤ LAST }
+        requires fits { k ≤ length cells.old }
         requires slots { seat.old.me.1 ≡ run (slot_at self.now.plan.rings.items ring shape.now.plan) start
-            (replicate (length cells.old.items) None) }
+            (replicate (length cells.old) None) }
         ensures fabric { (seat.new.table_id ≡ seat.old.table_id) × (seat.new.id ≡ seat.old.id)
             × (seat.new.me.0 ≡ seat.old.me.0) }
         ensures slots { seat.new.me.1 ≡ run (slot_at self.now.plan.rings.items ring shape.now.plan) start
-            (replicate k None ++ drop k cells.old.items) }
-        ensures cells { cells.new.items ≡ take k cells.old.items }
+            (replicate k None ++ drop k cells.old) }
+        ensures cells { cells.new ≡ take k cells.old }
     {
         skip(seat, k);
         self.fill_behind(seat, shape, start, k, cells);
-        cells.truncate(k);
     }
 
-    /// `fill` with the cells behind the first `k`.
+    /// `fill` with the cells behind the first `k`, which are all that the list has then.
     fn fill_behind(
         &self,
         seat: &mut Seat<Option<T>, View<T>>,
         shape: &Shape,
         start: u64,
         k: usize,
-        cells: &mut ArrayVec<Option<T>, N>,
+        cells: &mut Cells<T, N>,
     )
         requires fabric { seat.old.table_id ≡ self.now.table.shared.table_id }
-        requires fits { k ≤ length cells.old.items }
-        requires low { start + length cells.old.items < 2 ^ 63 }
+        requires fits { k ≤ length cells.old }
+        requires low { start + length cells.old < 2 ^ 63 }
         requires held { seat.old.me.1 ≡ run (slot_of shape.now) (start + k)
-            (replicate (length cells.old.items - k) None) ++ drop (length cells.old.items - k) seat.old.me.1 }
+            (replicate (length cells.old - k) None) ++ drop (length cells.old - k) seat.old.me.1 }
         ensures fabric { (seat.new.table_id ≡ seat.old.table_id) × (seat.new.id ≡ seat.old.id)
             × (seat.new.me.0 ≡ seat.old.me.0) }
-        ensures filled { seat.new.me.1 ≡ drop (length cells.old.items - k) seat.old.me.1
-            ++ run (slot_of shape.now) (start + k) (drop k cells.old.items) }
-        ensures cells { cells.new.items ≡ take k cells.old.items ++ replicate (length cells.old.items - k) None }
+        ensures filled { seat.new.me.1 ≡ drop (length cells.old - k) seat.old.me.1
+            ++ run (slot_of shape.now) (start + k) (drop k cells.old) }
+        ensures cells { cells.new ≡ take k cells.old }
     {
-        self.fill(
-            seat,
-            shape,
-            start + k as u64,
-            &mut cells.as_mut_slice()[k..],
-        );
+        self.fill_part(seat, shape, start + k as u64, k, cells.len, &mut cells.row);
+        cells.len = k;
     }
 
     /// Dequeues the items at the first `k` positions of a take span. Where an earlier span of a multi side isn't
@@ -226,27 +221,27 @@ impl<T: Tagged, const N: usize> Fabric<T, N> {
         shape: &Shape,
         start: u64,
         k: usize,
-        cells: &mut ArrayVec<Option<T>, N>,
+        cells: &mut Cells<T, N>,
     ) -> Option<u64>
         requires fabric { seat.old.table_id ≡ self.now.table.shared.table_id }
         requires ring { slice_get self.now.plan.rings.items ring ≡ Some shape.now.plan }
         requires base { shape.now.base ≡ slots_before self.now.plan.rings.items ring }
         requires alive { 0 < seat.old.me.0.parts }
-        requires shows { cells.old.items ≡ map Some seat.old.me.0.shown }
-        requires last { start + length cells.old.items ≤ LAST }
-        requires count { IsCount shape.now.plan.take k (length cells.old.items) }
-        requires span { seat.old.me.0.party.span ≡ Some (span_of ring Take start (length cells.old.items)) }
+        requires shows { cells.old ≡ map Some seat.old.me.0.shown }
+        requires last { start + length cells.old ≤ LAST }
+        requires count { IsCount shape.now.plan.take k (length cells.old) }
+        requires span { seat.old.me.0.party.span ≡ Some (span_of ring Take start (length cells.old)) }
         requires slots { seat.old.me.1 ≡ run (slot_at self.now.plan.rings.items ring shape.now.plan) start
-            (replicate (length cells.old.items) None) }
+            (replicate (length cells.old) None) }
         ensures fabric { (seat.new.table_id ≡ seat.old.table_id) × (seat.new.id ≡ seat.old.id) }
         ensures done { IfNone result ((seat.new.me.0
-            ≡ settled (span_of ring Take start (length cells.old.items)) (take k seat.old.me.0.shown) seat.old.me.0)
+            ≡ settled (span_of ring Take start (length cells.old)) (take k seat.old.me.0.shown) seat.old.me.0)
             × (seat.new.me.1 ≡ [])
             × IsHeldOnce T.numbers seat.new.me.0.pool seat.new.me.0.party
-            × (cells.new.items ≡ map Some (take k seat.old.me.0.shown))) }
+            × (cells.new ≡ map Some (take k seat.old.me.0.shown))) }
         ensures early { IfSome result (λ x. (shape.now.plan.take ≡ Multi) × (x < start)
             × (seat.new.me.0 ≡ missed x seat.old.me.0) × (seat.new.me.1 ≡ seat.old.me.1)
-            × (cells.new.items ≡ cells.old.items)) }
+            × (cells.new ≡ cells.old)) }
     {
         let count = cells.len();
         self.keep(seat, ring, shape, start, k, cells);

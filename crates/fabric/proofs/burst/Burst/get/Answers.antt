@@ -7,6 +7,6 @@ use Rattle.fabric.proofs.burst.Burst.get.Goals as goal
 pub returns-in-None : goal.returns-in-None
 returns-in-None g c =
     let long = length_held _ _ (held _ _ c.self.invariant c.self.view_is) in
-    let same = ap length c.as_slice.ensures.value in
+    let same = ap length c.as_slice.ensures in
     let past : length c.args.self.now ≤ c.args.i = grind (arith, nat_tests) in
     sym (slice_get_past _ _ past)

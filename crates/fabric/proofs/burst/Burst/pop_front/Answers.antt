@@ -1,11 +1,16 @@
-use Rattle.fabric.proofs.Items.{held, full, shifted, shifted_variant, shifted_there}
+use Rattle.std.proofs.Common.{◌<◌, ap, length, subst, sym, ◌∙◌}
+use Rattle.std.proofs.lemmas.List.{length-reverse}
+use Rattle.fabric.proofs.Items.{first_off, none_left}
 use Rattle.fabric.proofs.burst.Burst.pop_front.Goals as goal
 
-pub invariant_of-self-2 : goal.invariant_of-self-2
-invariant_of-self-2 g c = full _ _ (shifted _ _ _ _ (held _ _ c.self.invariant c.self.view_is) c.in_ok-pop_at.ensures.value c.in_ok-pop_at.ensures.items).holds
+pub returns-clause-items : goal.returns-clause-items
+returns-clause-items g c = first_off c.args.self.now c.reverse.new.self c.pop-item.new.self c.reverse-2.new.self c.pop-item.result c.reverse.ensures c.pop-item.ensures.items c.reverse-2.ensures
 
 pub returns-clause-variant : goal.returns-clause-variant
-returns-clause-variant g c = shifted_variant _ _ _ (shifted _ _ _ _ (held _ _ c.self.invariant c.self.view_is) c.in_ok-pop_at.ensures.value c.in_ok-pop_at.ensures.items)
+returns-clause-variant g c =
+    let same = ap length c.reverse.ensures ∙ length-reverse c.args.self.now in
+    let v = c.pop-item.ensures.variant in
+    (λ some. subst (λ n. 0 < n) same (v.0 some), λ there. v.1 (subst (λ n. 0 < n) (sym same) there))
 
 pub returns-clause-empty : goal.returns-clause-empty
-returns-clause-empty g c = shifted_there _ _ _ _ (shifted _ _ _ _ (held _ _ c.self.invariant c.self.view_is) c.in_ok-pop_at.ensures.value c.in_ok-pop_at.ensures.items)
+returns-clause-empty g c = none_left c.pop-item.new.self c.reverse-2.new.self c.pop-item.result c.pop-item.ensures.empty c.reverse-2.ensures

@@ -1,28 +1,18 @@
-use Rattle.std.proofs.Common.{ap, ◌∙◌, None}
-use Rattle.fabric.specs.Shapes.{slot_of}
+use Rattle.std.proofs.Common.{arith, rules, ◌∙◌}
 use Rattle.fabric.specs.Slots.{values}
-use Rattle.fabric.proofs.Turns.{empty_asks, empty_cells, empty_next}
+use Rattle.fabric.proofs.Fronts.{all_none, drawn, front_none, in_front, row_long}
 use Rattle.fabric.proofs.fabric.Fabric.empty.Goals as goal
 
-pub exchange-found-requires : goal.exchange-found-requires
-exchange-found-requires g c =
-    let inv = c.loop-i.invariant in (
-      inv.same_table ∙ c.requires.fabric,
-      empty_asks (slot_of c.args.shape.now) c.args.start c.loop-i.i c.args.count None (values c.args.seat.now.me.1) c.loop-i.seat.me.1 c.loop-i.cells.items
-          inv.held inv.cells c.requires.held.0 c.loop-i-test.true c.slot-slot.result c.slot-slot.ensures,
-    )
+pub drain_front-requires : goal.drain_front-requires
+drain_front-requires g c =
+    let q = c.requires in
+    let xs = c.cells.inside.row.items in
+    let none = all_none g.row.N c.cells.inside.len xs c.cells.invariant (c.cells.view_is ∙ q.blank) in
+    (search rules, (search rules, (q.fabric, (q.low, (omega (arith, q.fits, row_long g.row.N c.cells.inside.len xs c.cells.invariant), (front_none g.row.N c.args.count xs none q.fits, q.held))))))
 
-pub loop-i-preserved : goal.loop-i-preserved
-loop-i-preserved g c =
-    let inv = c.loop-i.invariant in
-    let x = c.exchange-found.ensures in
-    let t = c.turn.ensures in
-    record {
-      same_table = t.0 ∙ (x.0 ∙ inv.same_table);
-      same_id = t.1 ∙ (x.1 ∙ inv.same_id);
-      same_view = ap (λ m. m.0) t.2 ∙ (ap (λ m. m.0) x.3 ∙ inv.same_view);
-      held = empty_next (slot_of c.args.shape.now) c.args.start c.loop-i.i c.args.count None (values c.args.seat.now.me.1) c.loop-i.seat.me.1 c.loop-i.cells.items
-          inv.held inv.cells c.requires.held.0 c.loop-i-test.true c.slot-slot.result c.slot-slot.ensures c.exchange-found.new.seat.me.1 c.turn.new.self.me.1 (ap (λ m. m.1) x.3) (ap (λ m. m.1) t.2);
-      cells = empty_cells (slot_of c.args.shape.now) c.args.start c.loop-i.i c.args.count None (values c.args.seat.now.me.1) c.loop-i.seat.me.1 c.loop-i.cells.items
-          inv.held inv.cells c.requires.held.0 c.loop-i-test.true c.slot-slot.result c.slot-slot.ensures c.exchange-found.result c.push.new.self.items x.2 c.push.ensures.items;
-    }
+pub invariant_of-cells : goal.invariant_of-cells
+invariant_of-cells g c =
+    let q = c.requires in
+    let xs = c.cells.inside.row.items in
+    let none = all_none g.row.N c.cells.inside.len xs c.cells.invariant (c.cells.view_is ∙ q.blank) in
+    in_front g.row.N c.args.count (values c.args.seat.now.me.1) _ (drawn g.row.N c.args.count (values c.args.seat.now.me.1) xs _ none q.held.0 q.fits c.drain_front.ensures.row) q.held.0 q.fits

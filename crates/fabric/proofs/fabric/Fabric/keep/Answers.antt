@@ -7,7 +7,7 @@ use Rattle.fabric.proofs.fabric.Fabric.keep.Goals as goal
 pub skip-requires : goal.skip-requires
 skip-requires g c =
     let q = c.requires in
-    let n = length c.args.cells.now.items in
+    let n = length c.args.cells.now in
     let held = q.slots ∙ same_run c.args.self.now.plan.rings.items c.args.ring c.args.shape.now c.args.start (replicate n None) q.base in
     omega (arith, all_long None (slot_of c.args.shape.now) c.args.start n c.args.k q.fits c.args.seat.now.me.1 held, q.fits)
 
@@ -15,7 +15,7 @@ pub fill_behind-requires : goal.fill_behind-requires
 fill_behind-requires g c =
     let q = c.requires in
     let low = q.last in
-    let n = length c.args.cells.now.items in
+    let n = length c.args.cells.now in
     let held = q.slots ∙ same_run c.args.self.now.plan.rings.items c.args.ring c.args.shape.now c.args.start (replicate n None) q.base in (
       search rules,
       (
@@ -36,7 +36,7 @@ fill_behind-requires g c =
 pub returns-clause-slots : goal.returns-clause-slots
 returns-clause-slots g c =
     let q = c.requires in
-    let cells = c.args.cells.now.items in
+    let cells = c.args.cells.now in
     let n = length cells in
     let held = q.slots ∙ same_run c.args.self.now.plan.rings.items c.args.ring c.args.shape.now c.args.start (replicate n None) q.base in
     keep_ends None (slot_of c.args.shape.now) c.args.start n c.args.k q.fits c.args.seat.now.me.1 held c.skip.new.seat.me.1 (ap (λ m. m.1) c.skip.ensures.2)

@@ -8,7 +8,7 @@ pub withdraw-requires : goal.withdraw-requires
 withdraw-requires g c =
     let q = c.requires in
     let p = c.args.shape.now.plan in
-    let cells = c.args.cells.now.items in
+    let cells = c.args.cells.now in
     let lost = c.settle-found.ensures.lost c.if-found-start.false in
     let all = count_whole p.put (length cells) c.args.count c.in-Multi.is q.count in
     let held = back_held (slot_at c.args.self.now.plan.rings.items c.args.ring p) c.args.start c.args.count cells c.settle-found.new.seat.me.1 (lost.1 ∙ c.offer.ensures.slots) all in
@@ -18,7 +18,7 @@ pub returns-else-found-start-clause-early : goal.returns-else-found-start-clause
 returns-else-found-start-clause-early g c =
     let q = c.requires in
     let p = c.args.shape.now.plan in
-    let cells = c.args.cells.now.items in
+    let cells = c.args.cells.now in
     let lost = c.settle-found.ensures.lost c.if-found-start.false in
     let all = count_whole p.put (length cells) c.args.count c.in-Multi.is q.count in
     let back = back_is (slot_at c.args.self.now.plan.rings.items c.args.ring p) c.args.start c.args.count cells c.settle-found.new.seat.me.1 (lost.1 ∙ c.offer.ensures.slots) all in (

@@ -13,6 +13,26 @@ use Rattle.fabric.proofs.Settling.{packed_from, row_held, row_values, somes_of}
 use Rattle.fabric.proofs.Starting.{alive_on, contended, has_seen, idle_on, row_on, row_opened, same_ring, shape_at, started, take_room, well_on, well_opened}
 use Rattle.fabric.proofs.fabric.Fabric.try_start_take_span.Goals as goal
 
+pub aim-requires : goal.aim-requires
+aim-requires g c =
+    let f = c.args.self.now in
+    let h = c.args.hand in
+    let at = shape_at f.plan.rings.items f.shapes.items c.args.ring c.index.result.now f.laid c.requires.ring c.index.ensures in
+    (omega arith, (c.requires.hand.0, (at.0, (c.requires.hand.1, (h.share.alive, h.idle)))))
+
+pub invariant_of-result : goal.invariant_of-result
+invariant_of-result g c =
+    let v = c.args.hand.share.seat.me.0 in
+    let w = c.aim.new.seat.me.0 in
+    let k = c.aim.ensures.kept in
+    let tags = g.T.Tagged.numbers in
+    record {
+      counted = c.args.hand.share.counted ∙ sym k.parts;
+      alive = alive_on tags v w k c.args.hand.share.alive;
+      well = well_on tags v w k c.args.hand.share.well;
+      row = row_on tags v w k c.args.hand.share.owned c.args.hand.share.row;
+    }
+
 pub returns-in-Err-clause-refused : goal.returns-in-Err-clause-refused
 returns-in-Err-clause-refused g c =
     let f = c.args.self.now in
@@ -182,7 +202,7 @@ invariant_of-into g c =
     let has = won.3
     ∙ (ap (λ l. run slot (position_of p.take c.in-Ok.aim.0.word) (map Some won.0) ++ l) (c.aim.ensures.fabric.2 ∙ c.args.hand.no_slots)
     ∙ (append-nil (run slot (position_of p.take c.in-Ok.aim.0.word) (map Some won.0)) ∙ ap (λ n. run slot n (map Some won.0)) (sym a.0.1))) in
-    packed_from c.withdraw.new.cells.items won.0 (c.withdraw.ensures.cells ∙ row_values slot c.in-Ok.aim.0.start c.in-Ok.aim.1 won.0 won.1 c.reserve_take-found.new.seat.me.1 has)
+    packed_from c.withdraw.new.cells won.0 (c.withdraw.ensures.cells ∙ row_values slot c.in-Ok.aim.0.start c.in-Ok.aim.1 won.0 won.1 c.reserve_take-found.new.seat.me.1 has)
 
 pub returns-clause-started : goal.returns-clause-started
 returns-clause-started g c =

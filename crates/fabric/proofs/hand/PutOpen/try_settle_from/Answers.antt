@@ -27,7 +27,7 @@ pub publish-requires : goal.publish-requires
 publish-requires g c =
     let o = c.args.self in
     let tags = g.T.Tagged.numbers in
-    let cells = c.items.inside.cells.items in
+    let cells = c.items.inside.cells in
     let mine = c.may_put.ensures.mine c.if-not-may_put.false in
     let long = sym (ap length c.items.view_is) ∙ packed_long cells c.items.invariant in
     let count = subst (λ n. IsCount o.shape.plan.put n o.count) (c.len.ensures.value ∙ long) (c.is_count.ensures.good c.if-not-is_count.false) in
@@ -78,7 +78,7 @@ invariant_of-result g c =
       alive = subst (λ v. 0 < v.parts) (sym done.0) o.share.alive;
       well = done.2;
       row = subst (λ v. IsRow tags v.pool v.party c.may_put.new.owned) (sym done.0)
-          (subst (λ r. IsRow tags o.share.seat.me.0.pool (with_settled o.share.seat.me.0.party (span_of o.ring Put o.start o.count) (somes c.items.inside.cells.items)) r) (sym mine.0) (subst (λ l. IsRow tags o.share.seat.me.0.pool (with_settled o.share.seat.me.0.party (span_of o.ring Put o.start o.count) l) (cleared o.share.owned (flat_map tags c.args.items.now)))
+          (subst (λ r. IsRow tags o.share.seat.me.0.pool (with_settled o.share.seat.me.0.party (span_of o.ring Put o.start o.count) (somes c.items.inside.cells)) r) (sym mine.0) (subst (λ l. IsRow tags o.share.seat.me.0.pool (with_settled o.share.seat.me.0.party (span_of o.ring Put o.start o.count) l) (cleared o.share.owned (flat_map tags c.args.items.now)))
           (sym c.items.view_is) row));
     }
 

@@ -14,7 +14,7 @@ use Rattle.fabric.proofs.Settling.{packed_from, somes_of}
 use Rattle.fabric.proofs.hand.TakeSpan.try_settle_with.Goals as goal
 
 pub invariant_of-items : goal.invariant_of-items
-invariant_of-items g c = let done = c.in_default.ensures.done in packed_from c.dequeue.new.cells.items (take c.args.k c.args.self.share.seat.me.0.shown) done.3
+invariant_of-items g c = let done = c.in_default.ensures.done in packed_from c.dequeue.new.cells (take c.args.k c.args.self.share.seat.me.0.shown) done.3
 
 pub invariant_of-result : goal.invariant_of-result
 invariant_of-result g c =
@@ -22,7 +22,7 @@ invariant_of-result g c =
     let tags = g.T.Tagged.numbers in
     let v = o.share.seat.me.0 in
     let done = c.in_default.ensures.done in
-    let cells = c.items.inside.cells.items in
+    let cells = c.items.inside.cells in
     let long = ap length (c.items.invariant ∙ ap (map Some) (c.items.view_is ∙ c.requires.shows)) ∙ (length-cells v.shown ∙ o.many) in
     let is = done.0 ∙ ap (λ n. settled (span_of o.ring Take o.start n) (take c.args.k v.shown) v) long in
     let same = ap somes done.3 ∙ somes_of (take c.args.k v.shown) in
