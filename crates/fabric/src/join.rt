@@ -14,8 +14,8 @@ use crate::tagged::Tagged;
 impl<T: Tagged> Hand<T> {
     /// One hand that has the spans, the buffers and the parts of both. What they hold together doesn't clash: no buffer
     /// is owned by both, no position is in settled spans of both on one side, and an item that one published and the
-    /// other took is the same. A hand that has all parts then is the only one: its spans and buffers are all that there
-    /// are. Takes no memory, and makes no step that counts.
+    /// other took is the same. The view of a hand that has all parts then is sound by itself: each buffer of the pool
+    /// has its one place there. Takes no memory, and makes no step that counts.
     pub fn join<const N: usize>(self, fabric: &Fabric<T, N>, other: Hand<T>) -> Hand<T>
         requires hand { IsHandOf fabric.now self }
         requires other { IsHandOf fabric.now other }

@@ -1,5 +1,5 @@
-//! Items go into the slots that a hand holds and come out of them. These two functions, `fill` and `drain`, are the
-//! fabric's only access to a slot.
+//! Items go into the slots that a hand holds and come out of them. `fill` and `drain` are the only access to a slot of
+//! a fabric that is shared; the other functions here say of which part of a burst's cells.
 ghost use Rattle.std.specs.Prelude.{◌≡◌, ◌+◌, ◌<◌, ◌≤◌, ◌++◌, ◌^◌, [], ◌-◌, length, take, drop, replicate, None, slice_range};
 ghost use Rattle.fabric_laws.specs.Kinds.{run};
 ghost use Rattle.fabric.specs.Shapes.{slot_of};
