@@ -3,9 +3,11 @@ use Rattle.std.proofs.Common.{◌≡◌, ◌≢◌, ℕ, suc, ◌+◌, ◌-◌, 
 use Rattle.std.specs.Prelude.{slice_get}
 use Rattle.std.specs.List.{range_with_len, sum_by}
 use Rattle.std.proofs.lemmas.List.Sums.{sum_by-cons}
+use Rattle.std.proofs.lemmas.Bool.Decides.{nat_tests}
 use Rattle.std.proofs.lemmas.Option.{slice_get_read}
 use Rattle.ringcore_laws.proofs.Laws.{same_plan}
 use Rattle.geom.specs.declared.plan.How.{How}
+use Rattle.geom.specs.declared.plan.How.TheVariants.{Bulk, Burst}
 use Rattle.geom.specs.declared.plan.Side.{Side}
 use Rattle.geom.specs.declared.plan.Side.TheVariants.{Put, Take}
 use Rattle.geom.specs.declared.plan.RingPlan.{RingPlan}
@@ -27,7 +29,7 @@ use Rattle.fabric.specs.declared.plan.Shape.{Shape}
 use Rattle.fabric.specs.declared.start.Probe.{Probe}
 use Rattle.fabric.specs.Owned.{IsRow, count_true, one_if}
 use Rattle.fabric.specs.Shapes.{AreShapes}
-use Rattle.fabric.specs.Starts.{Denies, Probes, Refuses, Starts}
+use Rattle.fabric.specs.Starts.{Denies, Judges, MayAsk, Probes, Refuses, Starts}
 use Rattle.fabric.specs.Views.{HasSeen, IsKept, span_of}
 
 sum_index : (f : Bool → ℕ) (g : ℕ → ℕ) (row : List Bool) (a : ℕ) → ((i : ℕ) → g (a + i) ≡ f (get_or row i false)) → sum_by f row ≡ sum_by g (range_with_len a (length row))
@@ -158,3 +160,48 @@ module _ {T : Type 0} (tags : T → List ℕ) where
       → plan.free ≡ true → m ≤ buffers_of tags w.pool w.party
   few_buffers m n v w row plan is k le few free =
       subst (λ (z : ℕ × Party T). m ≤ buffers_of tags z.0 z.1) (λ j. (sym k.pool j, sym k.party j)) (omega (arith, le, few free, row_count tags v.pool v.party row is))
+
+  -- a request that passed the tests may be granted
+  pub may_put : (most n : ℕ) (v : View T) (row : List Bool) (plan : RingPlan) → IsRow tags v.pool v.party row
+      → (0 < n) × (n ≤ most) × (plan.free ≡ true → n ≤ count_true row) → MayAsk tags most n Put plan v
+  may_put most n v row plan is good = (good.0, good.1, λ _ free. omega (arith, good.2 free, row_count tags v.pool v.party row is))
+
+  pub may_take : (most n : ℕ) (v : View T) (plan : RingPlan) → 0 < n → n ≤ most → MayAsk tags most n Take plan v
+  may_take most n v plan some fits = (some, fits, λ e. absurd (let u : Take ≡ Put = e in cc))
+
+  granted_some : (how : How) (n room : ℕ) → 0 < n → n ≤ room → 0 < granted how n room
+  granted_some Bulk n room some fits = grind (arith, nat_tests, some, fits)
+  granted_some Burst n room some fits = omega (arith, some, fits)
+
+  -- and is refused for another reason than the count; where the ring is free, not for want of room
+  pub judged : (most n ring : ℕ) (how : How) (side : Side) (plan : RingPlan) (v w : View T) (e : StartFault) → MayAsk tags most n side plan v
+      → Refuses tags most how n ring side plan v w e → Judges tags most n side plan v e
+  judged most n ring how side plan v w (Busy x) may r = may
+  judged most n ring how side plan v w (Contended x) may r = may
+  judged most n ring how side plan v w Worn may r = may
+  judged most n ring how side plan v w BadCount may r = λ _. elim r.0 [
+    | inl none ↦ omega (arith, none, may.0)
+    | inr other ↦ elim other [
+      | inl more ↦ omega (arith, more, may.1)
+      | inr few ↦ omega (arith, may.2 few.0 few.1, few.2)
+    ]
+  ]
+  judged most n ring how Take plan v w (NoRoom left) may r = (may, λ e. absurd (let u : Take ≡ Put = e in cc))
+  judged most n ring how Put plan v w (NoRoom left) may r = (
+    may,
+    λ e free.
+        let room = r.2.room free in
+        let position = position_of plan.put r.0 in
+        omega (arith, r.3, granted_some how n (plan.geometry.capacity + r.1 - position) may.0 (omega (arith, room, may.2 e free))),
+  )
+
+  -- a request that failed the tests may not be granted
+  pub bad_judged : (most n : ℕ) (side : Side) (plan : RingPlan) (v : View T) → (n ≡ 0) ⊎ ((most < n) ⊎ ((side ≡ Put) × (plan.free ≡ true) × (buffers_of tags v.pool v.party < n)))
+      → Judges tags most n side plan v BadCount
+  bad_judged most n side plan v bad may = elim bad [
+    | inl none ↦ omega (arith, none, may.0)
+    | inr other ↦ elim other [
+      | inl more ↦ omega (arith, more, may.1)
+      | inr few ↦ omega (arith, may.2 few.0 few.1, few.2)
+    ]
+  ]

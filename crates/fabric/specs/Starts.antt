@@ -60,6 +60,19 @@ module _ {T : Type 0} (tags : T → List ℕ) where
   Refuses most how n ring side plan v w BadCount =
       ((n ≡ 0) ⊎ ((most < n) ⊎ ((side ≡ Put) × (plan.free ≡ true) × (buffers_of tags v.pool v.party < n)))) × (w ≡ v)
 
+  -- a request that may be granted: of some positions, no more than a call may reserve, and for a put into a free ring no more than the
+  -- hand has buffers
+  abbrev pub MayAsk : ℕ → ℕ → Side → RingPlan → View T → Type 0
+  MayAsk most n side plan v = (0 < n) × (n ≤ most) × (side ≡ Put → plan.free ≡ true → n ≤ buffers_of tags v.pool v.party)
+
+  -- A request that may not be granted is refused as BadCount, and no other is. A put into a free ring is never refused for want of room
+  abbrev pub Judges : ℕ → ℕ → Side → RingPlan → View T → StartFault → Type 0
+  Judges most n side plan v (Busy x) = MayAsk most n side plan v
+  Judges most n side plan v (Contended x) = MayAsk most n side plan v
+  Judges most n side plan v (NoRoom left) = MayAsk most n side plan v × (side ≡ Put → plan.free ≡ true → ⊥)
+  Judges most n side plan v Worn = MayAsk most n side plan v
+  Judges most n side plan v BadCount = MayAsk most n side plan v → ⊥
+
   -- what a probe tells
   abbrev pub Probes : ℕ → Side → RingPlan → View T → Probe → View T → Type 0
   Probes ring side plan v q w =

@@ -9,7 +9,7 @@ ghost use Rattle.geom.specs.Plan.{granted, mode_of};
 ghost use Rattle.fabric_laws.specs.Changes.{found_busy};
 ghost use Rattle.fabric.specs.Hands.{IsHandOf, OnRing, put_view, rings_of, take_view, view};
 ghost use Rattle.fabric.specs.Owned.{count_true};
-ghost use Rattle.fabric.specs.Starts.{Denies, Probes, Refuses, Starts};
+ghost use Rattle.fabric.specs.Starts.{Denies, Judges, MayAsk, Probes, Refuses, Starts};
 ghost use Rattle.fabric.specs.Views.{IsKept};
 
 use crate::burst::Burst;
@@ -164,6 +164,8 @@ impl<T: Tagged, const N: usize> Fabric<T, N> {
             o.start o.count o.left [] (put_view o))) }
         ensures refused { IfErr result (λ e. IsHandOf self.now e.0
             × OnRing self.now ring (λ plan. Refuses T.numbers N how n ring Put plan (view hand) (view e.0) e.1)) }
+        ensures judged { OnRing self.now ring (λ plan. IfOk result (λ _. MayAsk T.numbers N n Put plan (view hand))
+            × IfErr result (λ e. Judges T.numbers N n Put plan (view hand) e.1)) }
     {
         let shape = self.shapes[ring];
         if is_bad_count(&shape, &hand.share.owned, n, N) {
@@ -225,6 +227,8 @@ impl<T: Tagged, const N: usize> Fabric<T, N> {
             (view hand) o.start o.count o.left into.new (take_view o))) }
         ensures refused { IfErr result (λ e. IsHandOf self.now e.0 × (into.new ≡ [])
             × OnRing self.now ring (λ plan. Refuses T.numbers N how n ring Take plan (view hand) (view e.0) e.1)) }
+        ensures judged { OnRing self.now ring (λ plan. IfOk result (λ _. MayAsk T.numbers N n Take plan (view hand))
+            × IfErr result (λ e. Judges T.numbers N n Take plan (view hand) e.1)) }
     {
         let shape = self.shapes[ring];
         if n == 0 || n > N {

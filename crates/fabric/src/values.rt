@@ -4,7 +4,7 @@ ghost use Rattle.std.specs.Prelude.{◌≡◌, ◌<◌, length, take, IfErr, IfO
 ghost use Rattle.geom.specs.declared.plan.Side.TheVariants.{Take};
 ghost use Rattle.fabric.specs.Hands.{DeclinesPut, DeclinesTake, HasPut, HasTaken, IsHandOf, OnRing, SamePut, SameTake};
 ghost use Rattle.fabric.specs.Hands.{rings_of, take_view, view};
-ghost use Rattle.fabric.specs.Starts.{Refuses, Starts};
+ghost use Rattle.fabric.specs.Starts.{Judges, MayAsk, Refuses, Starts};
 
 use crate::burst::Burst;
 use crate::fabric::Fabric;
@@ -29,6 +29,8 @@ impl<T: Tagged, const N: usize> Fabric<T, N> {
             o.span.start o.span.count o.span.left o.items (take_view o.span))) }
         ensures refused { IfErr result (λ e. IsHandOf self.now e.0
             × OnRing self.now ring (λ plan. Refuses T.numbers N how n ring Take plan (view hand) (view e.0) e.1)) }
+        ensures judged { OnRing self.now ring (λ plan. IfOk result (λ _. MayAsk T.numbers N n Take plan (view hand))
+            × IfErr result (λ e. Judges T.numbers N n Take plan (view hand) e.1)) }
     {
         let mut items = Burst::new();
         match self.try_start_take_span(hand, ring, n, how, &mut items) {

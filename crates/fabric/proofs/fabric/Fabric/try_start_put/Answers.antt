@@ -6,10 +6,10 @@ use Rattle.geom.specs.declared.plan.Side.TheVariants.{Put}
 use Rattle.ringcore_laws.specs.History.{position_of}
 use Rattle.fabric_laws.specs.Kinds.{run}
 use Rattle.fabric_laws.specs.Words.{slot_at}
-use Rattle.fabric.specs.Starts.{Refuses, Starts}
+use Rattle.fabric.specs.Starts.{Judges, MayAsk, Refuses, Starts}
 use Rattle.fabric.specs.declared.hand.StartFault.TheVariants.{BadCount, Contended}
 use Rattle.fabric.specs.Views.{span_of}
-use Rattle.fabric.proofs.Starting.{alive_on, bad_put, contended, few_buffers, has_seen, idle_on, put_room, row_on, row_opened, same_ring, shape_at, started, well_on, well_opened}
+use Rattle.fabric.proofs.Starting.{alive_on, bad_judged, bad_put, contended, few_buffers, has_seen, idle_on, judged, may_put, put_room, row_on, row_opened, same_ring, shape_at, started, well_on, well_opened}
 use Rattle.fabric.proofs.fabric.Fabric.try_start_put.Goals as goal
 
 pub returns-then-is_bad_count-clause-refused : goal.returns-then-is_bad_count-clause-refused
@@ -155,3 +155,46 @@ returns-clause-started g c =
           (same_ring f.plan.rings.items c.args.ring c.index.result.now.plan plan at.0 there)
           (started g.T.Tagged.numbers c.args.ring Put c.index.result.now.plan c.args.n c.args.how v w c.reserve_put-found.new.seat.me.0 c.in-Ok.aim.0 c.in-Ok.aim.1 (c.in-Ok.aim.0.room - c.in-Ok.aim.1) [] a.0 a.1 a.2 a.5 refl won.0),
     )
+
+pub returns-then-is_bad_count-clause-judged : goal.returns-then-is_bad_count-clause-judged
+returns-then-is_bad_count-clause-judged g c plan there =
+    let f = c.args.self.now in
+    let h = c.args.hand.share in
+    let tags = g.T.Tagged.numbers in
+    let p = c.index.result.now.plan in
+    let at = shape_at f.plan.rings.items f.shapes.items c.args.ring c.index.result.now f.laid c.requires.ring c.index.ensures in
+    let bad = bad_put tags g.row.N c.args.n c.args.ring c.args.ring c.args.how h.seat.me.0 h.owned p h.row (c.is_bad_count.ensures.bad c.if-is_bad_count.true) in
+    (tt, subst (λ z. Judges tags g.row.N c.args.n Put z h.seat.me.0 BadCount) (same_ring f.plan.rings.items c.args.ring p plan at.0 there) (bad_judged tags g.row.N c.args.n Put p h.seat.me.0 bad.0))
+
+pub returns-in-Err-clause-judged : goal.returns-in-Err-clause-judged
+returns-in-Err-clause-judged g c plan there =
+    let f = c.args.self.now in
+    let h = c.args.hand.share in
+    let tags = g.T.Tagged.numbers in
+    let p = c.index.result.now.plan in
+    let at = shape_at f.plan.rings.items f.shapes.items c.args.ring c.index.result.now f.laid c.requires.ring c.index.ensures in
+    let may = may_put tags g.row.N c.args.n h.seat.me.0 h.owned p h.row (c.is_bad_count.ensures.good c.if-is_bad_count.false) in (
+      tt,
+      subst (λ z. Judges tags g.row.N c.args.n Put z h.seat.me.0 c.in-Err.fault) (same_ring f.plan.rings.items c.args.ring p plan at.0 there)
+          (judged tags g.row.N c.args.n c.args.ring c.args.how Put p h.seat.me.0 c.aim.new.seat.me.0 c.in-Err.fault may c.in-Err.ensures.err),
+    )
+
+pub returns-then-found-probe-clause-judged : goal.returns-then-found-probe-clause-judged
+returns-then-found-probe-clause-judged g c plan there =
+    let f = c.args.self.now in
+    let h = c.args.hand.share in
+    let tags = g.T.Tagged.numbers in
+    let p = c.index.result.now.plan in
+    let at = shape_at f.plan.rings.items f.shapes.items c.args.ring c.index.result.now f.laid c.requires.ring c.index.ensures in
+    let may = may_put tags g.row.N c.args.n h.seat.me.0 h.owned p h.row (c.is_bad_count.ensures.good c.if-is_bad_count.false) in
+    (tt, subst (λ z. MayAsk tags g.row.N c.args.n Put z h.seat.me.0) (same_ring f.plan.rings.items c.args.ring p plan at.0 there) may)
+
+pub returns-clause-judged : goal.returns-clause-judged
+returns-clause-judged g c plan there =
+    let f = c.args.self.now in
+    let h = c.args.hand.share in
+    let tags = g.T.Tagged.numbers in
+    let p = c.index.result.now.plan in
+    let at = shape_at f.plan.rings.items f.shapes.items c.args.ring c.index.result.now f.laid c.requires.ring c.index.ensures in
+    let may = may_put tags g.row.N c.args.n h.seat.me.0 h.owned p h.row (c.is_bad_count.ensures.good c.if-is_bad_count.false) in
+    (subst (λ z. MayAsk tags g.row.N c.args.n Put z h.seat.me.0) (same_ring f.plan.rings.items c.args.ring p plan at.0 there) may, tt)

@@ -6,11 +6,11 @@ use Rattle.fabric_laws.specs.Kinds.{IsHeldOnce, run}
 use Rattle.fabric_laws.specs.Words.{slot_at}
 use Rattle.fabric.specs.Items.{somes}
 use Rattle.fabric.specs.Owned.{IsRow}
-use Rattle.fabric.specs.Starts.{Refuses, Starts}
+use Rattle.fabric.specs.Starts.{Judges, MayAsk, Refuses, Starts}
 use Rattle.fabric.specs.declared.hand.StartFault.TheVariants.{Contended}
 use Rattle.fabric.specs.Views.{span_of}
 use Rattle.fabric.proofs.Settling.{packed_from, row_held, row_values, somes_of}
-use Rattle.fabric.proofs.Starting.{alive_on, contended, has_seen, idle_on, row_on, row_opened, same_ring, shape_at, started, take_room, well_on, well_opened}
+use Rattle.fabric.proofs.Starting.{alive_on, contended, has_seen, idle_on, judged, may_take, row_on, row_opened, same_ring, shape_at, started, take_room, well_on, well_opened}
 use Rattle.fabric.proofs.fabric.Fabric.try_start_take_span.Goals as goal
 
 pub aim-requires : goal.aim-requires
@@ -228,3 +228,36 @@ returns-clause-started g c =
           (same_ring f.plan.rings.items c.args.ring c.index.result.now.plan plan at.0 there)
           (started g.T.Tagged.numbers c.args.ring Take c.index.result.now.plan c.args.n c.args.how v w c.withdraw.new.seat.me.0 c.in-Ok.aim.0 c.in-Ok.aim.1 (c.in-Ok.aim.0.room - c.in-Ok.aim.1) won.0 a.0 a.1 a.2 a.5 refl is)),
     )
+
+pub returns-in-Err-clause-judged : goal.returns-in-Err-clause-judged
+returns-in-Err-clause-judged g c plan there =
+    let f = c.args.self.now in
+    let h = c.args.hand.share in
+    let tags = g.T.Tagged.numbers in
+    let p = c.index.result.now.plan in
+    let at = shape_at f.plan.rings.items f.shapes.items c.args.ring c.index.result.now f.laid c.requires.ring c.index.ensures in
+    let may = may_take tags g.row.N c.args.n h.seat.me.0 p (omega (arith, c.if-n-eq0.false)) c.if-n.false in (
+      tt,
+      subst (λ z. Judges tags g.row.N c.args.n Take z h.seat.me.0 c.in-Err.fault) (same_ring f.plan.rings.items c.args.ring p plan at.0 there)
+          (judged tags g.row.N c.args.n c.args.ring c.args.how Take p h.seat.me.0 c.aim.new.seat.me.0 c.in-Err.fault may c.in-Err.ensures.err),
+    )
+
+pub returns-then-found-probe-clause-judged : goal.returns-then-found-probe-clause-judged
+returns-then-found-probe-clause-judged g c plan there =
+    let f = c.args.self.now in
+    let h = c.args.hand.share in
+    let tags = g.T.Tagged.numbers in
+    let p = c.index.result.now.plan in
+    let at = shape_at f.plan.rings.items f.shapes.items c.args.ring c.index.result.now f.laid c.requires.ring c.index.ensures in
+    let may = may_take tags g.row.N c.args.n h.seat.me.0 p (omega (arith, c.if-n-eq0.false)) c.if-n.false in
+    (tt, subst (λ z. MayAsk tags g.row.N c.args.n Take z h.seat.me.0) (same_ring f.plan.rings.items c.args.ring p plan at.0 there) may)
+
+pub returns-clause-judged : goal.returns-clause-judged
+returns-clause-judged g c plan there =
+    let f = c.args.self.now in
+    let h = c.args.hand.share in
+    let tags = g.T.Tagged.numbers in
+    let p = c.index.result.now.plan in
+    let at = shape_at f.plan.rings.items f.shapes.items c.args.ring c.index.result.now f.laid c.requires.ring c.index.ensures in
+    let may = may_take tags g.row.N c.args.n h.seat.me.0 p (omega (arith, c.if-n-eq0.false)) c.if-n.false in
+    (subst (λ z. MayAsk tags g.row.N c.args.n Take z h.seat.me.0) (same_ring f.plan.rings.items c.args.ring p plan at.0 there) may, tt)
