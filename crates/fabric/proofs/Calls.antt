@@ -13,13 +13,14 @@ use Rattle.geom.specs.declared.plan.RingPlan.{RingPlan}
 use Rattle.geom.specs.declared.word.TheConstants.{LAST, RESERVED}
 use Rattle.geom.specs.Plan.{mode_of}
 use Rattle.ringcore_laws.specs.declared.party.Party.{Party}
-use Rattle.ringcore_laws.specs.FreeRings.{buffers_of}
+use Rattle.ringcore_laws.specs.FreeRings.{buffers_had}
 use Rattle.ringcore_laws.specs.History.{other_side, position_of}
 use Rattle.fabric_laws.specs.declared.view.View.{View}
 use Rattle.fabric_laws.specs.Changes.{asked}
-use Rattle.fabric_laws.specs.Kinds.{HasRoom, IsNear, IsReady, ReadsBack, look_tells, reserve_put_tells, reserve_take_tells, room_tells, run, settle_tells, store_tells}
+use Rattle.fabric_laws.specs.Kinds.{HasRoom, IsNear, IsReady, ReadsBack, look_tells, reserve_put_tells, reserve_take_tells, room_tells, run, settle_tells}
+use Rattle.fabric_laws.specs.Kinds.{store_tells}
 use Rattle.fabric_laws.specs.Rule.{IsConsistent}
-use Rattle.fabric_laws.specs.Words.{own_at, settled_at, slot_at, tail_at}
+use Rattle.fabric_laws.specs.Words.{own_at, settled_word_at, slot_at, tail_at}
 use Rattle.fabric_laws.proofs.Lanes.{own_inside, tail_inside}
 use Rattle.fabric_laws.proofs.Loads.{looks, rooms}
 use Rattle.fabric_laws.proofs.Reserves.{reserves_put, reserves_take}
@@ -30,13 +31,16 @@ use Rattle.fabric.specs.Views.{HasLooked, HasSeen, span_of}
 pub few_rings : (plans : List RingPlan) (ring : ℕ) (plan : RingPlan) → slice_get plans ring ≡ Some plan → length plans ≤ 64 → ring < 64
 few_rings plans ring plan at few = omega (arith, slice_get_within plans ring plan at)
 
-pub own_fits : (plans : List RingPlan) (ring words word : ℕ) (plan : RingPlan) (side : Side) → slice_get plans ring ≡ Some plan → words ≡ 64 * length plans → word ≡ own_at ring side → word < words
+pub own_fits : (plans : List RingPlan) (ring words word : ℕ) (plan : RingPlan) (side : Side) → slice_get plans ring ≡ Some plan → words ≡ 64 * length plans
+    → word ≡ own_at ring side → word < words
 own_fits plans ring words word plan side at all is = omega (arith, own_inside ring (length plans) side (slice_get_within plans ring plan at))
 
-pub tail_fits : (plans : List RingPlan) (ring words word : ℕ) (plan : RingPlan) (side : Side) → slice_get plans ring ≡ Some plan → words ≡ 64 * length plans → word ≡ tail_at ring side → word < words
+pub tail_fits : (plans : List RingPlan) (ring words word : ℕ) (plan : RingPlan) (side : Side) → slice_get plans ring ≡ Some plan → words ≡ 64 * length plans
+    → word ≡ tail_at ring side → word < words
 tail_fits plans ring words word plan side at all is = omega (arith, tail_inside ring (length plans) side (slice_get_within plans ring plan at))
 
-pub settled_fits : (plans : List RingPlan) (ring words word : ℕ) (plan : RingPlan) (mode : Mode) (side : Side) → slice_get plans ring ≡ Some plan → words ≡ 64 * length plans → word ≡ settled_at mode ring side → word < words
+pub settled_fits : (plans : List RingPlan) (ring words word : ℕ) (plan : RingPlan) (mode : Mode) (side : Side) → slice_get plans ring ≡ Some plan
+    → words ≡ 64 * length plans → word ≡ settled_word_at mode ring side → word < words
 settled_fits plans ring words word plan Multi side at all is = tail_fits plans ring words word plan side at all is
 settled_fits plans ring words word plan Hts side at all is = own_fits plans ring words word plan side at all is
 
@@ -55,42 +59,57 @@ module _ {T : Type 0} (tags : T → List ℕ) (key plan : FabricPlan) (is : key 
       → Allows (IsConsistent tags key.rings.items key.buffers) slots id me word f then
   at_key f then h = subst (λ (z : FabricPlan). Allows (IsConsistent tags z.rings.items z.buffers) slots id me word f then) (sym is) h
 
-  pub look_call : (side : Side) → word ≡ own_at ring side → Allows (IsConsistent tags key.rings.items key.buffers) slots id me word (λ n. n) (look_tells (step slots word 0 0 none) me)
+  pub look_call : (side : Side) → word ≡ own_at ring side → Allows (IsConsistent tags key.rings.items key.buffers) slots id me word (λ n. n)
+      (look_tells (step slots word 0 0 none) me)
   look_call side e = at_key (λ n. n) (look_tells (step slots word 0 0 none) me)
       (subst (λ (w : ℕ). Allows (IsConsistent tags plan.rings.items plan.buffers) slots id me w (λ n. n) (look_tells (step slots w 0 0 none) me)) (sym e)
       (looks tags plan.rings.items plan.buffers slots id me ring side ring_plan at alive))
 
-  pub ask_call : (side : Side) (seen : ℕ) → word ≡ settled_at (mode_of ring_plan (other_side side)) ring (other_side side) → HasLooked ring side seen me.0
+  pub ask_call : (side : Side) (seen : ℕ) → word ≡ settled_word_at (mode_of ring_plan (other_side side)) ring (other_side side) → HasLooked ring side seen me.0
       → Allows (IsConsistent tags key.rings.items key.buffers) slots id me word (λ n. n) (room_tells tags (step slots word 0 0 none) me)
   ask_call side seen e look = at_key (λ n. n) (room_tells tags (step slots word 0 0 none) me)
       (subst (λ (w : ℕ). Allows (IsConsistent tags plan.rings.items plan.buffers) slots id me w (λ n. n) (room_tells tags (step slots w 0 0 none) me)) (sym e)
-      (rooms tags plan.rings.items plan.buffers slots id me ring side ring_plan record { ring = ring; side = side; looked_at = seen; tail_seen = None } at alive look refl refl))
+      (rooms tags plan.rings.items plan.buffers slots id me ring side ring_plan record { ring = ring; side = side; looked_at = seen; tail_seen = None } at alive
+      look refl refl))
 
   module _ (old n t : ℕ) (idle : me.0.party.span ≡ None) (some_n : 0 < n) where
-    pub reserve_put_call : word ≡ own_at ring Put → HasSeen ring Put old t me.0 → position_of ring_plan.put old + n ≤ ring_plan.geometry.capacity + t → position_of ring_plan.put old + n ≤ LAST
-        → (ring_plan.free ≡ true → n ≤ buffers_of tags plan.buffers me.0.party)
-        → Allows (IsConsistent tags key.rings.items key.buffers) slots id me word (λ y. either (eqb y old) (old + n) y) (reserve_put_tells (step slots word old (old + n) none) me)
+    pub reserve_put_call : word ≡ own_at ring Put → HasSeen ring Put old t me.0 → position_of ring_plan.put old + n ≤ ring_plan.geometry.capacity + t
+        → position_of ring_plan.put old + n ≤ LAST
+        → (ring_plan.free ≡ true → n ≤ buffers_had tags plan.buffers me.0.party)
+        → Allows (IsConsistent tags key.rings.items key.buffers) slots id me word (λ y. either (eqb y old) (old + n) y)
+        (reserve_put_tells (step slots word old (old + n) none) me)
     reserve_put_call e seen room low few = at_key (λ y. either (eqb y old) (old + n) y) (reserve_put_tells (step slots word old (old + n) none) me)
-        (subst (λ (w : ℕ). Allows (IsConsistent tags plan.rings.items plan.buffers) slots id me w (λ y. either (eqb y old) (old + n) y) (reserve_put_tells (step slots w old (old + n) none) me)) (sym e)
-        (reserves_put tags plan.rings.items plan.buffers slots id me ring ring_plan record { ring = ring; side = Put; looked_at = old; tail_seen = Some t } t n at alive idle seen refl refl some_n refl room low few))
+        (subst (λ (w : ℕ). Allows (IsConsistent tags plan.rings.items plan.buffers) slots id me w (λ y. either (eqb y old) (old + n) y)
+        (reserve_put_tells (step slots w old (old + n) none) me)) (sym e)
+        (reserves_put tags plan.rings.items plan.buffers slots id me ring ring_plan record { ring = ring; side = Put; looked_at = old; tail_seen = Some t } t n
+        at alive idle seen refl refl some_n refl room low few))
 
-    pub reserve_take_call : word ≡ own_at ring Take → HasSeen ring Take old t me.0 → position_of ring_plan.take old + n ≤ t → position_of ring_plan.take old + n ≤ LAST
-        → Allows (IsConsistent tags key.rings.items key.buffers) slots id me word (λ y. either (eqb y old) (old + n) y) (reserve_take_tells (step slots word old (old + n) none) me)
+    pub reserve_take_call : word ≡ own_at ring Take → HasSeen ring Take old t me.0 → position_of ring_plan.take old + n ≤ t
+        → position_of ring_plan.take old + n ≤ LAST
+        → Allows (IsConsistent tags key.rings.items key.buffers) slots id me word (λ y. either (eqb y old) (old + n) y)
+        (reserve_take_tells (step slots word old (old + n) none) me)
     reserve_take_call e seen room low = at_key (λ y. either (eqb y old) (old + n) y) (reserve_take_tells (step slots word old (old + n) none) me)
-        (subst (λ (w : ℕ). Allows (IsConsistent tags plan.rings.items plan.buffers) slots id me w (λ y. either (eqb y old) (old + n) y) (reserve_take_tells (step slots w old (old + n) none) me)) (sym e)
-        (reserves_take tags plan.rings.items plan.buffers slots id me ring ring_plan record { ring = ring; side = Take; looked_at = old; tail_seen = Some t } t n at alive idle seen refl refl some_n refl room low))
+        (subst (λ (w : ℕ). Allows (IsConsistent tags plan.rings.items plan.buffers) slots id me w (λ y. either (eqb y old) (old + n) y)
+        (reserve_take_tells (step slots w old (old + n) none) me)) (sym e)
+        (reserves_take tags plan.rings.items plan.buffers slots id me ring ring_plan record { ring = ring; side = Take; looked_at = old; tail_seen = Some t } t
+        n at alive idle seen refl refl some_n refl room low))
 
   pub settle_call : (side : Side) (start count : ℕ) (items : List T) → word ≡ tail_at ring side → mode_of ring_plan side ≡ Multi → length items ≡ count
       → IsReady tags plan.rings.items ring_plan (span_of ring side start count) items me
-      → Allows (IsConsistent tags key.rings.items key.buffers) slots id me word (λ y. either (eqb y start) (start + count) y) (settle_tells tags (step slots word start (start + count) none) me)
-  settle_call side start count items e multi all ready = at_key (λ y. either (eqb y start) (start + count) y) (settle_tells tags (step slots word start (start + count) none) me)
-      (subst (λ (w : ℕ). Allows (IsConsistent tags plan.rings.items plan.buffers) slots id me w (λ y. either (eqb y start) (start + count) y) (settle_tells tags (step slots w start (start + count) none) me)) (sym e)
+      → Allows (IsConsistent tags key.rings.items key.buffers) slots id me word (λ y. either (eqb y start) (start + count) y)
+      (settle_tells tags (step slots word start (start + count) none) me)
+  settle_call side start count items e multi all ready =
+      at_key (λ y. either (eqb y start) (start + count) y) (settle_tells tags (step slots word start (start + count) none) me)
+      (subst (λ (w : ℕ). Allows (IsConsistent tags plan.rings.items plan.buffers) slots id me w (λ y. either (eqb y start) (start + count) y)
+      (settle_tells tags (step slots w start (start + count) none) me)) (sym e)
       (settles tags plan.rings.items plan.buffers slots id me (span_of ring side start count) ring_plan items at alive ready multi all))
 
   pub store_call : (side : Side) (start count k : ℕ) (items : List T) → word ≡ own_at ring side → mode_of ring_plan side ≡ Hts → length items ≡ k
       → IsReady tags plan.rings.items ring_plan (span_of ring side start count) items me
-      → Allows (IsConsistent tags key.rings.items key.buffers) slots id me word (λ _. (start + k) * RESERVED) (λ _. store_tells tags (step slots word ((start + k) * RESERVED) 0 none) me ((start + k) * RESERVED))
-  store_call side start count k items e hts all ready = at_key (λ _. (start + k) * RESERVED) (λ _. store_tells tags (step slots word ((start + k) * RESERVED) 0 none) me ((start + k) * RESERVED))
+      → Allows (IsConsistent tags key.rings.items key.buffers) slots id me word (λ _. (start + k) * RESERVED)
+      (λ _. store_tells tags (step slots word ((start + k) * RESERVED) 0 none) me ((start + k) * RESERVED))
+  store_call side start count k items e hts all ready =
+      at_key (λ _. (start + k) * RESERVED) (λ _. store_tells tags (step slots word ((start + k) * RESERVED) 0 none) me ((start + k) * RESERVED))
       (subst (λ (z : ℕ × ℕ). Allows (IsConsistent tags plan.rings.items plan.buffers) slots id me z.0 (λ _. (start + z.1) * RESERVED)
       (λ _. store_tells tags (step slots z.0 ((start + z.1) * RESERVED) 0 none) me ((start + z.1) * RESERVED))) (λ j. (sym e j, all j))
       (stores tags plan.rings.items plan.buffers slots id me (span_of ring side start count) ring_plan items at alive ready hts))
@@ -104,16 +123,19 @@ module _ {T : Type 0} (tags : T → List ℕ) where
     pub near : IsNear side plan.geometry.capacity (position_of (mode_of plan side) word) tail
     pub room : HasRoom tags side plan (position_of (mode_of plan side) word) tail me.0
 
-  pub asked_tells : (slots i : ℕ) (me me' : Me (Option T) (View T)) (ring : ℕ) (side : Side) (plan : RingPlan) (word found tail : ℕ) → room_tells tags (step slots i 0 0 none) me found me'
-      → i ≡ settled_at (mode_of plan (other_side side)) ring (other_side side) → slice_get me.0.plans ring ≡ Some plan → HasLooked ring side word me.0 → me.0.party.span ≡ None
+  pub asked_tells : (slots i : ℕ) (me me' : Me (Option T) (View T)) (ring : ℕ) (side : Side) (plan : RingPlan) (word found tail : ℕ)
+      → room_tells tags (step slots i 0 0 none) me found me'
+      → i ≡ settled_word_at (mode_of plan (other_side side)) ring (other_side side) → slice_get me.0.plans ring ≡ Some plan → HasLooked ring side word me.0
+      → me.0.party.span ≡ None
       → tail ≡ position_of (mode_of plan (other_side side)) found → Told ring side plan word tail me me'
   asked_tells slots i me me' ring side plan word found tail then at known look idle is =
       let t = then ring side plan record { ring = ring; side = side; looked_at = word; tail_seen = None } at known look refl refl in
       subst (λ (n : ℕ). Told ring side plan word n me me') (sym is) record { view = (t.0, t.1); reads = t.2; last = t.3; near = t.4; room = t.5 idle }
 
   -- what the plan that a hand knows says of slots and buffers
-  pub few_of : (known pool : ℕ) (party : Party T) (free : Bool) (n : ℕ) → known ≡ pool → (free ≡ true → n ≤ buffers_of tags known party) → free ≡ true → n ≤ buffers_of tags pool party
-  few_of known pool party free n same few is = subst (λ (b : ℕ). n ≤ buffers_of tags b party) same (few is)
+  pub few_of : (known pool : ℕ) (party : Party T) (free : Bool) (n : ℕ) → known ≡ pool → (free ≡ true → n ≤ buffers_had tags known party) → free ≡ true
+      → n ≤ buffers_had tags pool party
+  few_of known pool party free n same few is = subst (λ (b : ℕ). n ≤ buffers_had tags b party) same (few is)
 
 pub reserved_as : {S : Type 0} (known plans : List RingPlan) (ring : ℕ) (plan : RingPlan) (start : ℕ) (ys : List S) (rest : List (ℕ × S)) → known ≡ plans
     → run (slot_at known ring plan) start ys ++ rest ≡ run (slot_at plans ring plan) start ys ++ rest

@@ -18,7 +18,8 @@ use Rattle.fabric.specs.Views.{span_of}
 use Rattle.fabric.proofs.Rows.{bits_cleared, bits_marked, length-cleared, length-marked, some_missing}
 
 module _ {T : Type 0} (tags : T → List ℕ) where
-  holds_put : (b ring start count : ℕ) (party : Party T) (items : List T) → holds tags b (with_settled party (span_of ring Put start count) items) ≡ holds tags b party - occurrences_in tags b items
+  holds_put : (b ring start count : ℕ) (party : Party T) (items : List T)
+      → holds tags b (with_settled party (span_of ring Put start count) items) ≡ holds tags b party - occurrences_in tags b items
   unfolding holds moved
   holds_put b ring start count party items =
       omega (
@@ -43,7 +44,8 @@ module _ {T : Type 0} (tags : T → List ℕ) where
     pub put_owns : all_there row (flat_map tags items) ≡ true → Owns tags party items
     put_owns there b = omega (arith, bits_cleared row (flat_map tags items) b there, is.own b, times_in_is tags b items)
 
-    pub put_row : (ring start count : ℕ) → all_there row (flat_map tags items) ≡ true → IsRow tags pool (with_settled party (span_of ring Put start count) items) (cleared row (flat_map tags items))
+    pub put_row : (ring start count : ℕ) → all_there row (flat_map tags items) ≡ true
+        → IsRow tags pool (with_settled party (span_of ring Put start count) items) (cleared row (flat_map tags items))
     put_row ring start count there = record {
       long = length-cleared row (flat_map tags items) ∙ is.long;
       own = λ b. omega (arith, bits_cleared row (flat_map tags items) b there, is.own b, times_in_is tags b items, holds_put b ring start count party items);
@@ -57,8 +59,10 @@ module _ {T : Type 0} (tags : T → List ℕ) where
           let more = holds_take b ring start count party items (before b).2 in
           let once = (after b).0 in
           let none = (after b).1 in
-          bits_marked row (flat_map tags items) b (omega (arith, more, once, is.own b, times_in_is tags b items)) (λ le. omega (arith, none (omega (arith, le, is.long)), more, times_in_is tags b items))
-          ∙ (let e : one_if (bit row b) + occurrences b (flat_map tags items) ≡ holds tags b (with_settled party (span_of ring Take start count) items) = omega (arith, more, is.own b, times_in_is tags b items) in e);
+          bits_marked row (flat_map tags items) b (omega (arith, more, once, is.own b, times_in_is tags b items))
+          (λ le. omega (arith, none (omega (arith, le, is.long)), more, times_in_is tags b items))
+          ∙ (let e : one_if (bit row b) + occurrences b (flat_map tags items) ≡ holds tags b (with_settled party (span_of ring Take start count) items) =
+          omega (arith, more, is.own b, times_in_is tags b items) in e);
     }
 
   -- why items are not the hand's to put

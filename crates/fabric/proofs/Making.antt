@@ -1,5 +1,6 @@
 -- What stands as a fabric is made: its rings side by side, items that carry each buffer once, and the hand that has all of them
-use Rattle.std.proofs.Common.{◌≡◌, ℕ, zero, suc, ◌+◌, ◌-◌, ◌*◌, ◌<◌, ◌≤◌, ◌≢◌, ◌⊎◌, inl, inr, List, [], ◌∷◌, ◌++◌, length, replicate, sym, refl, ap, ◌∙◌, subst, arith, get_or, Bool, true, false}
+use Rattle.std.proofs.Common.{◌≡◌, ℕ, zero, suc, ◌+◌, ◌-◌, ◌*◌, ◌<◌, ◌≤◌, ◌≢◌, ◌⊎◌, inl, inr, List, [], ◌∷◌, ◌++◌, length, replicate, sym, refl, ap, ◌∙◌, subst}
+use Rattle.std.proofs.Common.{arith, get_or, Bool, true, false}
 use Rattle.std.specs.Prelude.{slice_get, nat_lt, Option, Some, None}
 use Rattle.std.specs.List.{flat_map, range_with_len}
 use Rattle.std.proofs.lemmas.List.{length-replicate}
@@ -24,7 +25,8 @@ use Rattle.fabric.proofs.Rows.{bits_cleared, some_missing}
 
 -- rings side by side
 
-pub next_base : (plans : List RingPlan) (r : ℕ) (plan : RingPlan) → slice_get plans r ≡ Some plan → slots_before plans (r + 1) ≡ slots_before plans r + slots_of plan
+pub next_base : (plans : List RingPlan) (r : ℕ) (plan : RingPlan) → slice_get plans r ≡ Some plan
+    → slots_before plans (r + 1) ≡ slots_before plans r + slots_of plan
 next_base plans r plan at = ap (slots_before plans) (let e : r + 1 ≡ suc r = omega arith in e) ∙ go plans r at
   where
     go : (plans : List RingPlan) (r : ℕ) → slice_get plans r ≡ Some plan → slots_before plans (suc r) ≡ slots_before plans r + slots_of plan
@@ -51,14 +53,18 @@ module _ {X : Type 0} where
 abbrev pub AreLaid : List RingPlan → List Shape → Type 0
 AreLaid plans shapes = (r : ℕ) (shape : Shape) → slice_get shapes r ≡ Some shape → (slice_get plans r ≡ Some shape.plan) × (shape.base ≡ slots_before plans r)
 
-pub laid_next : (plans : List RingPlan) (shapes new : List Shape) (shape : Shape) (i : ℕ) → AreLaid plans shapes → new ≡ shapes ++ shape ∷ [] → length shapes ≡ i
+pub laid_next : (plans : List RingPlan) (shapes new : List Shape) (shape : Shape) (i : ℕ) → AreLaid plans shapes → new ≡ shapes ++ shape ∷ []
+    → length shapes ≡ i
     → slice_get plans i ≡ Some shape.plan → shape.base ≡ slots_before plans i → AreLaid plans new
 laid_next plans shapes new shape i laid is many at base r y there =
     elim (last_or_not shapes shape y r (ap (λ (l : List Shape). slice_get l r) (sym is) ∙ there)) [
       | inl before ↦ laid r y before
       | inr last ↦
-          let place : r ≡ i = last.0 ∙ many in
-          (ap (slice_get plans) place ∙ (at ∙ ap (λ (s : Shape). Some s.plan) last.1), ap (λ (s : Shape). s.base) (sym last.1) ∙ (base ∙ ap (slots_before plans) (sym place)))
+          let place : r ≡ i = last.0 ∙ many in (
+            ap (slice_get plans) place ∙ (at ∙ ap (λ (s : Shape). Some s.plan) last.1),
+            ap (λ (s : Shape). s.base) (sym last.1)
+                ∙ (base ∙ ap (slots_before plans) (sym place)),
+          )
     ]
 
 -- items that carry each buffer once
@@ -145,7 +151,8 @@ fitting plans buffers most may = record {
 pub item_at : (plans : List RingPlan) (i : ℕ) (plan : RingPlan) → i < length plans → plan ≡ get_or plans i plan → slice_get plans i ≡ Some plan
 item_at plans i plan lt is = slice_get-get_or plans i plan lt ∙ ap Some (sym is)
 
-pub told_at : {T : Type 0} (tags : T → List ℕ) (items : List T) (i : ℕ) (x : T) → i < length items → x ≡ get_or items i x → tags x ≡ told tags (slice_get items i)
+pub told_at : {T : Type 0} (tags : T → List ℕ) (items : List T) (i : ℕ) (x : T) → i < length items → x ≡ get_or items i x
+    → tags x ≡ told tags (slice_get items i)
 told_at tags items i x lt is = ap (told tags) (sym (slice_get-get_or items i x lt ∙ ap Some (sym is)))
 
 pub none_left : (n : ℕ) → (n ≢ 0 → ⊥) → n ≡ 0
@@ -167,7 +174,8 @@ module _ {T : Type 0} (tags : T → List ℕ) (plans : List RingPlan) (n : ℕ) 
   first_well = subst (λ (w : View T). IsHeldOnce tags w.pool w.party) (sym is) (first_once tags n)
 
   pub first_bits : (row : List Bool) → row ≡ replicate n true → IsRow tags v.pool v.party row
-  first_bits row all = subst (λ (w : View T). IsRow tags w.pool w.party row) (sym is) (subst (IsRow tags n (newcomer (range_with_len 0 n))) (sym all) (first_row tags n))
+  first_bits row all =
+      subst (λ (w : View T). IsRow tags w.pool w.party row) (sym is) (subst (IsRow tags n (newcomer (range_with_len 0 n))) (sym all) (first_row tags n))
 
 -- a second hand
 

@@ -1,5 +1,6 @@
 -- Rows of bits, as buffers are marked and cleared
-use Rattle.std.proofs.Common.{◌≡◌, ℕ, zero, suc, ◌+◌, ◌<◌, ◌≤◌, ◌≢◌, inl, inr, List, [], ◌∷◌, ◌++◌, length, set, get_or, take, drop, sym, refl, ap, ◌∙◌, arith, Bool, true, false, append-nil, append_assoc, length-set}
+use Rattle.std.proofs.Common.{◌≡◌, ℕ, zero, suc, ◌+◌, ◌<◌, ◌≤◌, ◌≢◌, inl, inr, List, [], ◌∷◌, ◌++◌, length, set, get_or, take, drop, sym, refl, ap, ◌∙◌, arith}
+use Rattle.std.proofs.Common.{Bool, true, false, append-nil, append_assoc, length-set}
 use Rattle.std.specs.Prelude.{◌&&◌, ◌==◌, slice_get}
 use mathlib.Core.Option.{some}
 use lib.ListN.{get_elem?}
@@ -76,7 +77,9 @@ cleared_append row (x ∷ xs) ys = cleared_append (set row x false) xs ys
 
 pub there_append : (row : List Bool) (xs ys : List ℕ) → all_there row (xs ++ ys) ≡ (all_there row xs && all_there (cleared row xs) ys)
 there_append row [] ys = refl
-there_append row (x ∷ xs) ys = and_as (bit row x) (all_there (set row x false) (xs ++ ys)) (all_there (set row x false) xs) (all_there (cleared (set row x false) xs) ys) (there_append (set row x false) xs ys)
+there_append row (x ∷ xs) ys =
+    and_as (bit row x) (all_there (set row x false) (xs ++ ys)) (all_there (set row x false) xs) (all_there (cleared (set row x false) xs) ys)
+    (there_append (set row x false) xs ys)
   where
     and_as : (t u v w : Bool) → u ≡ (v && w) → (t && u) ≡ ((t && v) && w)
     and_as true u v w e = e
@@ -99,7 +102,8 @@ undo row (b ∷ bs) e =
     ∙ (ap (λ l. set l b true) (undo (set row b false) bs both.1) ∙ (set_set row b false true ∙ mark_again row b both.0))
 
 -- a number that is cleared was marked, and is not any more
-pub bits_cleared : (row : List Bool) (numbers : List ℕ) (b : ℕ) → all_there row numbers ≡ true → one_if (bit (cleared row numbers) b) + occurrences b numbers ≡ one_if (bit row b)
+pub bits_cleared : (row : List Bool) (numbers : List ℕ) (b : ℕ) → all_there row numbers ≡ true
+    → one_if (bit (cleared row numbers) b) + occurrences b numbers ≡ one_if (bit row b)
 bits_cleared row [] b e = let z : one_if (bit row b) + 0 ≡ one_if (bit row b) = omega arith in z
 bits_cleared row (c ∷ cs) b e =
     let both = both_of (bit row c) (all_there (set row c false) cs) e in
@@ -126,7 +130,8 @@ bits_marked row (c ∷ cs) b one inside = elim (occurrences-cons b c cs) [
       omega (arith, rest, same.1, now)
   | inr apart ↦
       let now : one_if (bit (set row c true) b) ≡ one_if (bit row b) = ap one_if (at_other row c b true false (λ h. apart.0 (sym h))) in
-      let rest = bits_marked (set row c true) cs b (omega (arith, apart.1, now)) (λ le. omega (arith, apart.1, inside (omega (arith, le, length-set row c true)))) in
+      let rest =
+      bits_marked (set row c true) cs b (omega (arith, apart.1, now)) (λ le. omega (arith, apart.1, inside (omega (arith, le, length-set row c true)))) in
       omega (arith, rest, apart.1, now)
 ]
 
@@ -149,17 +154,20 @@ some_missing row (c ∷ cs) e = by_bit (bit row c) refl (some_missing (set row c
                 let now : one_if (bit row rest.0) ≡ 1 = ap (λ n. one_if (bit row n)) (sym same.0) ∙ ap one_if h in
                 omega (arith, rest.1, same.1, now)
             | inr apart ↦
-                let now : one_if (bit (set row c false) rest.0) ≡ one_if (bit row rest.0) = ap one_if (at_other row c rest.0 false false (λ z. apart.0 (sym z))) in
+                let now : one_if (bit (set row c false) rest.0) ≡ one_if (bit row rest.0) =
+                ap one_if (at_other row c rest.0 false false (λ z. apart.0 (sym z))) in
                 omega (arith, rest.1, apart.1, now)
           ],
         )
 
 -- the items of a list, one more of them
-pub told_next : {T : Type 0} (tags : T → List ℕ) (items : List T) (i : ℕ) → flat_map tags (take (suc i) items) ≡ flat_map tags (take i items) ++ told tags (slice_get items i)
+pub told_next : {T : Type 0} (tags : T → List ℕ) (items : List T) (i : ℕ)
+    → flat_map tags (take (suc i) items) ≡ flat_map tags (take i items) ++ told tags (slice_get items i)
 told_next tags [] zero = refl
 told_next tags [] (suc i) = refl
 told_next tags (x ∷ xs) zero = append-nil (tags x)
-told_next tags (x ∷ xs) (suc i) = ap (λ l. tags x ++ l) (told_next tags xs i) ∙ sym (append_assoc (tags x) (flat_map tags (take i xs)) (told tags (slice_get xs i)))
+told_next tags (x ∷ xs) (suc i) =
+    ap (λ l. tags x ++ l) (told_next tags xs i) ∙ sym (append_assoc (tags x) (flat_map tags (take i xs)) (told tags (slice_get xs i)))
 
 -- how many bits are set, and how they change
 pub count_le : (row : List Bool) → count_true row ≤ length row
@@ -184,19 +192,24 @@ number_at [] i lt = absurd (omega arith)
 number_at (x ∷ xs) zero lt = refl
 number_at (x ∷ xs) (suc i) lt = number_at xs i (omega arith)
 
-pub mark_step : (first row new : List Bool) (numbers : List ℕ) (i b : ℕ) → row ≡ marked first (take i numbers) → get_elem? numbers i ≡ some b → new ≡ set row b true
+pub mark_step : (first row new : List Bool) (numbers : List ℕ) (i b : ℕ) → row ≡ marked first (take i numbers) → get_elem? numbers i ≡ some b
+    → new ≡ set row b true
     → new ≡ marked first (take (i + 1) numbers)
 mark_step first row new numbers i b is at changed =
     changed ∙ (ap (λ l. set l b true) is
-    ∙ (sym (marked_append first (take i numbers) (b ∷ [])) ∙ ap (marked first) (sym (take_next numbers i b at) ∙ ap (λ n. take n numbers) (let e : suc i ≡ i + 1 = omega arith in e))))
+    ∙ (sym (marked_append first (take i numbers) (b ∷ [])) ∙ ap (marked first)
+    (sym (take_next numbers i b at) ∙ ap (λ n. take n numbers) (let e : suc i ≡ i + 1 = omega arith in e))))
 
-pub clear_step : (first row new : List Bool) (numbers : List ℕ) (i b : ℕ) → row ≡ cleared first (take i numbers) → get_elem? numbers i ≡ some b → new ≡ set row b false
+pub clear_step : (first row new : List Bool) (numbers : List ℕ) (i b : ℕ) → row ≡ cleared first (take i numbers) → get_elem? numbers i ≡ some b
+    → new ≡ set row b false
     → new ≡ cleared first (take (i + 1) numbers)
 clear_step first row new numbers i b is at changed =
     changed ∙ (ap (λ l. set l b false) is
-    ∙ (sym (cleared_append first (take i numbers) (b ∷ [])) ∙ ap (cleared first) (sym (take_next numbers i b at) ∙ ap (λ n. take n numbers) (let e : suc i ≡ i + 1 = omega arith in e))))
+    ∙ (sym (cleared_append first (take i numbers) (b ∷ []))
+    ∙ ap (cleared first) (sym (take_next numbers i b at) ∙ ap (λ n. take n numbers) (let e : suc i ≡ i + 1 = omega arith in e))))
 
-pub there_step : (first row : List Bool) (numbers : List ℕ) (i b : ℕ) → row ≡ cleared first (take i numbers) → all_there first (take i numbers) ≡ true → get_elem? numbers i ≡ some b → bit row b ≡ true
+pub there_step : (first row : List Bool) (numbers : List ℕ) (i b : ℕ) → row ≡ cleared first (take i numbers) → all_there first (take i numbers) ≡ true
+    → get_elem? numbers i ≡ some b → bit row b ≡ true
     → all_there first (take (i + 1) numbers) ≡ true
 there_step first row numbers i b is there at own =
     ap (all_there first) (ap (λ n. take n numbers) (let e : i + 1 ≡ suc i = omega arith in e) ∙ take_next numbers i b at)
@@ -204,12 +217,14 @@ there_step first row numbers i b is there at own =
     ∙ (ap (λ t. t && all_there (cleared first (take i numbers)) (b ∷ [])) there
     ∙ (ap (λ l. bit l b && true) (sym is) ∙ ap (λ t. t && true) own)))
 
-pub there_stops : (first row : List Bool) (numbers : List ℕ) (i b : ℕ) → row ≡ cleared first (take i numbers) → get_elem? numbers i ≡ some b → bit row b ≡ false → all_there first numbers ≡ false
+pub there_stops : (first row : List Bool) (numbers : List ℕ) (i b : ℕ) → row ≡ cleared first (take i numbers) → get_elem? numbers i ≡ some b → bit row b ≡ false
+    → all_there first numbers ≡ false
 there_stops first row numbers i b is at gone =
     ap (all_there first) (sym (take-append-drop i numbers) ∙ ap (λ l. take i numbers ++ l) (drop_at numbers i b at))
     ∙ (there_append first (take i numbers) (b ∷ drop (suc i) numbers)
     ∙ (ap (λ l. all_there first (take i numbers) && (bit l b && all_there (set (cleared first (take i numbers)) b false) (drop (suc i) numbers))) (sym is)
-    ∙ (ap (λ t. all_there first (take i numbers) && (t && all_there (set (cleared first (take i numbers)) b false) (drop (suc i) numbers))) gone ∙ and_none (all_there first (take i numbers)))))
+    ∙ (ap (λ t. all_there first (take i numbers) && (t && all_there (set (cleared first (take i numbers)) b false) (drop (suc i) numbers))) gone
+    ∙ and_none (all_there first (take i numbers)))))
   where
     and_none : (t : Bool) → (t && false) ≡ false
     and_none true = refl
@@ -221,19 +236,22 @@ module _ {T : Type 0} (tags : T → List ℕ) where
   told_more : (items : List T) (i : ℕ) → flat_map tags (take (i + 1) items) ≡ flat_map tags (take i items) ++ told tags (slice_get items i)
   told_more items i = ap (λ n. flat_map tags (take n items)) (let e : i + 1 ≡ suc i = omega arith in e) ∙ told_next tags items i
 
-  pub own_step : (first row new : List Bool) (items : List T) (i : ℕ) → row ≡ marked first (flat_map tags (take i items)) → new ≡ marked row (told tags (slice_get items i))
+  pub own_step : (first row new : List Bool) (items : List T) (i : ℕ) → row ≡ marked first (flat_map tags (take i items))
+      → new ≡ marked row (told tags (slice_get items i))
       → new ≡ marked first (flat_map tags (take (i + 1) items))
   own_step first row new items i is changed =
       changed ∙ (ap (λ l. marked l (told tags (slice_get items i))) is
       ∙ (sym (marked_append first (flat_map tags (take i items)) (told tags (slice_get items i))) ∙ ap (marked first) (sym (told_more items i))))
 
-  pub disown_step : (first row new : List Bool) (items : List T) (i : ℕ) → row ≡ cleared first (flat_map tags (take i items)) → new ≡ cleared row (told tags (slice_get items i))
+  pub disown_step : (first row new : List Bool) (items : List T) (i : ℕ) → row ≡ cleared first (flat_map tags (take i items))
+      → new ≡ cleared row (told tags (slice_get items i))
       → new ≡ cleared first (flat_map tags (take (i + 1) items))
   disown_step first row new items i is changed =
       changed ∙ (ap (λ l. cleared l (told tags (slice_get items i))) is
       ∙ (sym (cleared_append first (flat_map tags (take i items)) (told tags (slice_get items i))) ∙ ap (cleared first) (sym (told_more items i))))
 
-  pub disown_there : (first row : List Bool) (items : List T) (i : ℕ) → row ≡ cleared first (flat_map tags (take i items)) → all_there first (flat_map tags (take i items)) ≡ true
+  pub disown_there : (first row : List Bool) (items : List T) (i : ℕ) → row ≡ cleared first (flat_map tags (take i items))
+      → all_there first (flat_map tags (take i items)) ≡ true
       → all_there row (told tags (slice_get items i)) ≡ true → all_there first (flat_map tags (take (i + 1) items)) ≡ true
   disown_there first row items i is there more =
       ap (all_there first) (told_more items i)
@@ -247,7 +265,8 @@ module _ {T : Type 0} (tags : T → List ℕ) where
       ∙ (there_append first (flat_map tags (take i items)) (told tags (slice_get items i) ++ flat_map tags (drop (suc i) items))
       ∙ (ap (λ t. all_there first (flat_map tags (take i items)) && t)
       (there_append (cleared first (flat_map tags (take i items))) (told tags (slice_get items i)) (flat_map tags (drop (suc i) items))
-      ∙ (ap (λ l. all_there l (told tags (slice_get items i)) && all_there (cleared l' (told tags (slice_get items i))) (flat_map tags (drop (suc i) items))) (sym is)
+      ∙ (ap (λ l. all_there l (told tags (slice_get items i)) && all_there (cleared l' (told tags (slice_get items i))) (flat_map tags (drop (suc i) items)))
+      (sym is)
       ∙ ap (λ t. t && all_there (cleared l' (told tags (slice_get items i))) (flat_map tags (drop (suc i) items))) gone))
       ∙ and_none (all_there first (flat_map tags (take i items)))))
     where
@@ -262,23 +281,28 @@ module _ {T : Type 0} (tags : T → List ℕ) where
       whole [] zero = refl
       whole [] (suc i) = refl
       whole (x ∷ xs) zero = refl
-      whole (x ∷ xs) (suc i) = ap (λ l. tags x ++ l) (whole xs i) ∙ sym (append_assoc (tags x) (flat_map tags (take i xs)) (told tags (slice_get xs i) ++ flat_map tags (drop (suc i) xs)))
+      whole (x ∷ xs) (suc i) =
+          ap (λ l. tags x ++ l) (whole xs i) ∙ sym (append_assoc (tags x) (flat_map tags (take i xs))
+          (told tags (slice_get xs i) ++ flat_map tags (drop (suc i) xs)))
 
   -- each so far carries one buffer
   pub single_step : (items : List T) (i : ℕ) → list_all (λ x. length (tags x) == 1) (take i items) ≡ true → length (told tags (slice_get items i)) ≡ 1
       → list_all (λ x. length (tags x) == 1) (take (i + 1) items) ≡ true
   single_step items i all one = ap (λ n. list_all (λ x. length (tags x) == 1) (take n items)) (let e : i + 1 ≡ suc i = omega arith in e) ∙ go items i all one
     where
-      go : (xs : List T) (i : ℕ) → list_all (λ x. length (tags x) == 1) (take i xs) ≡ true → length (told tags (slice_get xs i)) ≡ 1 → list_all (λ x. length (tags x) == 1) (take (suc i) xs) ≡ true
+      go : (xs : List T) (i : ℕ) → list_all (λ x. length (tags x) == 1) (take i xs) ≡ true → length (told tags (slice_get xs i)) ≡ 1
+          → list_all (λ x. length (tags x) == 1) (take (suc i) xs) ≡ true
       go [] i all one = refl
       go (x ∷ xs) zero all one = let h : length (tags x) ≡ 1 = one in let e : (length (tags x) == 1) ≡ true = grind (arith, nat_tests) in ap (λ t. t && true) e
       go (x ∷ xs) (suc i) all one =
           let both = both_of (length (tags x) == 1) (list_all (λ x. length (tags x) == 1) (take i xs)) all in
           (λ k. both.0 k && go xs i both.1 one k)
 
-  pub single_stops : (items : List T) (i : ℕ) → i < length items → length (told tags (slice_get items i)) ≢ 1 → list_all (λ x. length (tags x) == 1) items ≡ false
+  pub single_stops : (items : List T) (i : ℕ) → i < length items → length (told tags (slice_get items i)) ≢ 1
+      → list_all (λ x. length (tags x) == 1) items ≡ false
   single_stops [] i lt more = absurd (omega arith)
-  single_stops (x ∷ xs) zero lt more = let h : length (tags x) ≢ 1 = more in let e : (length (tags x) == 1) ≡ false = grind (arith, nat_tests) in ap (λ t. t && list_all (λ x. length (tags x) == 1) xs) e
+  single_stops (x ∷ xs) zero lt more = let h : length (tags x) ≢ 1 = more in let e : (length (tags x) == 1) ≡ false =
+      grind (arith, nat_tests) in ap (λ t. t && list_all (λ x. length (tags x) == 1) xs) e
   single_stops (x ∷ xs) (suc i) lt more = ap (λ t. (length (tags x) == 1) && t) (single_stops xs i (omega arith) more) ∙ and_none (length (tags x) == 1)
     where
       and_none : (t : Bool) → (t && false) ≡ false

@@ -1,5 +1,6 @@
 -- A hand is ready to settle once the slots of its span hold what they shall
-use Rattle.std.proofs.Common.{◌≡◌, ℕ, ◌-◌, ◌≤◌, List, [], ◌∷◌, ◌++◌, length, map, take, drop, replicate, sym, refl, ap, ◌∙◌, subst, arith, true, append-nil, zero, suc}
+use Rattle.std.proofs.Common.{◌≡◌, ℕ, ◌-◌, ◌≤◌, List, [], ◌∷◌, ◌++◌, length, map, take, drop, replicate, sym, refl, ap, ◌∙◌, subst, arith, true, append-nil}
+use Rattle.std.proofs.Common.{zero, suc}
 use Rattle.std.specs.Prelude.{Option, Some, None}
 use Rattle.std.proofs.lemmas.List.{length-take}
 use Rattle.atomic_table.specs.Table.{Me}
@@ -13,7 +14,7 @@ use Rattle.fabric_laws.specs.declared.view.View.{View}
 use Rattle.fabric_laws.specs.Kinds.{IsReady, run}
 use Rattle.fabric_laws.specs.Words.{slot_at}
 use Rattle.fabric_laws.proofs.Cells.{length-cells}
-use Rattle.fabric.specs.Items.{somes}
+use Rattle.burst.specs.Items.{somes}
 use Rattle.fabric.specs.Settles.{IsCount}
 use Rattle.fabric.specs.Slots.{values}
 use Rattle.fabric.specs.Views.{span_of}
@@ -44,8 +45,10 @@ module _ {T : Type 0} where
   drop_some (suc k) [] = refl
   drop_some (suc k) (x ∷ items) = drop_some k items
 
-module _ {T : Type 0} (tags : T → List ℕ) (plans : List RingPlan) (plan : RingPlan) (ring start count : ℕ) (me me1 : Me (Option T) (View T)) (same : me1.0 ≡ me.0) where
-  pub ready_put : (cells : List (Option T)) → cells ≡ map Some (somes cells) → me.0.party.span ≡ Some (span_of ring Put start count) → length cells ≤ count → Owns tags me.0.party (somes cells)
+module _ {T : Type 0} (tags : T → List ℕ) (plans : List RingPlan) (plan : RingPlan) (ring start count : ℕ) (me me1 : Me (Option T) (View T))
+    (same : me1.0 ≡ me.0) where
+  pub ready_put : (cells : List (Option T)) → cells ≡ map Some (somes cells) → me.0.party.span ≡ Some (span_of ring Put start count) → length cells ≤ count
+      → Owns tags me.0.party (somes cells)
       → (plan.free ≡ true → AreSingle tags (somes cells)) → me1.1 ≡ run (slot_at plans ring plan) start (cells ++ replicate (count - length cells) None)
       → IsReady tags plans plan (span_of ring Put start count) (somes cells) me1
   ready_put cells packed busy fits owned single has = record {
@@ -58,7 +61,8 @@ module _ {T : Type 0} (tags : T → List ℕ) (plans : List RingPlan) (plan : Ri
   }
 
   pub ready_take : (k : ℕ) → me.0.party.span ≡ Some (span_of ring Take start count) → length me.0.shown ≡ count → k ≤ count
-      → me1.1 ≡ run (slot_at plans ring plan) start (replicate k None ++ drop k (map Some me.0.shown)) → IsReady tags plans plan (span_of ring Take start count) (take k me.0.shown) me1
+      → me1.1 ≡ run (slot_at plans ring plan) start (replicate k None ++ drop k (map Some me.0.shown))
+      → IsReady tags plans plan (span_of ring Take start count) (take k me.0.shown) me1
   ready_take k busy long fits has =
       let many : length (take k me.0.shown) ≡ k = omega (arith, length-take k me.0.shown) in
       record {
@@ -70,11 +74,13 @@ module _ {T : Type 0} (tags : T → List ℕ) (plans : List RingPlan) (plan : Ri
           (λ i. take (sym many i) (sym (ap (λ (v : View T). v.shown) same) i)),
           ap (λ (v : View T). length v.shown) same ∙ long,
         );
-        has = has ∙ (λ i. run (slot_at plans ring plan) start (replicate (sym many i) None ++ (drop_some k me.0.shown ∙ (λ j. map Some (drop (sym many j) (sym (ap (λ (v : View T). v.shown) same) j)))) i));
+        has = has ∙ (λ i. run (slot_at plans ring plan) start (replicate (sym many i) None
+            ++ (drop_some k me.0.shown ∙ (λ j. map Some (drop (sym many j) (sym (ap (λ (v : View T). v.shown) same) j)))) i));
       }
 
 -- what comes back where the whole span was offered
-module _ {T : Type 0} (slot : ℕ → ℕ) (start count : ℕ) (cells : List (Option T)) (me : List (ℕ × Option T)) (has : me ≡ run slot start (cells ++ replicate (count - length cells) None)) (all : length cells ≡ count) where
+module _ {T : Type 0} (slot : ℕ → ℕ) (start count : ℕ) (cells : List (Option T)) (me : List (ℕ × Option T))
+    (has : me ≡ run slot start (cells ++ replicate (count - length cells) None)) (all : length cells ≡ count) where
   pub back_is : values me ≡ cells
   back_is =
       ap values has ∙ (values_run slot start (cells ++ replicate (count - length cells) None)
@@ -94,7 +100,8 @@ module _ {T : Type 0} where
   packed_from cells items e = e ∙ ap (map Some) (sym (ap somes e ∙ somes_of items))
 
   -- a row of slots that hold these items
-  module _ (slot : ℕ → ℕ) (start count : ℕ) (items : List T) (long : length items ≡ count) (me : List (ℕ × Option T)) (has : me ≡ run slot start (map Some items)) where
+  module _ (slot : ℕ → ℕ) (start count : ℕ) (items : List T) (long : length items ≡ count) (me : List (ℕ × Option T))
+      (has : me ≡ run slot start (map Some items)) where
     pub row_values : values me ≡ map Some items
     row_values = ap values has ∙ values_run slot start (map Some items)
 

@@ -1,5 +1,6 @@
 -- What a start found, in the words of its contract
-use Rattle.std.proofs.Common.{◌≡◌, ◌≢◌, ℕ, suc, ◌+◌, ◌-◌, ◌<◌, ◌≤◌, ◌⊎◌, inl, inr, List, [], ◌∷◌, length, get_or, sym, refl, ap, ◌∙◌, subst, arith, Some, None, Bool, false, true}
+use Rattle.std.proofs.Common.{◌≡◌, ◌≢◌, ℕ, suc, ◌+◌, ◌-◌, ◌<◌, ◌≤◌, ◌⊎◌, inl, inr, List, [], ◌∷◌, length, get_or, sym, refl, ap, ◌∙◌, subst, arith, Some, None}
+use Rattle.std.proofs.Common.{Bool, false, true}
 use Rattle.std.specs.Prelude.{slice_get}
 use Rattle.std.specs.List.{range_with_len, sum_by}
 use Rattle.std.proofs.lemmas.List.Sums.{sum_by-cons}
@@ -15,8 +16,8 @@ use Rattle.geom.specs.declared.word.TheConstants.{LAST}
 use Rattle.geom.specs.Plan.{granted, mode_of}
 use Rattle.ringcore_laws.specs.declared.party.Party.{Party}
 use Rattle.ringcore_laws.specs.declared.protocol.Span.{Span}
-use Rattle.ringcore_laws.specs.FreeRings.{buffers_of}
-use Rattle.ringcore_laws.specs.History.{position_of, room_of}
+use Rattle.ringcore_laws.specs.FreeRings.{buffers_had}
+use Rattle.ringcore_laws.specs.History.{position_of, room_by_look}
 use Rattle.ringcore_laws.specs.Party.{with_open}
 use Rattle.ringcore_laws.specs.Sound.{holds, moved}
 use Rattle.fabric_laws.specs.declared.view.View.{View}
@@ -29,10 +30,11 @@ use Rattle.fabric.specs.declared.plan.Shape.{Shape}
 use Rattle.fabric.specs.declared.start.Probe.{Probe}
 use Rattle.fabric.specs.Owned.{IsRow, count_true, one_if}
 use Rattle.fabric.specs.Shapes.{AreShapes}
-use Rattle.fabric.specs.Starts.{Denies, Judges, MayAsk, Probes, Refuses, Starts}
+use Rattle.fabric.specs.Starts.{RefusesRoom, RefusesCount, MayAsk, Probes, RefusesStart, Starts}
 use Rattle.fabric.specs.Views.{HasSeen, IsKept, span_of}
 
-sum_index : (f : Bool → ℕ) (g : ℕ → ℕ) (row : List Bool) (a : ℕ) → ((i : ℕ) → g (a + i) ≡ f (get_or row i false)) → sum_by f row ≡ sum_by g (range_with_len a (length row))
+sum_index : (f : Bool → ℕ) (g : ℕ → ℕ) (row : List Bool) (a : ℕ) → ((i : ℕ) → g (a + i) ≡ f (get_or row i false))
+    → sum_by f row ≡ sum_by g (range_with_len a (length row))
 sum_index f g [] a each = refl
 sum_index f g (x ∷ xs) a each =
     let first : g a ≡ f x = ap g (let e : a ≡ a + 0 = omega arith in e) ∙ each 0 in
@@ -45,8 +47,8 @@ sum_index f g (x ∷ xs) a each =
 
 module _ {T : Type 0} (tags : T → List ℕ) where
   -- the row counts the hand's buffers
-  pub row_count : (pool : ℕ) (party : Party T) (bits : List Bool) → IsRow tags pool party bits → count_true bits ≡ buffers_of tags pool party
-  unfolding buffers_of
+  pub row_count : (pool : ℕ) (party : Party T) (bits : List Bool) → IsRow tags pool party bits → count_true bits ≡ buffers_had tags pool party
+  unfolding buffers_had
   row_count pool party bits is =
       sum_index one_if (λ b. holds tags b party) bits 0 (λ i. ap (λ n. holds tags n party) (let e : 0 + i ≡ i = omega arith in e) ∙ sym (is.own i))
       ∙ ap (λ n. sum_by (λ b. holds tags b party) (range_with_len 0 n)) is.long
@@ -61,24 +63,27 @@ module _ {T : Type 0} (tags : T → List ℕ) where
   row_opened pool party span row is = record { long = is.long; own = is.own }
 
   module _ (ring : ℕ) (side : Side) (plan : RingPlan) where
-    pub denied : (most n : ℕ) (how : How) (v w : View T) (q : Probe) (e : StartFault) → Probes tags ring side plan v q w → Denies how n q.start q.room e → Refuses tags most how n ring side plan v w e
-    denied most n how v w q (Busy x) h d = absurd d
-    denied most n how v w q (Contended x) h d = absurd d
-    denied most n how v w q (NoRoom left) h d =
-        let room = h.2 ∙ ap (λ p. room_of side plan.geometry.capacity p q.tail) h.1 in
+    pub room_refused : (most n : ℕ) (how : How) (v w : View T) (q : Probe) (e : StartFault) → Probes tags ring side plan v q w
+        → RefusesRoom how n q.start q.room e → RefusesStart tags most how n ring side plan v w e
+    room_refused most n how v w q (Busy x) h d = absurd d
+    room_refused most n how v w q (Contended x) h d = absurd d
+    room_refused most n how v w q (NoRoom left) h d =
+        let room = h.2 ∙ ap (λ p. room_by_look side plan.geometry.capacity p q.tail) h.1 in
         (q.word, q.tail, h.0, ap (granted how n) (sym room) ∙ d.1, d.0 ∙ room)
-    denied most n how v w q Worn h d =
-        let room = h.2 ∙ ap (λ p. room_of side plan.geometry.capacity p q.tail) h.1 in
+    room_refused most n how v w q Worn h d =
+        let room = h.2 ∙ ap (λ p. room_by_look side plan.geometry.capacity p q.tail) h.1 in
         (q.word, q.tail, h.0, subst (λ (z : ℕ). 0 < granted how n z) room d.0, subst (λ (z : ℕ × ℕ). LAST < z.0 + granted how n z.1) (λ k. (h.1 k, room k)) d.1)
-    denied most n how v w q BadCount h d = absurd d
+    room_refused most n how v w q BadCount h d = absurd d
 
-    pub contended : (most n : ℕ) (how : How) (v w w' : View T) (q : Probe) (m x : ℕ) → Probes tags ring side plan v q w → m ≡ granted how n q.room → 0 < m → x ≢ q.word → w' ≡ missed x w
-        → Refuses tags most how n ring side plan v w' (Contended x)
+    pub contended : (most n : ℕ) (how : How) (v w w' : View T) (q : Probe) (m x : ℕ) → Probes tags ring side plan v q w → m ≡ granted how n q.room → 0 < m
+        → x ≢ q.word → w' ≡ missed x w
+        → RefusesStart tags most how n ring side plan v w' (Contended x)
     contended most n how v w w' q m x h is pos miss e =
-        let room = h.2 ∙ ap (λ p. room_of side plan.geometry.capacity p q.tail) h.1 in
+        let room = h.2 ∙ ap (λ p. room_by_look side plan.geometry.capacity p q.tail) h.1 in
         (q.word, q.tail, w, h.0, subst (λ (z : ℕ). 0 < z) (is ∙ ap (granted how n) room) pos, miss, e)
 
-    pub started : (n : ℕ) (how : How) (v w w' : View T) (q : Probe) (m left : ℕ) (items : List T) → Probes tags ring side plan v q w → m ≡ granted how n q.room → 0 < m → q.start + m ≤ LAST
+    pub started : (n : ℕ) (how : How) (v w w' : View T) (q : Probe) (m left : ℕ) (items : List T) → Probes tags ring side plan v q w → m ≡ granted how n q.room
+        → 0 < m → q.start + m ≤ LAST
         → left ≡ q.room - m → w' ≡ reserved (span_of ring side (position_of (mode_of plan side) q.word) m) items w
         → Starts tags how n ring side plan v q.start m left items w'
     started n how v w w' q m left items h is pos low rest e = record {
@@ -87,7 +92,7 @@ module _ {T : Type 0} (tags : T → List ℕ) where
       seen = w;
       found = h.0;
       first = h.1;
-      granted = is ∙ ap (granted how n) (h.2 ∙ ap (λ p. room_of side plan.geometry.capacity p q.tail) h.1);
+      granted = is ∙ ap (granted how n) (h.2 ∙ ap (λ p. room_by_look side plan.geometry.capacity p q.tail) h.1);
       positive = pos;
       last = low;
       rest = rest ∙ ap (λ r. r - m) h.2;
@@ -110,16 +115,18 @@ module _ {T : Type 0} (tags : T → List ℕ) where
     pub same_pool : (v w : View T) (q : Probe) → Probes tags ring side plan v q w → w.pool ≡ v.pool
     same_pool v w q h = ap (λ (z : View T). z.pool) h.0.view
 
-    pub put_room : (v w : View T) (q : Probe) (m : ℕ) → side ≡ Put → Probes tags ring side plan v q w → 0 < m → m ≤ q.room → position_of plan.put q.word + m ≤ plan.geometry.capacity + q.tail
+    pub put_room : (v w : View T) (q : Probe) (m : ℕ) → side ≡ Put → Probes tags ring side plan v q w → 0 < m → m ≤ q.room
+        → position_of plan.put q.word + m ≤ plan.geometry.capacity + q.tail
     put_room v w q m put h pos le =
         let first : q.start ≡ position_of plan.put q.word = h.1 ∙ ap (λ d. position_of (mode_of plan d) q.word) put in
-        let room : q.room ≡ plan.geometry.capacity + q.tail - q.start = h.2 ∙ ap (λ d. room_of d plan.geometry.capacity q.start q.tail) put in
+        let room : q.room ≡ plan.geometry.capacity + q.tail - q.start = h.2 ∙ ap (λ d. room_by_look d plan.geometry.capacity q.start q.tail) put in
         omega (arith, first, room)
 
-    pub take_room : (v w : View T) (q : Probe) (m : ℕ) → side ≡ Take → Probes tags ring side plan v q w → 0 < m → m ≤ q.room → position_of plan.take q.word + m ≤ q.tail
+    pub take_room : (v w : View T) (q : Probe) (m : ℕ) → side ≡ Take → Probes tags ring side plan v q w → 0 < m → m ≤ q.room
+        → position_of plan.take q.word + m ≤ q.tail
     take_room v w q m taking h pos le =
         let first : q.start ≡ position_of plan.take q.word = h.1 ∙ ap (λ d. position_of (mode_of plan d) q.word) taking in
-        let room : q.room ≡ q.tail - q.start = h.2 ∙ ap (λ d. room_of d plan.geometry.capacity q.start q.tail) taking in
+        let room : q.room ≡ q.tail - q.start = h.2 ∙ ap (λ d. room_by_look d plan.geometry.capacity q.start q.tail) taking in
         omega (arith, first, room)
 
     pub kept : (v w : View T) (q : Probe) → Probes tags ring side plan v q w → IsKept v w
@@ -141,7 +148,8 @@ module _ {T : Type 0} (tags : T → List ℕ) where
     idle_on idle = ap (λ (p : Party T). p.span) k.party ∙ idle
 
 -- the shape of a ring of the plan
-pub shape_at : (plans : List RingPlan) (shapes : List Shape) (ring : ℕ) (shape : Shape) → AreShapes plans shapes → ring < length plans → shape ≡ get_or shapes ring shape
+pub shape_at : (plans : List RingPlan) (shapes : List Shape) (ring : ℕ) (shape : Shape) → AreShapes plans shapes → ring < length plans
+    → shape ≡ get_or shapes ring shape
     → (slice_get plans ring ≡ Some shape.plan) × (shape.base ≡ slots_before plans ring)
 shape_at plans shapes ring shape laid lt is = laid.each ring shape (slice_get_read shapes (length shapes) ring shape refl (omega (arith, laid.many)) is)
 
@@ -150,16 +158,18 @@ same_ring plans ring plan plan' at at' = same_plan (sym at ∙ at')
 
 module _ {T : Type 0} (tags : T → List ℕ) where
   pub bad_put : (most n pool ring : ℕ) (how : How) (v : View T) (row : List Bool) (plan : RingPlan) → IsRow tags v.pool v.party row
-      → (n ≡ 0) ⊎ ((most < n) ⊎ ((plan.free ≡ true) × (count_true row < n))) → Refuses tags most how n ring Put plan v v BadCount
+      → (n ≡ 0) ⊎ ((most < n) ⊎ ((plan.free ≡ true) × (count_true row < n))) → RefusesStart tags most how n ring Put plan v v BadCount
   bad_put most n pool ring how v row plan is (inl none) = (inl none, refl)
   bad_put most n pool ring how v row plan is (inr (inl more)) = (inr (inl more), refl)
   bad_put most n pool ring how v row plan is (inr (inr few)) = (inr (inr (refl, few.0, omega (arith, few.1, row_count tags v.pool v.party row is))), refl)
 
   -- what a put's reservation may be: as many positions as the hand has buffers, on a free ring
-  pub few_buffers : (m n : ℕ) (v w : View T) (row : List Bool) (plan : RingPlan) → IsRow tags v.pool v.party row → IsKept v w → m ≤ n → (plan.free ≡ true → n ≤ count_true row)
-      → plan.free ≡ true → m ≤ buffers_of tags w.pool w.party
+  pub few_buffers : (m n : ℕ) (v w : View T) (row : List Bool) (plan : RingPlan) → IsRow tags v.pool v.party row → IsKept v w → m ≤ n
+      → (plan.free ≡ true → n ≤ count_true row)
+      → plan.free ≡ true → m ≤ buffers_had tags w.pool w.party
   few_buffers m n v w row plan is k le few free =
-      subst (λ (z : ℕ × Party T). m ≤ buffers_of tags z.0 z.1) (λ j. (sym k.pool j, sym k.party j)) (omega (arith, le, few free, row_count tags v.pool v.party row is))
+      subst (λ (z : ℕ × Party T). m ≤ buffers_had tags z.0 z.1) (λ j. (sym k.pool j, sym k.party j))
+      (omega (arith, le, few free, row_count tags v.pool v.party row is))
 
   -- a request that passed the tests may be granted
   pub may_put : (most n : ℕ) (v : View T) (row : List Bool) (plan : RingPlan) → IsRow tags v.pool v.party row
@@ -174,20 +184,20 @@ module _ {T : Type 0} (tags : T → List ℕ) where
   granted_some Burst n room some fits = omega (arith, some, fits)
 
   -- and is refused for another reason than the count; where the ring is free, not for want of room
-  pub judged : (most n ring : ℕ) (how : How) (side : Side) (plan : RingPlan) (v w : View T) (e : StartFault) → MayAsk tags most n side plan v
-      → Refuses tags most how n ring side plan v w e → Judges tags most n side plan v e
-  judged most n ring how side plan v w (Busy x) may r = may
-  judged most n ring how side plan v w (Contended x) may r = may
-  judged most n ring how side plan v w Worn may r = may
-  judged most n ring how side plan v w BadCount may r = λ _. elim r.0 [
+  pub count_refused : (most n ring : ℕ) (how : How) (side : Side) (plan : RingPlan) (v w : View T) (e : StartFault) → MayAsk tags most n side plan v
+      → RefusesStart tags most how n ring side plan v w e → RefusesCount tags most n side plan v e
+  count_refused most n ring how side plan v w (Busy x) may r = may
+  count_refused most n ring how side plan v w (Contended x) may r = may
+  count_refused most n ring how side plan v w Worn may r = may
+  count_refused most n ring how side plan v w BadCount may r = λ _. elim r.0 [
     | inl none ↦ omega (arith, none, may.0)
     | inr other ↦ elim other [
       | inl more ↦ omega (arith, more, may.1)
       | inr few ↦ omega (arith, may.2 few.0 few.1, few.2)
     ]
   ]
-  judged most n ring how Take plan v w (NoRoom left) may r = (may, λ e. absurd (let u : Take ≡ Put = e in cc))
-  judged most n ring how Put plan v w (NoRoom left) may r = (
+  count_refused most n ring how Take plan v w (NoRoom left) may r = (may, λ e. absurd (let u : Take ≡ Put = e in cc))
+  count_refused most n ring how Put plan v w (NoRoom left) may r = (
     may,
     λ e free.
         let room = r.2.room free in
@@ -196,9 +206,10 @@ module _ {T : Type 0} (tags : T → List ℕ) where
   )
 
   -- a request that failed the tests may not be granted
-  pub bad_judged : (most n : ℕ) (side : Side) (plan : RingPlan) (v : View T) → (n ≡ 0) ⊎ ((most < n) ⊎ ((side ≡ Put) × (plan.free ≡ true) × (buffers_of tags v.pool v.party < n)))
-      → Judges tags most n side plan v BadCount
-  bad_judged most n side plan v bad may = elim bad [
+  pub bad_count : (most n : ℕ) (side : Side) (plan : RingPlan) (v : View T)
+      → (n ≡ 0) ⊎ ((most < n) ⊎ ((side ≡ Put) × (plan.free ≡ true) × (buffers_had tags v.pool v.party < n)))
+      → RefusesCount tags most n side plan v BadCount
+  bad_count most n side plan v bad may = elim bad [
     | inl none ↦ omega (arith, none, may.0)
     | inr other ↦ elim other [
       | inl more ↦ omega (arith, more, may.1)

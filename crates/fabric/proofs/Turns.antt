@@ -1,5 +1,6 @@
 -- A row of slots that is turned, one slot after the other, while values go in and come out
-use Rattle.std.proofs.Common.{◌≡◌, ℕ, zero, suc, ◌+◌, ◌<◌, ◌≤◌, List, [], ◌∷◌, ◌++◌, length, take, drop, set, get_or, sym, refl, ap, ◌∙◌, arith, append_assoc, append-nil, replicate}
+use Rattle.std.proofs.Common.{◌≡◌, ℕ, zero, suc, ◌+◌, ◌<◌, ◌≤◌, List, [], ◌∷◌, ◌++◌, length, take, drop, set, get_or, sym, refl, ap, ◌∙◌, arith, append_assoc}
+use Rattle.std.proofs.Common.{append-nil, replicate}
 use mathlib.Core.Option.{some, some-injective, some-ne-none}
 use lib.ListN.{get_elem?}
 use Rattle.atomic_table.specs.Table.{rest, turned}
@@ -77,7 +78,8 @@ module _ {S : Type 0} where
       ∙ (append_assoc (drop (suc i) c) (take i c) (x.0 ∷ []) ∙ ap (λ (l : List (ℕ × S)). drop (suc i) c ++ l) (sym (take_next c i x.0 x.1)))
 
   pub turned_step : (first c : List (ℕ × S)) (i n : ℕ) → c ≡ rotated i first → n ≤ length first → i < n → turned c ≡ rotated (i + 1) first
-  turned_step first c i n is fits below = ap turned is ∙ (turned_next first i (omega arith) ∙ ap (λ m. rotated m first) (let q : suc i ≡ i + 1 = omega arith in q))
+  turned_step first c i n is fits below =
+      ap turned is ∙ (turned_next first i (omega arith) ∙ ap (λ m. rotated m first) (let q : suc i ≡ i + 1 = omega arith in q))
 
   abbrev front_value : S → List (ℕ × S) → S
   front_value d [] = d
@@ -105,7 +107,8 @@ module _ {S : Type 0} where
     pub half_first : (p : ℕ) (xs ys : List S) (others c : List (ℕ × S)) → c ≡ run slot p ys ++ others → c ≡ half p 0 xs ys others
     half_first p xs ys others c e = e ∙ (λ k. run slot (let q : p ≡ p + 0 = omega arith in q k) ys ++ sym (append-nil others) k)
 
-    pub half_last : (p i : ℕ) (xs ys : List S) (others c : List (ℕ × S)) → c ≡ half p i xs ys others → length xs ≤ i → length ys ≤ i → c ≡ others ++ run slot p xs
+    pub half_last : (p i : ℕ) (xs ys : List S) (others c : List (ℕ × S)) → c ≡ half p i xs ys others → length xs ≤ i → length ys ≤ i
+        → c ≡ others ++ run slot p xs
     half_last p i xs ys others c e h k = e ∙ (λ j. run slot (p + i) (all_dropped ys i k j) ++ (others ++ run slot p (all_taken xs i h j)))
 
     module _ (p i : ℕ) (xs ys : List S) (others c : List (ℕ × S)) (held : c ≡ half p i xs ys others) (at : ℕ) (near : at ≡ slot (p + i)) where
@@ -113,7 +116,8 @@ module _ {S : Type 0} where
       pub half_here : (y : S) → get_elem? ys i ≡ some y → c ≡ (at, y) ∷ rest c
       half_here y f =
           let all : c ≡ (at, y) ∷ (run slot (suc (p + i)) (drop (suc i) ys) ++ (others ++ run slot p (take i xs))) =
-          held ∙ (ap (λ (l : List S). run slot (p + i) l ++ (others ++ run slot p (take i xs))) (drop_at ys i y f) ∙ (λ k. (sym near k, y) ∷ (run slot (suc (p + i)) (drop (suc i) ys) ++ (others ++ run slot p (take i xs))))) in
+          held ∙ (ap (λ (l : List S). run slot (p + i) l ++ (others ++ run slot p (take i xs))) (drop_at ys i y f)
+          ∙ (λ k. (sym near k, y) ∷ (run slot (suc (p + i)) (drop (suc i) ys) ++ (others ++ run slot p (take i xs))))) in
           all ∙ ap (λ (l : List (ℕ × S)). (at, y) ∷ l) (sym (ap rest all))
 
       pub front_asks : i < length ys → (y : S) × (c ≡ (at, y) ∷ rest c)
@@ -127,7 +131,8 @@ module _ {S : Type 0} where
           y.1 ∙ ap some (sym same)
 
       -- what goes in, and one turn
-      pub half_next : (x : S) (d e : List (ℕ × S)) → i < length ys → get_elem? xs i ≡ some x → d ≡ (at, x) ∷ rest c → e ≡ turned d → e ≡ half p (suc i) xs ys others
+      pub half_next : (x : S) (d e : List (ℕ × S)) → i < length ys → get_elem? xs i ≡ some x → d ≡ (at, x) ∷ rest c → e ≡ turned d
+          → e ≡ half p (suc i) xs ys others
       half_next x d e lt h filled turn =
           let y = is_there ys i lt in
           let below = some_below xs i x h in
@@ -135,52 +140,57 @@ module _ {S : Type 0} where
           ap rest (held ∙ ap (λ (l : List S). run slot (p + i) l ++ (others ++ run slot p (take i xs))) (drop_at ys i y.0 y.1)) in
           let last : run slot p (take (suc i) xs) ≡ run slot p (take i xs) ++ (at, x) ∷ [] =
           ap (run slot p) (take_next xs i x h)
-          ∙ (run_append p (take i xs) (x ∷ []) ∙ (λ k. run slot p (take i xs) ++ ((ap (λ n. slot (p + n)) (take_long xs i (omega arith)) ∙ sym near) k, x) ∷ [])) in
+          ∙ (run_append p (take i xs) (x ∷ []) ∙ (λ k. run slot p (take i xs) ++ ((ap (λ n. slot (p + n)) (take_long xs i (omega arith)) ∙ sym near) k, x)
+          ∷ [])) in
           turn ∙ (ap turned filled
           ∙ (ap (λ (l : List (ℕ × S)). l ++ (at, x) ∷ []) tail_is
           ∙ (append_assoc (run slot (suc (p + i)) (drop (suc i) ys)) (others ++ run slot p (take i xs)) ((at, x) ∷ [])
-          ∙ ((λ k. run slot (let q : suc (p + i) ≡ p + suc i = omega arith in q k) (drop (suc i) ys) ++ append_assoc others (run slot p (take i xs)) ((at, x) ∷ []) k)
+          ∙ ((λ k. run slot (let q : suc (p + i) ≡ p + suc i = omega arith in q k) (drop (suc i) ys)
+          ++ append_assoc others (run slot p (take i xs)) ((at, x) ∷ []) k)
           ∙ ap (λ (l : List (ℕ × S)). run slot (p + suc i) (drop (suc i) ys) ++ (others ++ l)) (sym last)))))
 
     -- one cell more goes into its slot
-    module _ (p i : ℕ) (gone : S) (xs : List S) (others c : List (ℕ × S)) (cells : List S) (held : c ≡ half p i xs (replicate (length xs) gone) others)
-        (in_cells : cells ≡ mixed i xs (replicate (length xs) gone)) (fill_below : i < length xs) (at : ℕ) (near : at ≡ slot (p + i)) where
-      many : length (replicate (length xs) gone) ≡ length xs
-      many = length-many (length xs) gone
+    module _ (p i n : ℕ) (gone : S) (xs : List S) (others c : List (ℕ × S)) (cells : List S) (held : c ≡ half p i xs (replicate n gone) others)
+        (in_cells : cells ≡ mixed i xs (replicate n gone)) (count_is : length xs ≡ n) (fill_below : i < n) (at : ℕ) (near : at ≡ slot (p + i)) where
+      many : length (replicate n gone) ≡ length xs
+      many = length-many n gone ∙ sym count_is
 
       in_row : i < length cells
-      in_row = omega (arith, fill_below, ap length in_cells, length-mixed i xs (replicate (length xs) gone) many)
+      in_row = omega (arith, fill_below, count_is, ap length in_cells, length-mixed i xs (replicate n gone) many)
 
       pub fill_asks : (y : S) × (c ≡ (at, y) ∷ rest c)
-      fill_asks = front_asks p i xs (replicate (length xs) gone) others c held at near (omega (arith, fill_below, many))
+      fill_asks = front_asks p i xs (replicate n gone) others c held at near (omega (arith, fill_below, count_is, many))
 
-      pub fill_next : (given : S) (d e : List (ℕ × S)) → given ≡ get_or cells i given → d ≡ (at, given) ∷ rest c → e ≡ turned d → e ≡ half p (i + 1) xs (replicate (length xs) gone) others
+      pub fill_next : (given : S) (d e : List (ℕ × S)) → given ≡ get_or cells i given → d ≡ (at, given) ∷ rest c → e ≡ turned d
+          → e ≡ half p (i + 1) xs (replicate n gone) others
       fill_next given d e is filled turn =
-          let x = is_there xs i fill_below in
-          let in_cell : get_elem? cells i ≡ some x.0 = ap (λ (l : List S). get_elem? l i) in_cells ∙ mixed_at i xs (replicate (length xs) gone) x.0 x.1 (omega (arith, fill_below, many)) in
+          let x = is_there xs i (omega (arith, fill_below, count_is)) in
+          let in_cell : get_elem? cells i ≡ some x.0 =
+          ap (λ (l : List S). get_elem? l i) in_cells ∙ mixed_at i xs (replicate n gone) x.0 x.1 (omega (arith, fill_below, count_is, many)) in
           let same : given ≡ x.0 = some-injective given x.0 (sym (at_index cells i given in_row is) ∙ in_cell) in
-          half_next p i xs (replicate (length xs) gone) others c held at near given d e (omega (arith, fill_below, many)) (x.1 ∙ ap some (sym same)) filled turn
-          ∙ ap (λ n. half p n xs (replicate (length xs) gone) others) (let q : suc i ≡ i + 1 = omega arith in q)
+          half_next p i xs (replicate n gone) others c held at near given d e (omega (arith, fill_below, count_is, many)) (x.1 ∙ ap some (sym same)) filled turn
+          ∙ ap (λ m. half p m xs (replicate n gone) others) (let q : suc i ≡ i + 1 = omega arith in q)
 
-      pub fill_cells : set cells i gone ≡ mixed (i + 1) xs (replicate (length xs) gone)
+      pub fill_cells : set cells i gone ≡ mixed (i + 1) xs (replicate n gone)
       fill_cells =
           ap (λ (l : List S). set l i gone) in_cells
-          ∙ (mixed_set i xs (replicate (length xs) gone) gone (one_of_many (length xs) gone i fill_below) fill_below
-          ∙ ap (λ n. mixed n xs (replicate (length xs) gone)) (let q : suc i ≡ i + 1 = omega arith in q))
+          ∙ (mixed_set i xs (replicate n gone) gone (one_of_many n gone i fill_below) (omega (arith, fill_below, count_is))
+          ∙ ap (λ m. mixed m xs (replicate n gone)) (let q : suc i ≡ i + 1 = omega arith in q))
 
     -- and comes out of it
-    module _ (p i count : ℕ) (gone : S) (ys : List S) (c : List (ℕ × S)) (before cells : List S) (held : c ≡ half p i (replicate count gone) ys [])
-        (in_cells : cells ≡ mixed i before ys) (all : length ys ≡ length before) (below : i < length before) (at : ℕ) (near : at ≡ slot (p + i)) where
+    module _ (p i count : ℕ) (gone : S) (ys : List S) (c : List (ℕ × S)) (cells : List S) (held : c ≡ half p i (replicate count gone) ys [])
+        (in_cells : cells ≡ mixed i (replicate count gone) ys) (all : length ys ≡ count) (below : i < count) (at : ℕ) (near : at ≡ slot (p + i)) where
       pub empty_asks : (y : S) × (c ≡ (at, y) ∷ rest c)
-      empty_asks = front_asks p i (replicate count gone) ys [] c held at near (omega arith)
+      empty_asks = front_asks p i (replicate count gone) ys [] c held at near (omega (arith, all, below))
 
-      pub empty_next : (d e : List (ℕ × S)) → i < count → d ≡ (at, gone) ∷ rest c → e ≡ turned d → e ≡ half p (i + 1) (replicate count gone) ys []
-      empty_next d e inside filled turn =
-          half_next p i (replicate count gone) ys [] c held at near gone d e (omega arith) (one_of_many count gone i inside) filled turn
+      pub empty_next : (d e : List (ℕ × S)) → d ≡ (at, gone) ∷ rest c → e ≡ turned d → e ≡ half p (i + 1) (replicate count gone) ys []
+      empty_next d e filled turn =
+          half_next p i (replicate count gone) ys [] c held at near gone d e (omega (arith, all, below)) (one_of_many count gone i below) filled turn
           ∙ ap (λ n. half p n (replicate count gone) ys []) (let q : suc i ≡ i + 1 = omega arith in q)
 
-      pub empty_cells : (found : S) → c ≡ (at, found) ∷ rest c → set cells i found ≡ mixed (i + 1) before ys
+      pub empty_cells : (found : S) → c ≡ (at, found) ∷ rest c → set cells i found ≡ mixed (i + 1) (replicate count gone) ys
       empty_cells found e =
-          let here = front_is p i (replicate count gone) ys [] c held at near (omega arith) found e in
+          let here = front_is p i (replicate count gone) ys [] c held at near (omega (arith, all, below)) found e in
           ap (λ (l : List S). set l i found) in_cells
-          ∙ (mixed_set i before ys found here below ∙ ap (λ n. mixed n before ys) (let q : suc i ≡ i + 1 = omega arith in q))
+          ∙ (mixed_set i (replicate count gone) ys found here (omega (arith, below, length-many count gone))
+          ∙ ap (λ n. mixed n (replicate count gone) ys) (let q : suc i ≡ i + 1 = omega arith in q))

@@ -10,7 +10,7 @@ use Rattle.fabric_laws.specs.declared.view.View.{View}
 use Rattle.fabric_laws.specs.Closing.{IsWhole, left_items}
 use Rattle.fabric_laws.specs.Rule.{IsConsistent, all_parts}
 use Rattle.fabric.specs.declared.closed.Closed.{Closed}
-use Rattle.fabric.specs.declared.tagged.Tagged.{Ghosts}
+use Rattle.burst.specs.declared.tagged.Tagged.{Ghosts}
 use Rattle.fabric.specs.Closing.{left_of}
 
 -- the items of a ring that are left, in order
@@ -21,8 +21,8 @@ left c ring = left_of (slots_items c.table.words) (slots_items c.table.slots) ri
 abbrev pub ring_count : {T : Type 0} {G : Ghosts T} → Closed T G → ℕ
 ring_count c = length c.shapes.items
 
--- What is left of a fabric at the end is what was published at positions that no take has reserved, of the last state, which has this
--- view of a hand
+-- What is left of a fabric at the end is what was published at positions that no take has reserved, of the last state,
+-- which has this view of a hand
 abbrev pub IsLast : {T : Type 0} {G : Ghosts T} → (T → List ℕ) → List RingPlan → ℕ → View T → Closed T G → Type 0
 IsLast {T} tags plans pool v c = (s : State (Option T) (View T)) × IsConsistent tags plans pool s
     × ((id : ℕ) × (get_elem? s.views id ≡ some v)) × ((r : ℕ) → r < length plans → left c r ≡ left_items s r)

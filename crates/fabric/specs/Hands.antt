@@ -6,12 +6,12 @@ use Rattle.ringcore_laws.specs.declared.protocol.Span.{Span}
 use Rattle.fabric_laws.specs.Changes.{settled}
 use Rattle.fabric_laws.specs.declared.view.View.{View}
 use Rattle.fabric.specs.declared.fabric.Fabric.{Fabric}
-use Rattle.fabric.specs.declared.tagged.Tagged.{Ghosts}
+use Rattle.burst.specs.declared.tagged.Tagged.{Ghosts}
 use Rattle.fabric.specs.declared.hand.Hand.{Hand}
 use Rattle.fabric.specs.declared.hand.PutOpen.{PutOpen}
 use Rattle.fabric.specs.declared.hand.TakeSpan.{TakeSpan}
 use Rattle.fabric.specs.declared.hand.SettleFault.{SettleFault}
-use Rattle.fabric.specs.Settles.{Declines, IsCount}
+use Rattle.fabric.specs.Settles.{RefusesSettle, IsCount}
 use Rattle.fabric.specs.Views.{span_of}
 use Rattle.fabric.specs.declared.split.SplitFault.{SplitFault}
 use Rattle.fabric.specs.declared.split.SplitFault.TheVariants.{Memory, TooMany}
@@ -36,6 +36,13 @@ abbrev pub IsHandOf : {T : Type 0} {G : Ghosts T} {N : ℕ} → Fabric T N → H
 IsHandOf f h = (h.share.seat.table_id ≡ f.table.shared.table_id) × (h.share.seat.me.0.plans ≡ f.plan.rings.items)
     × (h.share.seat.me.0.pool ≡ f.plan.buffers)
 
+-- the fabric that an open span is of
+abbrev pub put_fabric : {T : Type 0} {G : Ghosts T} {N : ℕ} → PutOpen T N G → Fabric T N
+put_fabric o = o.ring.fabric.now
+
+abbrev pub take_fabric : {T : Type 0} {G : Ghosts T} {N : ℕ} → TakeSpan T N G → Fabric T N
+take_fabric o = o.ring.fabric.now
+
 -- the views of a hand with an open span
 abbrev pub put_view : {T : Type 0} {G : Ghosts T} {N : ℕ} → PutOpen T N G → View T
 put_view o = o.share.seat.me.0
@@ -45,37 +52,47 @@ take_view o = o.share.seat.me.0
 
 -- the spans
 abbrev pub put_span : {T : Type 0} {G : Ghosts T} {N : ℕ} → PutOpen T N G → Span
-put_span o = span_of o.ring Put o.start o.count
+put_span o = span_of o.ring.index Put o.place.start o.place.count
 
 abbrev pub take_span : {T : Type 0} {G : Ghosts T} {N : ℕ} → TakeSpan T N G → Span
-take_span o = span_of o.ring Take o.start o.count
+take_span o = span_of o.ring.index Take o.place.start o.place.count
+
+-- how many positions more were free, or queued
+abbrev pub put_left : {T : Type 0} {G : Ghosts T} {N : ℕ} → PutOpen T N G → ℕ
+put_left o = o.place.left
+
+abbrev pub take_left : {T : Type 0} {G : Ghosts T} {N : ℕ} → TakeSpan T N G → ℕ
+take_left o = o.place.left
 
 -- the same span of the same hand
 abbrev pub SamePut : {T : Type 0} {G : Ghosts T} {N : ℕ} → PutOpen T N G → PutOpen T N G → Type 0
-SamePut o q = (q.fabric.now ≡ o.fabric.now) × (q.ring ≡ o.ring) × (q.start ≡ o.start) × (q.count ≡ o.count) × (q.left ≡ o.left)
+SamePut o q = (put_fabric q ≡ put_fabric o) × (put_span q ≡ put_span o) × (put_left q ≡ put_left o)
 
 abbrev pub SameTake : {T : Type 0} {G : Ghosts T} {N : ℕ} → TakeSpan T N G → TakeSpan T N G → Type 0
-SameTake o q = (q.fabric.now ≡ o.fabric.now) × (q.ring ≡ o.ring) × (q.start ≡ o.start) × (q.count ≡ o.count) × (q.left ≡ o.left)
+SameTake o q = (take_fabric q ≡ take_fabric o) × (take_span q ≡ take_span o) × (take_left q ≡ take_left o)
     × ((take_view q).shown ≡ (take_view o).shown)
 
 -- the hand after the items of a put were published, and after the first k items of a take were taken
 abbrev pub HasPut : {T : Type 0} {G : Ghosts T} {N : ℕ} → PutOpen T N G → List T → Hand T G → Type 0
-HasPut o items h = IsHandOf o.fabric.now h × IsCount o.shape.plan.put (length items) o.count
+HasPut o items h = IsHandOf (put_fabric o) h × IsCount o.ring.shape.plan.put (length items) o.place.count
     × (view h ≡ settled (put_span o) items (put_view o))
 
 abbrev pub HasTaken : {T : Type 0} {G : Ghosts T} {N : ℕ} → TakeSpan T N G → ℕ → List T → Hand T G → Type 0
-HasTaken o k items h = IsHandOf o.fabric.now h × IsCount o.shape.plan.take k o.count
+HasTaken o k items h = IsHandOf (take_fabric o) h × IsCount o.ring.shape.plan.take k o.place.count
     × (view h ≡ settled (take_span o) (take k items) (take_view o))
 
 -- why no items of an open span were settled, as q is what it is then
-abbrev pub DeclinesPut : {T : Type 0} {G : Ghosts T} {N : ℕ} → (T → List ℕ) → PutOpen T N G → List T → PutOpen T N G → SettleFault → Type 0
-DeclinesPut tags o items q fault =
-    Declines tags o.shape.plan.put o.shape.plan (length items) o.count o.start items (put_view o) (put_view q) fault
+abbrev pub RefusesPut : {T : Type 0} {G : Ghosts T} {N : ℕ} → (T → List ℕ) → PutOpen T N G → List T → PutOpen T N G
+    → SettleFault → Type 0
+RefusesPut tags o items q fault =
+    RefusesSettle tags o.ring.shape.plan.put o.ring.shape.plan (length items) o.place.count o.place.start items
+    (put_view o) (put_view q) fault
 
-abbrev pub DeclinesTake : {T : Type 0} {G : Ghosts T} {N : ℕ} → (T → List ℕ) → TakeSpan T N G → ℕ → List T → TakeSpan T N G → SettleFault
-    → Type 0
-DeclinesTake tags o k items q fault =
-    Declines tags o.shape.plan.take o.shape.plan k o.count o.start items (take_view o) (take_view q) fault
+abbrev pub RefusesTake : {T : Type 0} {G : Ghosts T} {N : ℕ} → (T → List ℕ) → TakeSpan T N G → ℕ → List T
+    → TakeSpan T N G → SettleFault → Type 0
+RefusesTake tags o k items q fault =
+    RefusesSettle tags o.ring.shape.plan.take o.ring.shape.plan k o.place.count o.place.start items (take_view o)
+    (take_view q) fault
 
 -- why a hand with so many parts is not split
 abbrev pub IsSplitFault : ℕ → SplitFault → Type 0

@@ -1,6 +1,3 @@
-pub mod Items
-pub mod Cells
-pub mod Numbers
 pub mod Shapes
 pub mod Views
 pub mod Slots
@@ -11,3 +8,4 @@ pub mod Hands
 pub mod Making
 pub mod Closing
 pub mod Closed
+pub mod Rings

@@ -5,7 +5,7 @@ use Rattle.geom.specs.declared.plan.RingPlan.{RingPlan}
 use Rattle.geom.specs.Fit.{AllFit}
 use Rattle.fabric.specs.declared.make.OpenFault.{OpenFault}
 use Rattle.fabric.specs.declared.make.OpenFault.TheVariants.{Memory, BadPlan, BadTags}
-use Rattle.fabric.specs.Numbers.{times}
+use Rattle.burst.specs.Numbers.{times}
 use Rattle.fabric.specs.Owned.{one_if}
 
 -- there may be a fabric of these rings beside so many buffers, with spans of at most so many positions
@@ -23,7 +23,8 @@ module _ {T : Type 0} (tags : T → List ℕ) where
   AreTagged buffers items = (b : ℕ) → times b (flat_map tags items) ≡ one_if (nat_lt b buffers)
 
   -- why no fabric is made; the items come back in order
-  abbrev pub Denies : List RingPlan → ℕ → ℕ → List T → OpenFault T → Type 0
-  Denies rings buffers most items (Memory back) = (back.items ≡ items) × MayStand rings buffers most
-  Denies rings buffers most items (BadPlan back) = (back.items ≡ items) × (¬ MayStand rings buffers most)
-  Denies rings buffers most items (BadTags back) = (back.items ≡ items) × MayStand rings buffers most × (¬ AreTagged buffers items)
+  abbrev pub RefusesRoom : List RingPlan → ℕ → ℕ → List T → OpenFault T → Type 0
+  RefusesRoom rings buffers most items (Memory back) = (back.items ≡ items) × MayStand rings buffers most
+  RefusesRoom rings buffers most items (BadPlan back) = (back.items ≡ items) × (¬ MayStand rings buffers most)
+  RefusesRoom rings buffers most items (BadTags back) =
+      (back.items ≡ items) × MayStand rings buffers most × (¬ AreTagged buffers items)

@@ -16,14 +16,15 @@ IsCount Multi k count = k ≡ count
 IsCount Hts k count = k ≤ count
 
 module _ {T : Type 0} (tags : T → List ℕ) where
-  -- some item carries a buffer that the hand doesn't hold, or more of the items carry it; or the ring is free, and some carries none or
-  -- more
+  -- some item carries a buffer that the hand doesn't hold, or more of the items carry it; or the ring is free, and some
+  -- carries none or more
   abbrev pub AreNotYours : RingPlan → View T → List T → Type 0
   AreNotYours plan v items = ((b : ℕ) × (holds tags b v.party < occurrences_in tags b items))
       ⊎ ((plan.free ≡ true) × (AreSingle tags items → ⊥))
 
   -- nothing was settled, for this reason: k positions of a span of `count` from `start` on
-  abbrev pub Declines : Mode → RingPlan → ℕ → ℕ → ℕ → List T → View T → View T → SettleFault → Type 0
-  Declines mode plan k count start items v w BadCount = (IsCount mode k count → ⊥) × (w ≡ v)
-  Declines mode plan k count start items v w NotYours = IsCount mode k count × AreNotYours plan v items × (w ≡ v)
-  Declines mode plan k count start items v w (NotYet x) = (mode ≡ Multi) × (k ≡ count) × (x < start) × (w ≡ missed x v)
+  abbrev pub RefusesSettle : Mode → RingPlan → ℕ → ℕ → ℕ → List T → View T → View T → SettleFault → Type 0
+  RefusesSettle mode plan k count start items v w BadCount = (IsCount mode k count → ⊥) × (w ≡ v)
+  RefusesSettle mode plan k count start items v w NotYours = IsCount mode k count × AreNotYours plan v items × (w ≡ v)
+  RefusesSettle mode plan k count start items v w (NotYet x) =
+      (mode ≡ Multi) × (k ≡ count) × (x < start) × (w ≡ missed x v)

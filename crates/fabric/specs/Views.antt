@@ -14,7 +14,8 @@ module _ {T : Type 0} where
 
   -- and then it saw the other side settled as far as this
   abbrev pub HasSeen : ℕ → Side → ℕ → ℕ → View T → Type 0
-  HasSeen ring side word tail v = v.observed ≡ Some record { ring = ring; side = side; looked_at = word; tail_seen = Some tail }
+  HasSeen ring side word tail v =
+      v.observed ≡ Some record { ring = ring; side = side; looked_at = word; tail_seen = Some tail }
 
   -- the hand has the spans, buffers and parts that it had
   pub record IsKept (v w : View T) : Type 0 where

@@ -3,10 +3,9 @@ ghost use Rattle.std.specs.Prelude.{◌≡◌, ◌≢◌, ◌≤◌, ◌==◌, l
 ghost use Rattle.std.specs.List.{flat_map, list_all};
 ghost use Rattle.fabric.specs.Owned.{all_there, cleared, marked, told};
 
-use crate::burst::Burst;
 use crate::owned::Owned;
-use crate::tagged::Tagged;
 use arrayvec::ArrayVec;
+use burst::{Burst, Tagged};
 
 /// The numbers of the item at place `i`, in place of what `out` has.
 #[inline]

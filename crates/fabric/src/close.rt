@@ -9,7 +9,7 @@ use crate::closed::Closed;
 use crate::fabric::Fabric;
 use crate::hand::{Hand, Share};
 use crate::steps::{own_word, position, settled_word};
-use crate::tagged::Tagged;
+use burst::Tagged;
 use geom::{Mode, RESERVED, Side};
 
 /// How far a side is reserved, by its own word.

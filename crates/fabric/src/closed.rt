@@ -3,8 +3,8 @@ ghost use Rattle.std.specs.Slots.{IsFull, slots_items};
 ghost use Rattle.fabric.specs.Closing.{IsClosed};
 
 use crate::plan::Shape;
-use crate::tagged::Tagged;
 use atomic_table::Closed as ClosedTable;
+use burst::Tagged;
 use std::alloc::Global;
 
 /// The rings of a fabric at its end, with the items that are left on them.

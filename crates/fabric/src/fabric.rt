@@ -5,8 +5,8 @@ ghost use Rattle.fabric.specs.Shapes.{AreShapes};
 
 use crate::plan::{FabricPlan, Shape};
 use crate::rule::Consistent;
-use crate::tagged::Tagged;
 use atomic_table::Table;
+use burst::Tagged;
 use fabric_laws::View;
 use std::alloc::Global;
 

@@ -1,17 +1,15 @@
 //! A thread's share of a fabric, and the spans that it has reserved.
-ghost use Rattle.std.specs.Prelude.{◌≡◌, ◌+◌, ◌≤◌, ◌<◌, [], None, Some, replicate, length, slice_get};
+ghost use Rattle.std.specs.Prelude.{◌≡◌, ◌≤◌, ◌<◌, [], None, Some, replicate, length};
 ghost use Rattle.geom.specs.declared.plan.Side.TheVariants.{Put, Take};
-ghost use Rattle.geom.specs.declared.word.TheConstants.{LAST};
 ghost use Rattle.fabric_laws.specs.Kinds.{IsHeldOnce, run};
-ghost use Rattle.fabric_laws.specs.Words.{slot_at, slots_before};
+ghost use Rattle.fabric_laws.specs.Words.{slot_at};
 ghost use Rattle.fabric.specs.Owned.{IsRow};
 ghost use Rattle.fabric.specs.Views.{span_of};
 
-use crate::fabric::Fabric;
 use crate::owned::Owned;
-use crate::plan::Shape;
-use crate::tagged::Tagged;
+use crate::ring::{Place, Ring};
 use atomic_table::Seat;
+use burst::Tagged;
 use fabric_laws::View;
 
 /// The parts of a whole fabric: a split halves a hand's parts, a join adds them up.
@@ -41,46 +39,32 @@ pub struct Hand<T: Tagged> {
 /// A hand with a span that it will put items into. One that is dropped keeps its span for ever.
 #[derive(Drop)]
 pub struct PutOpen<'f, T: Tagged, const N: usize> {
-    pub(crate) fabric: &'f Fabric<T, N>,
+    pub(crate) ring: Ring<'f, T, N>,
     pub(crate) share: Share<T>,
-    pub(crate) ring: usize,
-    pub(crate) shape: Shape,
-    pub(crate) start: u64,
-    pub(crate) count: usize,
-    pub(crate) left: u64,
-    pub ghost table: { share.seat.table_id ≡ fabric.now.table.shared.table_id },
-    pub ghost plans: { (share.seat.me.0.plans ≡ fabric.now.plan.rings.items)
-        × (share.seat.me.0.pool ≡ fabric.now.plan.buffers) },
-    pub ghost in_plan: { (slice_get fabric.now.plan.rings.items ring ≡ Some shape.plan)
-        × (shape.base ≡ slots_before fabric.now.plan.rings.items ring) },
-    pub ghost span: { share.seat.me.0.party.span ≡ Some (span_of ring Put start count) },
-    pub ghost slots: { share.seat.me.1
-        ≡ run (slot_at fabric.now.plan.rings.items ring shape.plan) start (replicate count None) },
-    pub ghost fits: { count ≤ N },
-    pub ghost last: { start + count ≤ LAST },
+    pub(crate) place: Place,
+    pub ghost table: { share.seat.table_id ≡ ring.fabric.now.table.shared.table_id },
+    pub ghost plans: { (share.seat.me.0.plans ≡ ring.fabric.now.plan.rings.items)
+        × (share.seat.me.0.pool ≡ ring.fabric.now.plan.buffers) },
+    pub ghost span: { share.seat.me.0.party.span ≡ Some (span_of ring.index Put place.start place.count) },
+    pub ghost slots: { share.seat.me.1 ≡ run (slot_at ring.fabric.now.plan.rings.items ring.index ring.shape.plan)
+        place.start (replicate place.count None) },
+    pub ghost fits: { place.count ≤ N },
 }
 
 /// A hand with a span whose items it takes. They were moved out at the start, into a burst that the caller lent.
 #[derive(Drop)]
 pub struct TakeSpan<'f, T: Tagged, const N: usize> {
-    pub(crate) fabric: &'f Fabric<T, N>,
+    pub(crate) ring: Ring<'f, T, N>,
     pub(crate) share: Share<T>,
-    pub(crate) ring: usize,
-    pub(crate) shape: Shape,
-    pub(crate) start: u64,
-    pub(crate) count: usize,
-    pub(crate) left: u64,
-    pub ghost table: { share.seat.table_id ≡ fabric.now.table.shared.table_id },
-    pub ghost plans: { (share.seat.me.0.plans ≡ fabric.now.plan.rings.items)
-        × (share.seat.me.0.pool ≡ fabric.now.plan.buffers) },
-    pub ghost in_plan: { (slice_get fabric.now.plan.rings.items ring ≡ Some shape.plan)
-        × (shape.base ≡ slots_before fabric.now.plan.rings.items ring) },
-    pub ghost span: { share.seat.me.0.party.span ≡ Some (span_of ring Take start count) },
-    pub ghost many: { length share.seat.me.0.shown ≡ count },
-    pub ghost slots: { share.seat.me.1
-        ≡ run (slot_at fabric.now.plan.rings.items ring shape.plan) start (replicate count None) },
-    pub ghost fits: { count ≤ N },
-    pub ghost last: { start + count ≤ LAST },
+    pub(crate) place: Place,
+    pub ghost table: { share.seat.table_id ≡ ring.fabric.now.table.shared.table_id },
+    pub ghost plans: { (share.seat.me.0.plans ≡ ring.fabric.now.plan.rings.items)
+        × (share.seat.me.0.pool ≡ ring.fabric.now.plan.buffers) },
+    pub ghost span: { share.seat.me.0.party.span ≡ Some (span_of ring.index Take place.start place.count) },
+    pub ghost many: { length share.seat.me.0.shown ≡ place.count },
+    pub ghost slots: { share.seat.me.1 ≡ run (slot_at ring.fabric.now.plan.rings.items ring.index ring.shape.plan)
+        place.start (replicate place.count None) },
+    pub ghost fits: { place.count ≤ N },
 }
 
 /// Why a start reserves nothing. Each number is one that this call found.

@@ -3,9 +3,7 @@
 #![tactic(auto)]
 
 mod about;
-mod burst;
 mod carried;
-mod cells;
 mod close;
 mod closed;
 mod fabric;
@@ -16,25 +14,20 @@ mod opens;
 mod owned;
 mod plan;
 mod plays;
+mod ring;
 mod rule;
 mod settle;
 mod slots;
 mod split;
 mod start;
 mod steps;
-mod tagged;
 mod take;
-#[cfg(test)]
-mod tests;
 mod values;
 
-pub use burst::Burst;
 pub use closed::Closed;
 pub use fabric::Fabric;
-pub use hand::{Hand, PutOpen, SettleFault, Share, StartFault, TakeSpan};
+pub use hand::{Hand, PutOpen, SettleFault, StartFault, TakeSpan};
 pub use make::{OpenFault, Opened};
-pub use plan::{FabricPlan, Shape};
+pub use plan::FabricPlan;
 pub use split::SplitFault;
-pub use start::Probe;
-pub use tagged::Tagged;
 pub use take::TakeOpen;

@@ -1,15 +1,15 @@
 //! Open spans, and how they are settled.
 ghost use Rattle.std.specs.Prelude.{◌≡◌, ◌==◌, [], length, take, IfOk, IfErr, true, false};
 ghost use Rattle.std.specs.List.{flat_map, list_all};
-ghost use Rattle.fabric.specs.Hands.{DeclinesPut, DeclinesTake, HasPut, HasTaken, SamePut, SameTake, take_view};
+ghost use Rattle.fabric.specs.Hands.{RefusesPut, RefusesTake, HasPut, HasTaken, SamePut, SameTake, put_left};
+ghost use Rattle.fabric.specs.Hands.{put_span, take_left, take_span, take_view};
 ghost use Rattle.fabric.specs.Owned.{all_there, cleared};
 
-use crate::burst::Burst;
 use crate::carried::are_single;
 use crate::hand::{Hand, PutOpen, SettleFault, Share, TakeSpan};
 use crate::owned::Owned;
 use crate::settle::is_count;
-use crate::tagged::Tagged;
+use burst::{Burst, Tagged};
 
 /// Whether items may be put on a ring: they carry buffers that are marked, none twice, and on a free ring exactly one
 /// each. The row is then without them; else nothing changes.
@@ -30,24 +30,24 @@ fn may_put<T: Tagged, const N: usize>(owned: &mut Owned, free: bool, items: &Bur
 impl<'f, T: Tagged, const N: usize> PutOpen<'f, T, N> {
     /// The first position of the span.
     pub fn start(&self) -> u64
-        ensures { result ≡ self.now.start }
+        ensures { result ≡ (put_span self.now).start }
     {
-        self.start
+        self.place.start
     }
 
     /// How many positions the span has, 1 to `N`.
     #[inline]
     pub fn count(&self) -> usize
-        ensures { result ≡ self.now.count }
+        ensures { result ≡ (put_span self.now).count }
     {
-        self.count
+        self.place.count
     }
 
     /// How many positions more were free as the span was reserved.
     pub fn left(&self) -> u64
-        ensures { result ≡ self.now.left }
+        ensures { result ≡ put_left self.now }
     {
-        self.left
+        self.place.left
     }
 
     /// Tries once to publish the items at the positions of the span: on a multi side as many as it has, on an HTS side
@@ -61,78 +61,53 @@ impl<'f, T: Tagged, const N: usize> PutOpen<'f, T, N> {
     ) -> Result<Hand<T>, (PutOpen<'f, T, N>, SettleFault)>
         ensures done { IfOk result (λ h. HasPut self.entry items.old h × (items.new ≡ [])) }
         ensures refused { IfErr result (λ e. SamePut self.entry e.0 × (items.new ≡ items.old)
-            × DeclinesPut T.numbers self.entry items.old e.0 e.1) }
+            × RefusesPut T.numbers self.entry items.old e.0 e.1) }
     {
-        if !is_count(self.shape.plan.put, items.len(), self.count) {
+        if !is_count(self.ring.shape.plan.put, items.len(), self.place.count) {
             return Err((self, SettleFault::BadCount));
         }
-        let PutOpen {
-            fabric,
-            share,
-            ring,
-            shape,
-            start,
-            count,
-            left,
-        } = self;
+        let PutOpen { ring, share, place } = self;
         let Share {
             mut seat,
             mut owned,
             parts,
         } = share;
-        if !may_put(&mut owned, shape.plan.free, items) {
-            let span = PutOpen {
-                fabric,
-                share: Share { seat, owned, parts },
-                ring,
-                shape,
-                start,
-                count,
-                left,
-            };
-            return Err((span, SettleFault::NotYours));
+        if !may_put(&mut owned, ring.shape.plan.free, items) {
+            let share = Share { seat, owned, parts };
+            return Err((PutOpen { ring, share, place }, SettleFault::NotYours));
         }
-        let Some(tail) = fabric.publish(&mut seat, ring, &shape, start, count, &mut items.cells)
-        else {
+        let Some(tail) = ring.publish(&mut seat, place, &mut items.cells) else {
             return Ok(Hand {
                 share: Share { seat, owned, parts },
             });
         };
         owned.own(items, items.len());
-        let span = PutOpen {
-            fabric,
-            share: Share { seat, owned, parts },
-            ring,
-            shape,
-            start,
-            count,
-            left,
-        };
-        Err((span, SettleFault::NotYet(tail)))
+        let share = Share { seat, owned, parts };
+        Err((PutOpen { ring, share, place }, SettleFault::NotYet(tail)))
     }
 }
 
 impl<'f, T: Tagged, const N: usize> TakeSpan<'f, T, N> {
     /// The first position of the span.
     pub fn start(&self) -> u64
-        ensures { result ≡ self.now.start }
+        ensures { result ≡ (take_span self.now).start }
     {
-        self.start
+        self.place.start
     }
 
     /// How many positions the span has, 1 to `N`.
     #[inline]
     pub fn count(&self) -> usize
-        ensures { result ≡ self.now.count }
+        ensures { result ≡ (take_span self.now).count }
     {
-        self.count
+        self.place.count
     }
 
     /// How many items more were queued as the span was reserved.
     pub fn left(&self) -> u64
-        ensures { result ≡ self.now.left }
+        ensures { result ≡ take_left self.now }
     {
-        self.left
+        self.place.left
     }
 
     /// Tries once to take the items at the first `k` positions of the span: on a multi side all, on an HTS side any
@@ -141,7 +116,7 @@ impl<'f, T: Tagged, const N: usize> TakeSpan<'f, T, N> {
     /// the items that the start showed.
     ///
     /// Refused, in the order of the tests: `BadCount`, before any step; `NotYet`.
-    pub fn try_settle_with(
+    pub fn try_settle_into(
         self,
         k: usize,
         items: &mut Burst<T, N>,
@@ -149,40 +124,24 @@ impl<'f, T: Tagged, const N: usize> TakeSpan<'f, T, N> {
         requires shows { items.old ≡ (take_view self).shown }
         ensures done { IfOk result (λ h. HasTaken self.entry k items.old h × (items.new ≡ take k items.old)) }
         ensures refused { IfErr result (λ e. SameTake self.entry e.0 × (items.new ≡ items.old)
-            × DeclinesTake T.numbers self.entry k items.old e.0 e.1) }
+            × RefusesTake T.numbers self.entry k items.old e.0 e.1) }
     {
-        if !is_count(self.shape.plan.take, k, self.count) {
+        if !is_count(self.ring.shape.plan.take, k, self.place.count) {
             return Err((self, SettleFault::BadCount));
         }
-        let TakeSpan {
-            fabric,
-            share,
-            ring,
-            shape,
-            start,
-            count,
-            left,
-        } = self;
+        let TakeSpan { ring, share, place } = self;
         let Share {
             mut seat,
             mut owned,
             parts,
         } = share;
-        let Some(tail) = fabric.dequeue(&mut seat, ring, &shape, start, k, &mut items.cells) else {
+        let Some(tail) = ring.dequeue(&mut seat, place, k, &mut items.cells) else {
             owned.own(items, items.len());
             return Ok(Hand {
                 share: Share { seat, owned, parts },
             });
         };
-        let span = TakeSpan {
-            fabric,
-            share: Share { seat, owned, parts },
-            ring,
-            shape,
-            start,
-            count,
-            left,
-        };
-        Err((span, SettleFault::NotYet(tail)))
+        let share = Share { seat, owned, parts };
+        Err((TakeSpan { ring, share, place }, SettleFault::NotYet(tail)))
     }
 }

@@ -20,12 +20,12 @@ pub struct Shape {
 }
 
 impl Shape {
-    ghost use Rattle.fabric.specs.Shapes.{slot_of};
+    ghost use Rattle.fabric.specs.Shapes.{shape_slot};
 
     /// The slot of a position.
     #[inline]
     pub(crate) fn slot(&self, position: u64) -> usize
-        ensures { result ≡ slot_of self.now position }
+        ensures { result ≡ shape_slot self.now position }
     {
         (self.base + self.plan.geometry.slot(position)) as usize
     }

@@ -1,6 +1,6 @@
 //! What each kind of step on a word tells the hand that makes it. These types are for the proofs alone.
-use crate::tagged::Tagged;
 use atomic_table::{Join, Play, Split};
+use burst::Tagged;
 use fabric_laws::View;
 
 /// Look: a load of the own word.

@@ -1,7 +1,7 @@
 //! The rule of a fabric's table: that it is consistent.
 use crate::plan::FabricPlan;
-use crate::tagged::Tagged;
 use atomic_table::TableRule;
+use burst::Tagged;
 use fabric_laws::View;
 use std::marker::PhantomData;
 

@@ -3,24 +3,20 @@ ghost use Rattle.std.specs.Prelude.{◌≡◌, ◌+◌, ◌-◌, ◌<◌, ◌≤
 ghost use Rattle.std.specs.Prelude.{slice_get, None, Some, IfNone, IfSome, true, false};
 ghost use Rattle.geom.specs.declared.plan.Mode.TheVariants.{Multi};
 ghost use Rattle.geom.specs.declared.plan.Side.TheVariants.{Put, Take};
-ghost use Rattle.geom.specs.declared.word.TheConstants.{LAST};
 ghost use Rattle.ringcore_laws.specs.FreeRings.{AreSingle};
 ghost use Rattle.ringcore_laws.specs.Moves.{Owns};
 ghost use Rattle.fabric_laws.specs.Changes.{missed, settled};
-ghost use Rattle.fabric_laws.specs.Kinds.{IsHeldOnce, cells_of, run};
-ghost use Rattle.fabric_laws.specs.Words.{slot_at, slots_before};
-ghost use Rattle.fabric.specs.Items.{somes};
+ghost use Rattle.fabric_laws.specs.Kinds.{IsHeldOnce};
+ghost use Rattle.burst.specs.Items.{somes};
+ghost use Rattle.fabric.specs.Rings.{IsSameSeat, IsSeated, slots_of};
 ghost use Rattle.fabric.specs.Settles.{IsCount};
-ghost use Rattle.fabric.specs.Shapes.{slot_of};
 ghost use Rattle.fabric.specs.Slots.{values};
 ghost use Rattle.fabric.specs.Views.{span_of};
 
-use crate::cells::Cells;
-use crate::fabric::Fabric;
-use crate::plan::Shape;
+use crate::ring::{Place, Ring};
 use crate::slots::skip;
-use crate::tagged::Tagged;
 use atomic_table::Seat;
+use burst::{Cells, Tagged};
 use fabric_laws::View;
 use geom::{Mode, Side};
 
@@ -35,81 +31,39 @@ pub(crate) fn is_count(mode: Mode, k: usize, count: usize) -> bool
     }
 }
 
-impl<T: Tagged, const N: usize> Fabric<T, N> {
+impl<T: Tagged, const N: usize> Ring<'_, T, N> {
     /// Moves the items into the first slots of a put span.
-    fn offer(
-        &self,
-        seat: &mut Seat<Option<T>, View<T>>,
-        ring: usize,
-        shape: &Shape,
-        start: u64,
-        count: usize,
-        cells: &mut Cells<T, N>,
-    )
-        requires fabric { seat.old.table_id ≡ self.now.table.shared.table_id }
-        requires base { shape.now.base ≡ slots_before self.now.plan.rings.items ring }
-        requires last { start + count ≤ LAST }
-        requires fits { length cells.old ≤ count }
-        requires slots { seat.old.me.1 ≡ run (slot_at self.now.plan.rings.items ring shape.now.plan) start
-            (replicate count None) }
-        ensures fabric { (seat.new.table_id ≡ seat.old.table_id) × (seat.new.id ≡ seat.old.id)
-            × (seat.new.me.0 ≡ seat.old.me.0) }
-        ensures slots { seat.new.me.1 ≡ run (slot_at self.now.plan.rings.items ring shape.now.plan) start
-            (cells.old ++ replicate (count - length cells.old) None) }
+    fn offer(&self, seat: &mut Seat<Option<T>, View<T>>, place: Place, cells: &mut Cells<T, N>)
+        requires table { seat.old.table_id ≡ self.now.fabric.now.table.shared.table_id }
+        requires fits { length cells.old ≤ place.count }
+        requires slots { seat.old.me.1 ≡ slots_of self.now place.start (replicate place.count None) }
+        ensures seat { IsSameSeat seat.old seat.new × (seat.new.me.0 ≡ seat.old.me.0) }
+        ensures slots { seat.new.me.1 ≡ slots_of self.now place.start
+            (cells.old ++ replicate (place.count - length cells.old) None) }
         ensures cells { cells.new ≡ [] }
     {
         let k = cells.len();
-        self.fill_all(seat, shape, start, cells);
-        skip(seat, count - k);
-    }
-
-    /// `fill` with all cells of a list, which has none then.
-    fn fill_all(
-        &self,
-        seat: &mut Seat<Option<T>, View<T>>,
-        shape: &Shape,
-        start: u64,
-        cells: &mut Cells<T, N>,
-    )
-        requires fabric { seat.old.table_id ≡ self.now.table.shared.table_id }
-        requires low { start + length cells.old < 2 ^ 63 }
-        requires held { seat.old.me.1 ≡ run (slot_of shape.now) start (replicate (length cells.old) None)
-            ++ drop (length cells.old) seat.old.me.1 }
-        ensures fabric { (seat.new.table_id ≡ seat.old.table_id) × (seat.new.id ≡ seat.old.id)
-            × (seat.new.me.0 ≡ seat.old.me.0) }
-        ensures filled { seat.new.me.1 ≡ drop (length cells.old) seat.old.me.1
-            ++ run (slot_of shape.now) start cells.old }
-        ensures cells { cells.new ≡ [] }
-    {
-        self.fill_part(seat, shape, start, 0, cells.len, &mut cells.row);
-        cells.len = 0;
+        self.fill(seat, place.start, 0, cells);
+        skip(seat, place.count - k);
     }
 
     /// Moves the items out of the slots of a span into an empty list: those of a take, or those of a put again.
     pub(crate) fn withdraw(
         &self,
         seat: &mut Seat<Option<T>, View<T>>,
-        ring: usize,
-        shape: &Shape,
-        start: u64,
-        count: usize,
+        place: Place,
         cells: &mut Cells<T, N>,
     )
-        requires fabric { seat.old.table_id ≡ self.now.table.shared.table_id }
-        requires base { shape.now.base ≡ slots_before self.now.plan.rings.items ring }
-        requires last { start + count ≤ LAST }
-        requires fits { count ≤ N }
+        requires table { seat.old.table_id ≡ self.now.fabric.now.table.shared.table_id }
+        requires fits { place.count ≤ N }
         requires blank { cells.old ≡ [] }
-        requires slots { (length (values seat.old.me.1) ≡ count)
-            × (seat.old.me.1 ≡ run (slot_at self.now.plan.rings.items ring shape.now.plan) start
-            (values seat.old.me.1)) }
-        ensures fabric { (seat.new.table_id ≡ seat.old.table_id) × (seat.new.id ≡ seat.old.id)
-            × (seat.new.me.0 ≡ seat.old.me.0) }
-        ensures slots { seat.new.me.1 ≡ run (slot_at self.now.plan.rings.items ring shape.now.plan) start
-            (replicate count None) }
+        requires slots { (length (values seat.old.me.1) ≡ place.count)
+            × (seat.old.me.1 ≡ slots_of self.now place.start (values seat.old.me.1)) }
+        ensures seat { IsSameSeat seat.old seat.new × (seat.new.me.0 ≡ seat.old.me.0) }
+        ensures slots { seat.new.me.1 ≡ slots_of self.now place.start (replicate place.count None) }
         ensures cells { cells.new ≡ values seat.old.me.1 }
     {
-        self.empty(seat, shape, start, count, cells);
+        self.drain(seat, place.start, place.count, cells);
     }
 
     /// Publishes items at the first positions of a put span. Where an earlier span of a multi side isn't settled, the
@@ -117,46 +71,38 @@ impl<T: Tagged, const N: usize> Fabric<T, N> {
     pub(crate) fn publish(
         &self,
         seat: &mut Seat<Option<T>, View<T>>,
-        ring: usize,
-        shape: &Shape,
-        start: u64,
-        count: usize,
+        place: Place,
         cells: &mut Cells<T, N>,
     ) -> Option<u64>
-        requires fabric { seat.old.table_id ≡ self.now.table.shared.table_id }
-        requires ring { slice_get self.now.plan.rings.items ring ≡ Some shape.now.plan }
-        requires base { shape.now.base ≡ slots_before self.now.plan.rings.items ring }
-        requires alive { 0 < seat.old.me.0.parts }
-        requires last { start + count ≤ LAST }
-        requires fits { count ≤ N }
+        requires seat { IsSeated self.now seat.old }
+        requires fits { place.count ≤ N }
         requires packed { cells.old ≡ map Some (somes cells.old) }
-        requires count { IsCount shape.now.plan.put (length cells.old) count }
-        requires span { seat.old.me.0.party.span ≡ Some (span_of ring Put start count) }
+        requires count { IsCount self.now.shape.plan.put (length cells.old) place.count }
+        requires span { seat.old.me.0.party.span ≡ Some (span_of self.now.index Put place.start place.count) }
         requires owned { Owns T.numbers seat.old.me.0.party (somes cells.old) }
-        requires single { shape.now.plan.free ≡ true → AreSingle T.numbers (somes cells.old) }
-        requires slots { seat.old.me.1 ≡ run (slot_at self.now.plan.rings.items ring shape.now.plan) start
-            (replicate count None) }
-        ensures fabric { (seat.new.table_id ≡ seat.old.table_id) × (seat.new.id ≡ seat.old.id) }
+        requires single { self.now.shape.plan.free ≡ true → AreSingle T.numbers (somes cells.old) }
+        requires slots { seat.old.me.1 ≡ slots_of self.now place.start (replicate place.count None) }
+        ensures seat { IsSameSeat seat.old seat.new }
         ensures done { IfNone result ((seat.new.me.0
-            ≡ settled (span_of ring Put start count) (somes cells.old) seat.old.me.0) × (seat.new.me.1 ≡ [])
-            × IsHeldOnce T.numbers seat.new.me.0.pool seat.new.me.0.party × (cells.new ≡ [])) }
-        ensures early { IfSome result (λ x. (shape.now.plan.put ≡ Multi) × (x < start)
+            ≡ settled (span_of self.now.index Put place.start place.count) (somes cells.old) seat.old.me.0)
+            × (seat.new.me.1 ≡ []) × IsHeldOnce T.numbers seat.new.me.0.pool seat.new.me.0.party × (cells.new ≡ [])) }
+        ensures early { IfSome result (λ x. (self.now.shape.plan.put ≡ Multi) × (x < place.start)
             × (seat.new.me.0 ≡ missed x seat.old.me.0) × (seat.new.me.1 ≡ seat.old.me.1)
             × (cells.new ≡ cells.old)) }
     {
         let k = cells.len();
-        self.offer(seat, ring, shape, start, count, cells);
-        match shape.plan.put {
+        self.offer(seat, place, cells);
+        match self.shape.plan.put {
             Mode::Hts => {
-                self.store(seat, ring, shape, Side::Put, start, k);
+                self.store(seat, Side::Put, place.start, k);
                 None
             }
             Mode::Multi => {
-                let found = self.settle(seat, ring, shape, Side::Put, start, count);
-                if found == start {
+                let found = self.settle(seat, Side::Put, place.start, place.count);
+                if found == place.start {
                     return None;
                 }
-                self.withdraw(seat, ring, shape, start, count, cells);
+                self.withdraw(seat, place, cells);
                 Some(found)
             }
         }
@@ -166,50 +112,20 @@ impl<T: Tagged, const N: usize> Fabric<T, N> {
     fn keep(
         &self,
         seat: &mut Seat<Option<T>, View<T>>,
-        ring: usize,
-        shape: &Shape,
-        start: u64,
+        place: Place,
         k: usize,
         cells: &mut Cells<T, N>,
     )
-        requires fabric { seat.old.table_id ≡ self.now.table.shared.table_id }
-        requires base { shape.now.base ≡ slots_before self.now.plan.rings.items ring }
-        requires last { start + length cells.old ≤ LAST }
+        requires table { seat.old.table_id ≡ self.now.fabric.now.table.shared.table_id }
+        requires whole { length cells.old ≡ place.count }
         requires fits { k ≤ length cells.old }
-        requires slots { seat.old.me.1 ≡ run (slot_at self.now.plan.rings.items ring shape.now.plan) start
-            (replicate (length cells.old) None) }
-        ensures fabric { (seat.new.table_id ≡ seat.old.table_id) × (seat.new.id ≡ seat.old.id)
-            × (seat.new.me.0 ≡ seat.old.me.0) }
-        ensures slots { seat.new.me.1 ≡ run (slot_at self.now.plan.rings.items ring shape.now.plan) start
-            (replicate k None ++ drop k cells.old) }
+        requires slots { seat.old.me.1 ≡ slots_of self.now place.start (replicate place.count None) }
+        ensures seat { IsSameSeat seat.old seat.new × (seat.new.me.0 ≡ seat.old.me.0) }
+        ensures slots { seat.new.me.1 ≡ slots_of self.now place.start (replicate k None ++ drop k cells.old) }
         ensures cells { cells.new ≡ take k cells.old }
     {
         skip(seat, k);
-        self.fill_behind(seat, shape, start, k, cells);
-    }
-
-    /// `fill` with the cells behind the first `k`, which are all that the list has then.
-    fn fill_behind(
-        &self,
-        seat: &mut Seat<Option<T>, View<T>>,
-        shape: &Shape,
-        start: u64,
-        k: usize,
-        cells: &mut Cells<T, N>,
-    )
-        requires fabric { seat.old.table_id ≡ self.now.table.shared.table_id }
-        requires fits { k ≤ length cells.old }
-        requires low { start + length cells.old < 2 ^ 63 }
-        requires held { seat.old.me.1 ≡ run (slot_of shape.now) (start + k)
-            (replicate (length cells.old - k) None) ++ drop (length cells.old - k) seat.old.me.1 }
-        ensures fabric { (seat.new.table_id ≡ seat.old.table_id) × (seat.new.id ≡ seat.old.id)
-            × (seat.new.me.0 ≡ seat.old.me.0) }
-        ensures filled { seat.new.me.1 ≡ drop (length cells.old - k) seat.old.me.1
-            ++ run (slot_of shape.now) (start + k) (drop k cells.old) }
-        ensures cells { cells.new ≡ take k cells.old }
-    {
-        self.fill_part(seat, shape, start + k as u64, k, cells.len, &mut cells.row);
-        cells.len = k;
+        self.fill(seat, place.start + k as u64, k, cells);
     }
 
     /// Dequeues the items at the first `k` positions of a take span. Where an earlier span of a multi side isn't
@@ -217,42 +133,39 @@ impl<T: Tagged, const N: usize> Fabric<T, N> {
     pub(crate) fn dequeue(
         &self,
         seat: &mut Seat<Option<T>, View<T>>,
-        ring: usize,
-        shape: &Shape,
-        start: u64,
+        place: Place,
         k: usize,
         cells: &mut Cells<T, N>,
     ) -> Option<u64>
-        requires fabric { seat.old.table_id ≡ self.now.table.shared.table_id }
-        requires ring { slice_get self.now.plan.rings.items ring ≡ Some shape.now.plan }
-        requires base { shape.now.base ≡ slots_before self.now.plan.rings.items ring }
-        requires alive { 0 < seat.old.me.0.parts }
+        requires seat { IsSeated self.now seat.old }
         requires shows { cells.old ≡ map Some seat.old.me.0.shown }
-        requires last { start + length cells.old ≤ LAST }
-        requires count { IsCount shape.now.plan.take k (length cells.old) }
-        requires span { seat.old.me.0.party.span ≡ Some (span_of ring Take start (length cells.old)) }
-        requires slots { seat.old.me.1 ≡ run (slot_at self.now.plan.rings.items ring shape.now.plan) start
-            (replicate (length cells.old) None) }
-        ensures fabric { (seat.new.table_id ≡ seat.old.table_id) × (seat.new.id ≡ seat.old.id) }
+        requires whole { length cells.old ≡ place.count }
+        requires count { IsCount self.now.shape.plan.take k place.count }
+        requires span { seat.old.me.0.party.span ≡ Some (span_of self.now.index Take place.start place.count) }
+        requires slots { seat.old.me.1 ≡ slots_of self.now place.start (replicate place.count None) }
+        ensures seat { IsSameSeat seat.old seat.new }
         ensures done { IfNone result ((seat.new.me.0
-            ≡ settled (span_of ring Take start (length cells.old)) (take k seat.old.me.0.shown) seat.old.me.0)
+            ≡ settled (span_of self.now.index Take place.start place.count) (take k seat.old.me.0.shown) seat.old.me.0)
             × (seat.new.me.1 ≡ [])
             × IsHeldOnce T.numbers seat.new.me.0.pool seat.new.me.0.party
             × (cells.new ≡ map Some (take k seat.old.me.0.shown))) }
-        ensures early { IfSome result (λ x. (shape.now.plan.take ≡ Multi) × (x < start)
+        ensures early { IfSome result (λ x. (self.now.shape.plan.take ≡ Multi) × (x < place.start)
             × (seat.new.me.0 ≡ missed x seat.old.me.0) × (seat.new.me.1 ≡ seat.old.me.1)
             × (cells.new ≡ cells.old)) }
     {
-        let count = cells.len();
-        self.keep(seat, ring, shape, start, k, cells);
-        match shape.plan.take {
+        self.keep(seat, place, k, cells);
+        match self.shape.plan.take {
             Mode::Hts => {
-                self.store(seat, ring, shape, Side::Take, start, k);
+                self.store(seat, Side::Take, place.start, k);
                 None
             }
             Mode::Multi => {
-                let found = self.settle(seat, ring, shape, Side::Take, start, count);
-                if found == start { None } else { Some(found) }
+                let found = self.settle(seat, Side::Take, place.start, place.count);
+                if found == place.start {
+                    None
+                } else {
+                    Some(found)
+                }
             }
         }
     }

@@ -9,7 +9,7 @@ use crate::fabric::Fabric;
 use crate::hand::{ALL_PARTS, Hand, Share};
 use crate::owned::Owned;
 use crate::plays::Halves;
-use crate::tagged::Tagged;
+use burst::Tagged;
 use std::alloc::Global;
 
 /// Why a hand is not split.

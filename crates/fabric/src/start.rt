@@ -6,20 +6,24 @@ ghost use Rattle.geom.specs.declared.word.TheConstants.{LAST, RESERVED};
 ghost use Rattle.geom.specs.declared.plan.RingPlan.{RingPlan};
 ghost use Rattle.geom.specs.declared.plan.Side.TheVariants.{Put, Take};
 ghost use Rattle.geom.specs.Plan.{granted, mode_of};
+ghost use Rattle.ringcore_laws.specs.History.{position_of};
 ghost use Rattle.fabric_laws.specs.Changes.{found_busy};
-ghost use Rattle.fabric.specs.Hands.{IsHandOf, OnRing, put_view, rings_of, take_view, view};
+ghost use Rattle.fabric_laws.specs.Kinds.{ReadsBack};
+ghost use Rattle.fabric.specs.Hands.{IsHandOf, OnRing, put_fabric, put_left, put_span, put_view, rings_of};
+ghost use Rattle.fabric.specs.Hands.{take_fabric, take_left, take_span, take_view, view};
 ghost use Rattle.fabric.specs.Owned.{count_true};
-ghost use Rattle.fabric.specs.Starts.{Denies, Judges, MayAsk, Probes, Refuses, Starts};
+ghost use Rattle.fabric.specs.Rings.{IsSameSeat, IsSeated};
+ghost use Rattle.fabric.specs.Starts.{RefusesRoom, RefusesCount, MayAsk, Probes, RefusesStart, Starts};
 ghost use Rattle.fabric.specs.Views.{IsKept};
 
-use crate::burst::Burst;
 use crate::fabric::Fabric;
 use crate::hand::{Hand, PutOpen, Share, StartFault, TakeSpan};
 use crate::owned::Owned;
 use crate::plan::Shape;
+use crate::ring::{Place, Ring};
 use crate::steps::position;
-use crate::tagged::Tagged;
 use atomic_table::Seat;
+use burst::{Burst, Tagged};
 use fabric_laws::View;
 use geom::{How, LAST, Mode, RESERVED, Side};
 
@@ -60,7 +64,7 @@ fn is_bad_count(shape: &Shape, owned: &Owned, n: usize, most: usize) -> bool
 fn measure(how: How, n: usize, start: u64, room: u64) -> Result<usize, StartFault>
     requires { start ≤ LAST }
     ensures ok { IfOk result (λ m. (m ≡ granted how n room) × (0 < m) × (m ≤ n) × (m ≤ room) × (start + m ≤ LAST)) }
-    ensures err { IfErr result (λ e. Denies how n start room e) }
+    ensures err { IfErr result (λ e. RefusesRoom how n start room e) }
 {
     let count = how.granted(n as u64, room);
     if count == 0 {
@@ -72,35 +76,31 @@ fn measure(how: How, n: usize, start: u64, room: u64) -> Result<usize, StartFaul
     Ok(count as usize)
 }
 
-impl<T: Tagged, const N: usize> Fabric<T, N> {
+impl<T: Tagged, const N: usize> Ring<'_, T, N> {
     /// Looks at a side and asks for its room: two steps on words, or one where the side is busy. Answers the word found
     /// where it is.
     pub(crate) fn probe(
         &self,
         seat: &mut Seat<Option<T>, View<T>>,
-        ring: usize,
-        shape: &Shape,
         side: Side,
     ) -> Result<Probe, u64>
-        requires fabric { seat.old.table_id ≡ self.now.table.shared.table_id }
-        requires ring { slice_get self.now.plan.rings.items ring ≡ Some shape.now.plan }
-        requires plans { seat.old.me.0.plans ≡ self.now.plan.rings.items }
-        requires alive { 0 < seat.old.me.0.parts }
+        requires seat { IsSeated self.now seat.old }
         requires idle { seat.old.me.0.party.span ≡ None }
-        ensures fabric { (seat.new.table_id ≡ seat.old.table_id) × (seat.new.id ≡ seat.old.id)
-            × (seat.new.me.1 ≡ seat.old.me.1) }
-        ensures found { IfOk result (λ q. Probes T.numbers ring side shape.now.plan seat.old.me.0 q seat.new.me.0) }
-        ensures busy { IfErr result (λ x. (mode_of shape.now.plan side ≡ Hts) × (x % RESERVED ≢ 0)
-            × (seat.new.me.0 ≡ found_busy seat.old.me.0)) }
+        ensures seat { IsSameSeat seat.old seat.new × (seat.new.me.1 ≡ seat.old.me.1) }
+        ensures found { IfOk result
+            (λ q. Probes T.numbers self.now.index side self.now.shape.plan seat.old.me.0 q seat.new.me.0) }
+        ensures busy { IfErr result (λ x. (mode_of self.now.shape.plan side ≡ Hts) × (x % RESERVED ≢ 0)
+            × ReadsBack self.now.index side (position_of (mode_of self.now.shape.plan side) x) seat.old.me.0
+            × (seat.new.me.0 ≡ found_busy x seat.old.me.0)) }
     {
-        let mode = shape.plan.mode(side);
-        let word = self.look(seat, ring, shape, side);
+        let mode = self.shape.plan.mode(side);
+        let word = self.look(seat, side);
         if is_busy(mode, word) {
             return Err(word);
         }
-        let tail = self.ask(seat, ring, shape, side, word);
+        let tail = self.ask(seat, side, word);
         let start = position(mode, word);
-        let capacity = shape.plan.geometry.capacity();
+        let capacity = self.shape.plan.geometry.capacity();
         let room = match side {
             Side::Put => tail + capacity - start,
             Side::Take => tail - start,
@@ -117,33 +117,30 @@ impl<T: Tagged, const N: usize> Fabric<T, N> {
     fn aim(
         &self,
         seat: &mut Seat<Option<T>, View<T>>,
-        ring: usize,
-        shape: &Shape,
         side: Side,
         n: usize,
         how: How,
     ) -> Result<(Probe, usize), StartFault>
-        requires fabric { seat.old.table_id ≡ self.now.table.shared.table_id }
-        requires ring { slice_get self.now.plan.rings.items ring ≡ Some shape.now.plan }
-        requires plans { seat.old.me.0.plans ≡ self.now.plan.rings.items }
-        requires alive { 0 < seat.old.me.0.parts }
+        requires seat { IsSeated self.now seat.old }
         requires idle { seat.old.me.0.party.span ≡ None }
-        ensures fabric { (seat.new.table_id ≡ seat.old.table_id) × (seat.new.id ≡ seat.old.id)
-            × (seat.new.me.1 ≡ seat.old.me.1) }
+        ensures seat { IsSameSeat seat.old seat.new × (seat.new.me.1 ≡ seat.old.me.1) }
         ensures kept { IsKept seat.old.me.0 seat.new.me.0 }
-        ensures ok { IfOk result (λ a. Probes T.numbers ring side shape.now.plan seat.old.me.0 a.0 seat.new.me.0
+        ensures ok { IfOk result
+            (λ a. Probes T.numbers self.now.index side self.now.shape.plan seat.old.me.0 a.0 seat.new.me.0
             × (a.1 ≡ granted how n a.0.room) × (0 < a.1) × (a.1 ≤ n) × (a.1 ≤ a.0.room) × (a.0.start + a.1 ≤ LAST)) }
-        ensures err { IfErr result
-            (λ e. Refuses T.numbers N how n ring side shape.now.plan seat.old.me.0 seat.new.me.0 e) }
+        ensures err { IfErr result (λ e. RefusesStart T.numbers N how n
+            self.now.index side self.now.shape.plan seat.old.me.0 seat.new.me.0 e) }
     {
-        let probe = match self.probe(seat, ring, shape, side) {
+        let probe = match self.probe(seat, side) {
             Ok(probe) => probe,
             Err(word) => return Err(StartFault::Busy(word)),
         };
         let count = measure(how, n, probe.start, probe.room)?;
         Ok((probe, count))
     }
+}
 
+impl<T: Tagged, const N: usize> Fabric<T, N> {
     /// Tries once to reserve a span of positions for a put: by bulk `n` of them, by burst at most `n`. At most three
     /// steps on words.
     ///
@@ -159,16 +156,20 @@ impl<T: Tagged, const N: usize> Fabric<T, N> {
     ) -> Result<PutOpen<'_, T, N>, (Hand<T>, StartFault)>
         requires hand { IsHandOf self.now hand }
         requires ring { ring < length (rings_of self.now) }
-        ensures started { IfOk result (λ o. (o.fabric.now ≡ self.now) × (o.ring ≡ ring)
+        ensures started { IfOk result (λ o. (put_fabric o ≡ self.now) × ((put_span o).ring ≡ ring)
             × OnRing self.now ring (λ plan. Starts T.numbers how n ring Put plan (view hand)
-            o.start o.count o.left [] (put_view o))) }
+            (put_span o).start (put_span o).count (put_left o) [] (put_view o))) }
         ensures refused { IfErr result (λ e. IsHandOf self.now e.0
-            × OnRing self.now ring (λ plan. Refuses T.numbers N how n ring Put plan (view hand) (view e.0) e.1)) }
-        ensures judged { OnRing self.now ring (λ plan. IfOk result (λ _. MayAsk T.numbers N n Put plan (view hand))
-            × IfErr result (λ e. Judges T.numbers N n Put plan (view hand) e.1)) }
+            × OnRing self.now ring (λ plan. RefusesStart T.numbers N how n ring Put plan (view hand) (view e.0) e.1)) }
+        ensures asked { OnRing self.now ring (λ plan. IfOk result (λ _. MayAsk T.numbers N n Put plan (view hand))
+            × IfErr result (λ e. RefusesCount T.numbers N n Put plan (view hand) e.1)) }
     {
-        let shape = self.shapes[ring];
-        if is_bad_count(&shape, &hand.share.owned, n, N) {
+        let target = Ring {
+            fabric: self,
+            index: ring,
+            shape: self.shapes[ring],
+        };
+        if is_bad_count(&target.shape, &hand.share.owned, n, N) {
             return Err((hand, StartFault::BadCount));
         }
         let Hand { share } = hand;
@@ -177,7 +178,7 @@ impl<T: Tagged, const N: usize> Fabric<T, N> {
             owned,
             parts,
         } = share;
-        let (probe, count) = match self.aim(&mut seat, ring, &shape, Side::Put, n, how) {
+        let (probe, count) = match target.aim(&mut seat, Side::Put, n, how) {
             Ok(aim) => aim,
             Err(fault) => return Err((
                 Hand {
@@ -186,7 +187,7 @@ impl<T: Tagged, const N: usize> Fabric<T, N> {
                 fault,
             )),
         };
-        let found = self.reserve_put(&mut seat, ring, &shape, probe.word, count);
+        let found = target.reserve_put(&mut seat, probe.word, count);
         if found != probe.word {
             return Err((
                 Hand {
@@ -195,14 +196,15 @@ impl<T: Tagged, const N: usize> Fabric<T, N> {
                 StartFault::Contended(found),
             ));
         }
-        Ok(PutOpen {
-            fabric: self,
-            share: Share { seat, owned, parts },
-            ring,
-            shape,
+        let place = Place {
             start: probe.start,
             count,
             left: probe.room - count as u64,
+        };
+        Ok(PutOpen {
+            ring: target,
+            share: Share { seat, owned, parts },
+            place,
         })
     }
 
@@ -211,7 +213,7 @@ impl<T: Tagged, const N: usize> Fabric<T, N> {
     ///
     /// Refused, in the order of the tests: `BadCount` where `n` is 0 or above `N`, before any step; `Busy`; `NoRoom`;
     /// `Worn`; `Contended`. The hand comes back, and the burst stays empty.
-    pub fn try_start_take_span(
+    pub fn try_start_take_into(
         &self,
         hand: Hand<T>,
         ring: usize,
@@ -222,15 +224,19 @@ impl<T: Tagged, const N: usize> Fabric<T, N> {
         requires hand { IsHandOf self.now hand }
         requires ring { ring < length (rings_of self.now) }
         requires empty { into.old ≡ [] }
-        ensures started { IfOk result (λ o. (o.fabric.now ≡ self.now) × (o.ring ≡ ring)
+        ensures started { IfOk result (λ o. (take_fabric o ≡ self.now) × ((take_span o).ring ≡ ring)
             × (into.new ≡ (take_view o).shown) × OnRing self.now ring (λ plan. Starts T.numbers how n ring Take plan
-            (view hand) o.start o.count o.left into.new (take_view o))) }
+            (view hand) (take_span o).start (take_span o).count (take_left o) into.new (take_view o))) }
         ensures refused { IfErr result (λ e. IsHandOf self.now e.0 × (into.new ≡ [])
-            × OnRing self.now ring (λ plan. Refuses T.numbers N how n ring Take plan (view hand) (view e.0) e.1)) }
-        ensures judged { OnRing self.now ring (λ plan. IfOk result (λ _. MayAsk T.numbers N n Take plan (view hand))
-            × IfErr result (λ e. Judges T.numbers N n Take plan (view hand) e.1)) }
+            × OnRing self.now ring (λ plan. RefusesStart T.numbers N how n ring Take plan (view hand) (view e.0) e.1)) }
+        ensures asked { OnRing self.now ring (λ plan. IfOk result (λ _. MayAsk T.numbers N n Take plan (view hand))
+            × IfErr result (λ e. RefusesCount T.numbers N n Take plan (view hand) e.1)) }
     {
-        let shape = self.shapes[ring];
+        let target = Ring {
+            fabric: self,
+            index: ring,
+            shape: self.shapes[ring],
+        };
         if n == 0 || n > N {
             return Err((hand, StartFault::BadCount));
         }
@@ -240,7 +246,7 @@ impl<T: Tagged, const N: usize> Fabric<T, N> {
             owned,
             parts,
         } = share;
-        let (probe, count) = match self.aim(&mut seat, ring, &shape, Side::Take, n, how) {
+        let (probe, count) = match target.aim(&mut seat, Side::Take, n, how) {
             Ok(aim) => aim,
             Err(fault) => return Err((
                 Hand {
@@ -249,7 +255,7 @@ impl<T: Tagged, const N: usize> Fabric<T, N> {
                 fault,
             )),
         };
-        let found = self.reserve_take(&mut seat, ring, &shape, probe.word, count);
+        let found = target.reserve_take(&mut seat, probe.word, count);
         if found != probe.word {
             return Err((
                 Hand {
@@ -258,15 +264,16 @@ impl<T: Tagged, const N: usize> Fabric<T, N> {
                 StartFault::Contended(found),
             ));
         }
-        self.withdraw(&mut seat, ring, &shape, probe.start, count, &mut into.cells);
-        Ok(TakeSpan {
-            fabric: self,
-            share: Share { seat, owned, parts },
-            ring,
-            shape,
+        let place = Place {
             start: probe.start,
             count,
             left: probe.room - count as u64,
+        };
+        target.withdraw(&mut seat, place, &mut into.cells);
+        Ok(TakeSpan {
+            ring: target,
+            share: Share { seat, owned, parts },
+            place,
         })
     }
 }

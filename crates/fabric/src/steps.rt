@@ -8,19 +8,20 @@ ghost use Rattle.geom.specs.declared.word.TheConstants.{LAST, RESERVED};
 ghost use Rattle.geom.specs.Plan.{mode_of};
 ghost use Rattle.ringcore_laws.specs.declared.protocol.Observed.{Observed};
 ghost use Rattle.ringcore_laws.specs.declared.protocol.Span.{Span};
-ghost use Rattle.ringcore_laws.specs.FreeRings.{AreSingle, buffers_of};
+ghost use Rattle.ringcore_laws.specs.FreeRings.{AreSingle, buffers_had};
 ghost use Rattle.ringcore_laws.specs.History.{other_side, position_of};
 ghost use Rattle.ringcore_laws.specs.Moves.{Owns};
-ghost use Rattle.fabric_laws.specs.Changes.{after_look, asked, missed, reserved, settled};
+ghost use Rattle.fabric_laws.specs.Changes.{view_after_look, asked, missed, reserved, settled};
 ghost use Rattle.fabric_laws.specs.Kinds.{HasRoom, IsHeldOnce, IsNear, IsReady, ReadsBack, run};
+ghost use Rattle.fabric.specs.Hands.{rings_of};
+ghost use Rattle.fabric.specs.Rings.{IsSameSeat, IsSeated, slots_of};
 ghost use Rattle.fabric.specs.Views.{HasLooked, HasSeen, span_of};
-ghost use Rattle.fabric_laws.specs.Words.{own_at, settled_at, slot_at, tail_at};
+ghost use Rattle.fabric_laws.specs.Words.{own_at, settled_word_at, slot_at, tail_at};
 
-use crate::fabric::Fabric;
-use crate::plan::Shape;
 use crate::plays::{Asks, Looks, ReservesPut, ReservesTake, Settles, Stores};
-use crate::tagged::Tagged;
+use crate::ring::Ring;
 use atomic_table::Seat;
+use burst::Tagged;
 use fabric_laws::View;
 use geom::{Mode, RESERVED, Side};
 
@@ -49,7 +50,7 @@ fn tail_word(ring: usize, side: Side) -> usize
 /// The word that shows how far a side is settled.
 pub(crate) fn settled_word(mode: Mode, ring: usize, side: Side) -> usize
     requires { ring < 64 }
-    ensures { result ≡ settled_at mode ring side }
+    ensures { result ≡ settled_word_at mode ring side }
 {
     match mode {
         Mode::Multi => tail_word(ring, side),
@@ -76,58 +77,45 @@ pub(crate) fn position(mode: Mode, word: u64) -> u64
     }
 }
 
-impl<T: Tagged, const N: usize> Fabric<T, N> {
+impl<T: Tagged, const N: usize> Ring<'_, T, N> {
     /// Look: loads the own word of a side.
-    pub(crate) fn look(
-        &self,
-        seat: &mut Seat<Option<T>, View<T>>,
-        ring: usize,
-        shape: &Shape,
-        side: Side,
-    ) -> u64
-        requires fabric { seat.old.table_id ≡ self.now.table.shared.table_id }
-        requires ring { slice_get self.now.plan.rings.items ring ≡ Some shape.now.plan }
-        requires plans { seat.old.me.0.plans ≡ self.now.plan.rings.items }
-        requires alive { 0 < seat.old.me.0.parts }
-        ensures fabric { (seat.new.table_id ≡ seat.old.table_id) × (seat.new.id ≡ seat.old.id) }
-        ensures view { (seat.new.me.0 ≡ after_look (mode_of shape.now.plan side) ring side result seat.old.me.0)
+    pub(crate) fn look(&self, seat: &mut Seat<Option<T>, View<T>>, side: Side) -> u64
+        requires seat { IsSeated self.now seat.old }
+        ensures seat { IsSameSeat seat.old seat.new }
+        ensures view { (seat.new.me.0
+            ≡ view_after_look (mode_of self.now.shape.plan side) self.now.index side result seat.old.me.0)
             × (seat.new.me.1 ≡ seat.old.me.1) }
-        ensures reads_back { ReadsBack ring side (position_of (mode_of shape.now.plan side) result) seat.old.me.0 }
-        ensures last { position_of (mode_of shape.now.plan side) result ≤ LAST }
+        ensures reads_back { ReadsBack self.now.index side
+            (position_of (mode_of self.now.shape.plan side) result) seat.old.me.0 }
+        ensures last { position_of (mode_of self.now.shape.plan side) result ≤ LAST }
     {
-        self.table.shared.load::<Looks>(seat, own_word(ring, side))
+        self.fabric
+            .table
+            .shared
+            .load::<Looks>(seat, own_word(self.index, side))
     }
 
     /// Room: loads the word that shows how far the other side is settled, and gives that position.
-    pub(crate) fn ask(
-        &self,
-        seat: &mut Seat<Option<T>, View<T>>,
-        ring: usize,
-        shape: &Shape,
-        side: Side,
-        word: u64,
-    ) -> u64
-        requires fabric { seat.old.table_id ≡ self.now.table.shared.table_id }
-        requires ring { slice_get self.now.plan.rings.items ring ≡ Some shape.now.plan }
-        requires plans { seat.old.me.0.plans ≡ self.now.plan.rings.items }
-        requires alive { 0 < seat.old.me.0.parts }
+    pub(crate) fn ask(&self, seat: &mut Seat<Option<T>, View<T>>, side: Side, word: u64) -> u64
+        requires seat { IsSeated self.now seat.old }
         requires idle { seat.old.me.0.party.span ≡ None }
-        requires looked { HasLooked ring side word seat.old.me.0 }
-        ensures fabric { (seat.new.table_id ≡ seat.old.table_id) × (seat.new.id ≡ seat.old.id) }
+        requires looked { HasLooked self.now.index side word seat.old.me.0 }
+        ensures seat { IsSameSeat seat.old seat.new }
         ensures view { (seat.new.me.0 ≡ asked result seat.old.me.0) × (seat.new.me.1 ≡ seat.old.me.1) }
-        ensures reads_back { ReadsBack ring (other_side side) result seat.old.me.0 }
+        ensures reads_back { ReadsBack self.now.index (other_side side) result seat.old.me.0 }
         ensures last { result ≤ LAST }
-        ensures near { IsNear side shape.now.plan.geometry.capacity
-            (position_of (mode_of shape.now.plan side) word) result }
-        ensures room { HasRoom T.numbers side shape.now.plan
-            (position_of (mode_of shape.now.plan side) word) result seat.old.me.0 }
+        ensures near { IsNear side self.now.shape.plan.geometry.capacity
+            (position_of (mode_of self.now.shape.plan side) word) result }
+        ensures room { HasRoom T.numbers side self.now.shape.plan
+            (position_of (mode_of self.now.shape.plan side) word) result seat.old.me.0 }
     {
         let other = opposite(side);
-        let mode = shape.plan.mode(other);
+        let mode = self.shape.plan.mode(other);
         let found = self
+            .fabric
             .table
             .shared
-            .load::<Asks>(seat, settled_word(mode, ring, other));
+            .load::<Asks>(seat, settled_word(mode, self.index, other));
         position(mode, found)
     }
 
@@ -136,69 +124,56 @@ impl<T: Tagged, const N: usize> Fabric<T, N> {
     pub(crate) fn reserve_put(
         &self,
         seat: &mut Seat<Option<T>, View<T>>,
-        ring: usize,
-        shape: &Shape,
         word: u64,
         count: usize,
     ) -> u64
-        requires fabric { seat.old.table_id ≡ self.now.table.shared.table_id }
-        requires ring { slice_get self.now.plan.rings.items ring ≡ Some shape.now.plan }
-        requires plans { (seat.old.me.0.plans ≡ self.now.plan.rings.items)
-            × (seat.old.me.0.pool ≡ self.now.plan.buffers) }
-        requires alive { 0 < seat.old.me.0.parts }
+        requires seat { IsSeated self.now seat.old }
         requires idle { seat.old.me.0.party.span ≡ None }
-        requires seen { (t : ℕ) × HasSeen ring Put word t seat.old.me.0
-            × (position_of shape.now.plan.put word + count ≤ shape.now.plan.geometry.capacity + t) }
+        requires seen { (t : ℕ) × HasSeen self.now.index Put word t seat.old.me.0
+            × (position_of self.now.shape.plan.put word + count ≤ self.now.shape.plan.geometry.capacity + t) }
         requires some { 0 < count }
-        requires last { position_of shape.now.plan.put word + count ≤ LAST }
-        requires few { shape.now.plan.free ≡ true
-            → count ≤ buffers_of T.numbers seat.old.me.0.pool seat.old.me.0.party }
-        ensures fabric { (seat.new.table_id ≡ seat.old.table_id) × (seat.new.id ≡ seat.old.id) }
-        ensures won { let start = position_of shape.now.plan.put word in result ≡ word
-            → (seat.new.me.0 ≡ reserved (span_of ring Put start count) [] seat.old.me.0)
-            × (seat.new.me.1 ≡ run (slot_at self.now.plan.rings.items ring shape.now.plan) start
+        requires last { position_of self.now.shape.plan.put word + count ≤ LAST }
+        requires few { self.now.shape.plan.free ≡ true
+            → count ≤ buffers_had T.numbers seat.old.me.0.pool seat.old.me.0.party }
+        ensures seat { IsSameSeat seat.old seat.new }
+        ensures won { let start = position_of self.now.shape.plan.put word in result ≡ word
+            → (seat.new.me.0 ≡ reserved (span_of self.now.index Put start count) [] seat.old.me.0)
+            × (seat.new.me.1 ≡ slots_of self.now start
             (replicate count None) ++ seat.old.me.1) }
         ensures lost { result ≢ word → (seat.new.me.0 ≡ missed result seat.old.me.0) × (seat.new.me.1 ≡ seat.old.me.1) }
     {
-        self.table
-            .shared
-            .compare_exchange::<ReservesPut>(
-                seat,
-                own_word(ring, Side::Put),
-                word,
-                word + count as u64,
-            )
+        self.fabric.table.shared.compare_exchange::<ReservesPut>(
+            seat,
+            own_word(self.index, Side::Put),
+            word,
+            word + count as u64,
+        )
     }
 
     /// Reserve of the take side: the slots come to the hand with the items that are published there.
     pub(crate) fn reserve_take(
         &self,
         seat: &mut Seat<Option<T>, View<T>>,
-        ring: usize,
-        shape: &Shape,
         word: u64,
         count: usize,
     ) -> u64
-        requires fabric { seat.old.table_id ≡ self.now.table.shared.table_id }
-        requires ring { slice_get self.now.plan.rings.items ring ≡ Some shape.now.plan }
-        requires plans { seat.old.me.0.plans ≡ self.now.plan.rings.items }
-        requires alive { 0 < seat.old.me.0.parts }
+        requires seat { IsSeated self.now seat.old }
         requires idle { seat.old.me.0.party.span ≡ None }
-        requires seen { (t : ℕ) × HasSeen ring Take word t seat.old.me.0
-            × (position_of shape.now.plan.take word + count ≤ t) }
+        requires seen { (t : ℕ) × HasSeen self.now.index Take word t seat.old.me.0
+            × (position_of self.now.shape.plan.take word + count ≤ t) }
         requires some { 0 < count }
-        requires last { position_of shape.now.plan.take word + count ≤ LAST }
-        ensures fabric { (seat.new.table_id ≡ seat.old.table_id) × (seat.new.id ≡ seat.old.id) }
-        ensures won { let start = position_of shape.now.plan.take word in result ≡ word
+        requires last { position_of self.now.shape.plan.take word + count ≤ LAST }
+        ensures seat { IsSameSeat seat.old seat.new }
+        ensures won { let start = position_of self.now.shape.plan.take word in result ≡ word
             → (items : List T) × (length items ≡ count)
-            × (seat.new.me.0 ≡ reserved (span_of ring Take start count) items seat.old.me.0)
-            × (seat.new.me.1 ≡ run (slot_at self.now.plan.rings.items ring shape.now.plan) start (map Some items)
+            × (seat.new.me.0 ≡ reserved (span_of self.now.index Take start count) items seat.old.me.0)
+            × (seat.new.me.1 ≡ slots_of self.now start (map Some items)
             ++ seat.old.me.1) }
         ensures lost { result ≢ word → (seat.new.me.0 ≡ missed result seat.old.me.0) × (seat.new.me.1 ≡ seat.old.me.1) }
     {
-        self.table.shared.compare_exchange::<ReservesTake>(
+        self.fabric.table.shared.compare_exchange::<ReservesTake>(
             seat,
-            own_word(ring, Side::Take),
+            own_word(self.index, Side::Take),
             word,
             word + count as u64,
         )
@@ -208,31 +183,30 @@ impl<T: Tagged, const N: usize> Fabric<T, N> {
     pub(crate) fn settle(
         &self,
         seat: &mut Seat<Option<T>, View<T>>,
-        ring: usize,
-        shape: &Shape,
         side: Side,
         start: u64,
         count: usize,
     ) -> u64
-        requires fabric { seat.old.table_id ≡ self.now.table.shared.table_id }
-        requires ring { slice_get self.now.plan.rings.items ring ≡ Some shape.now.plan }
-        requires alive { 0 < seat.old.me.0.parts }
-        requires multi { mode_of shape.now.plan side ≡ Multi }
+        requires seat { IsSeated self.now seat.old }
+        requires multi { mode_of self.now.shape.plan side ≡ Multi }
         requires last { start + count ≤ LAST }
         requires ready { (items : List T) × (length items ≡ count)
-            × IsReady T.numbers self.now.plan.rings.items shape.now.plan
-            (span_of ring side start count) items seat.old.me }
-        ensures fabric { (seat.new.table_id ≡ seat.old.table_id) × (seat.new.id ≡ seat.old.id) }
-        ensures won { (items : List T) → length items ≡ count → let span = span_of ring side start count in
-            IsReady T.numbers self.now.plan.rings.items shape.now.plan span items seat.old.me → result ≡ start
+            × IsReady T.numbers (rings_of self.now.fabric.now) self.now.shape.plan
+            (span_of self.now.index side start count) items seat.old.me }
+        ensures seat { IsSameSeat seat.old seat.new }
+        ensures won { (items : List T) → length items ≡ count → let span = span_of self.now.index side start count in
+            IsReady T.numbers (rings_of self.now.fabric.now) self.now.shape.plan span items seat.old.me → result ≡ start
             → (seat.new.me.0 ≡ settled span items seat.old.me.0) × (seat.new.me.1 ≡ [])
             × IsHeldOnce T.numbers seat.new.me.0.pool seat.new.me.0.party }
         ensures lost { result ≢ start → (seat.new.me.0 ≡ missed result seat.old.me.0)
             × (seat.new.me.1 ≡ seat.old.me.1) × (result < start) }
     {
-        self.table
-            .shared
-            .compare_exchange::<Settles>(seat, tail_word(ring, side), start, start + count as u64)
+        self.fabric.table.shared.compare_exchange::<Settles>(
+            seat,
+            tail_word(self.index, side),
+            start,
+            start + count as u64,
+        )
     }
 
     /// Settle of an HTS side: stores its word, by which the first `k` positions of the open span are settled, and the
@@ -240,28 +214,27 @@ impl<T: Tagged, const N: usize> Fabric<T, N> {
     pub(crate) fn store(
         &self,
         seat: &mut Seat<Option<T>, View<T>>,
-        ring: usize,
-        shape: &Shape,
         side: Side,
         start: u64,
         k: usize,
     )
-        requires fabric { seat.old.table_id ≡ self.now.table.shared.table_id }
-        requires ring { slice_get self.now.plan.rings.items ring ≡ Some shape.now.plan }
-        requires alive { 0 < seat.old.me.0.parts }
-        requires hts { mode_of shape.now.plan side ≡ Hts }
+        requires seat { IsSeated self.now seat.old }
+        requires hts { mode_of self.now.shape.plan side ≡ Hts }
         requires last { start + k ≤ LAST }
         requires ready { (items : List T) × (count : ℕ) × (length items ≡ k)
-            × IsReady T.numbers self.now.plan.rings.items shape.now.plan
-            (span_of ring side start count) items seat.old.me }
-        ensures fabric { (seat.new.table_id ≡ seat.old.table_id) × (seat.new.id ≡ seat.old.id) }
-        ensures done { (items : List T) (count : ℕ) → length items ≡ k → let span = span_of ring side start count in
-            IsReady T.numbers self.now.plan.rings.items shape.now.plan span items seat.old.me
+            × IsReady T.numbers (rings_of self.now.fabric.now) self.now.shape.plan
+            (span_of self.now.index side start count) items seat.old.me }
+        ensures seat { IsSameSeat seat.old seat.new }
+        ensures done { (items : List T) (count : ℕ) → length items ≡ k
+            → let span = span_of self.now.index side start count in
+            IsReady T.numbers (rings_of self.now.fabric.now) self.now.shape.plan span items seat.old.me
             → (seat.new.me.0 ≡ settled span items seat.old.me.0) × (seat.new.me.1 ≡ [])
             × IsHeldOnce T.numbers seat.new.me.0.pool seat.new.me.0.party }
     {
-        self.table
-            .shared
-            .store::<Stores>(seat, own_word(ring, side), (start + k as u64) * RESERVED);
+        self.fabric.table.shared.store::<Stores>(
+            seat,
+            own_word(self.index, side),
+            (start + k as u64) * RESERVED,
+        );
     }
 }

@@ -2,9 +2,8 @@
 ghost use Rattle.std.specs.Prelude.{◌≡◌};
 ghost use Rattle.fabric.specs.Hands.{take_view};
 
-use crate::burst::Burst;
 use crate::hand::TakeSpan;
-use crate::tagged::Tagged;
+use burst::{Burst, Tagged};
 
 /// A hand with a span whose items it takes, and the burst that they were moved into. One that is dropped keeps its span
 /// for ever.

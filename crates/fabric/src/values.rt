@@ -2,19 +2,18 @@
 //! burst cost as much as its items.
 ghost use Rattle.std.specs.Prelude.{◌≡◌, ◌<◌, length, take, IfErr, IfOk};
 ghost use Rattle.geom.specs.declared.plan.Side.TheVariants.{Take};
-ghost use Rattle.fabric.specs.Hands.{DeclinesPut, DeclinesTake, HasPut, HasTaken, IsHandOf, OnRing, SamePut, SameTake};
-ghost use Rattle.fabric.specs.Hands.{rings_of, take_view, view};
-ghost use Rattle.fabric.specs.Starts.{Judges, MayAsk, Refuses, Starts};
+ghost use Rattle.fabric.specs.Hands.{RefusesPut, RefusesTake, HasPut, HasTaken, IsHandOf, OnRing, SamePut, SameTake};
+ghost use Rattle.fabric.specs.Hands.{rings_of, take_fabric, take_left, take_span, take_view, view};
+ghost use Rattle.fabric.specs.Starts.{RefusesCount, MayAsk, RefusesStart, Starts};
 
-use crate::burst::Burst;
 use crate::fabric::Fabric;
 use crate::hand::{Hand, PutOpen, SettleFault, StartFault};
-use crate::tagged::Tagged;
 use crate::take::TakeOpen;
+use burst::{Burst, Tagged};
 use geom::How;
 
 impl<T: Tagged, const N: usize> Fabric<T, N> {
-    /// `try_start_take_span` into a burst of its own.
+    /// `try_start_take_into` into a burst of its own.
     pub fn try_start_take(
         &self,
         hand: Hand<T>,
@@ -24,16 +23,16 @@ impl<T: Tagged, const N: usize> Fabric<T, N> {
     ) -> Result<TakeOpen<'_, T, N>, (Hand<T>, StartFault)>
         requires hand { IsHandOf self.now hand }
         requires ring { ring < length (rings_of self.now) }
-        ensures started { IfOk result (λ o. (o.span.fabric.now ≡ self.now) × (o.span.ring ≡ ring)
+        ensures started { IfOk result (λ o. (take_fabric o.span ≡ self.now) × ((take_span o.span).ring ≡ ring)
             × OnRing self.now ring (λ plan. Starts T.numbers how n ring Take plan (view hand)
-            o.span.start o.span.count o.span.left o.items (take_view o.span))) }
+            (take_span o.span).start (take_span o.span).count (take_left o.span) o.items (take_view o.span))) }
         ensures refused { IfErr result (λ e. IsHandOf self.now e.0
-            × OnRing self.now ring (λ plan. Refuses T.numbers N how n ring Take plan (view hand) (view e.0) e.1)) }
-        ensures judged { OnRing self.now ring (λ plan. IfOk result (λ _. MayAsk T.numbers N n Take plan (view hand))
-            × IfErr result (λ e. Judges T.numbers N n Take plan (view hand) e.1)) }
+            × OnRing self.now ring (λ plan. RefusesStart T.numbers N how n ring Take plan (view hand) (view e.0) e.1)) }
+        ensures asked { OnRing self.now ring (λ plan. IfOk result (λ _. MayAsk T.numbers N n Take plan (view hand))
+            × IfErr result (λ e. RefusesCount T.numbers N n Take plan (view hand) e.1)) }
     {
         let mut items = Burst::new();
-        match self.try_start_take_span(hand, ring, n, how, &mut items) {
+        match self.try_start_take_into(hand, ring, n, how, &mut items) {
             Ok(span) => Ok(TakeOpen { span, items }),
             Err(refused) => Err(refused),
         }
@@ -48,7 +47,7 @@ impl<'f, T: Tagged, const N: usize> PutOpen<'f, T, N> {
     ) -> Result<Hand<T>, (PutOpen<'f, T, N>, Burst<T, N>, SettleFault)>
         ensures done { IfOk result (λ h. HasPut self.entry items h) }
         ensures refused { IfErr result (λ e. SamePut self.entry e.0 × (e.1 ≡ items)
-            × DeclinesPut T.numbers self.entry items e.0 e.2) }
+            × RefusesPut T.numbers self.entry items e.0 e.2) }
     {
         let mut burst = items;
         match self.try_settle_from(&mut burst) {
@@ -61,21 +60,21 @@ impl<'f, T: Tagged, const N: usize> PutOpen<'f, T, N> {
 impl<'f, T: Tagged, const N: usize> TakeOpen<'f, T, N> {
     /// The first position of the span.
     pub fn start(&self) -> u64
-        ensures { result ≡ self.now.span.start }
+        ensures { result ≡ (take_span self.now.span).start }
     {
         self.span.start()
     }
 
     /// How many positions the span has, 1 to `N`.
     pub fn count(&self) -> usize
-        ensures { result ≡ self.now.span.count }
+        ensures { result ≡ (take_span self.now.span).count }
     {
         self.span.count()
     }
 
     /// How many items more were queued as the span was reserved.
     pub fn left(&self) -> u64
-        ensures { result ≡ self.now.span.left }
+        ensures { result ≡ take_left self.now.span }
     {
         self.span.left()
     }
@@ -87,7 +86,7 @@ impl<'f, T: Tagged, const N: usize> TakeOpen<'f, T, N> {
         &self.items
     }
 
-    /// `TakeSpan::try_settle_with` its own burst, which is given with the items that were taken.
+    /// `TakeSpan::try_settle_into` its own burst, which is given with the items that were taken.
     pub fn try_settle(
         self,
         k: usize,
@@ -95,10 +94,10 @@ impl<'f, T: Tagged, const N: usize> TakeOpen<'f, T, N> {
         ensures done { IfOk result (λ h. HasTaken self.entry.span k self.entry.items h.0
             × (h.1 ≡ take k self.entry.items)) }
         ensures refused { IfErr result (λ e. SameTake self.entry.span e.0.span × (e.0.items ≡ self.entry.items)
-            × DeclinesTake T.numbers self.entry.span k self.entry.items e.0.span e.1) }
+            × RefusesTake T.numbers self.entry.span k self.entry.items e.0.span e.1) }
     {
         let TakeOpen { span, mut items } = self;
-        match span.try_settle_with(k, &mut items) {
+        match span.try_settle_into(k, &mut items) {
             Ok(hand) => Ok((hand, items)),
             Err((span, fault)) => Err((TakeOpen { span, items }, fault)),
         }

@@ -10,10 +10,10 @@ use Rattle.geom.specs.declared.plan.Side.TheVariants.{Put, Take}
 use Rattle.geom.specs.declared.plan.RingPlan.{RingPlan}
 use Rattle.ringcore_laws.specs.declared.party.Party.{Party}
 use Rattle.ringcore_laws.specs.Party.{newcomer}
-use Rattle.ringcore_laws.specs.RingSide.{RingSide, count_of, end_of, greatest, items_of, listed, side_of, span_at, span_count}
-use Rattle.ringcore_laws.specs.Sound.{Sound, SoundRing, holds, in_ring, moved, occurrences, occurrences_in, places}
+use Rattle.ringcore_laws.specs.RingSide.{RingSide, party_count, party_end, greatest, party_items, listed, side_of, span_at, span_count}
+use Rattle.ringcore_laws.specs.Sound.{Sound, SoundRing, holds, in_ring, moved, occurrences, occurrences_in, place_count}
 use Rattle.fabric_laws.specs.declared.view.View.{View}
-use Rattle.fabric_laws.specs.Rule.{IsConsistent, IsSpent, all_parts, parties_of}
+use Rattle.fabric_laws.specs.Rule.{IsConsistent, IsSpent, all_parts, parties_of_views}
 use Rattle.fabric_laws.proofs.Steps.{St, held_once}
 use Rattle.fabric_laws.proofs.Views.{parts_within}
 
@@ -28,51 +28,55 @@ module _ {T : Type 0} where
   module _ {R : Type 0} (f : List (Party T) → R) (skip : (ps : List (Party T)) → f (nobody ∷ ps) ≡ f ps)
       (more : (p : Party T) (ps qs : List (Party T)) → f ps ≡ f qs → f (p ∷ ps) ≡ f (p ∷ qs)) where
     none : (views : List (View T)) → sum_by parts_of views ≡ 0 → ((j : ℕ) (u : View T) → get_elem? views j ≡ some u → u.parts ≡ 0 → IsSpent u)
-        → f (parties_of views) ≡ f []
+        → f (parties_of_views views) ≡ f []
     none [] zeros each = refl
     none (x ∷ xs) zeros each =
         let sum = sum_by-cons parts_of x xs in
         let mine = each 0 x refl (omega (arith, zeros, sum)) in
-        ap (λ p. f (p ∷ parties_of xs)) mine.party ∙ (skip (parties_of xs) ∙ none xs (omega (arith, zeros, sum)) (λ j u at. each (suc j) u at))
+        ap (λ p. f (p ∷ parties_of_views xs)) mine.party ∙ (skip (parties_of_views xs) ∙ none xs (omega (arith, zeros, sum)) (λ j u at. each (suc j) u at))
 
     pub alone : (views : List (View T)) (id : ℕ) (v : View T) → get_elem? views id ≡ some v → sum_by parts_of views ≡ v.parts
-        → ((j : ℕ) (u : View T) → get_elem? views j ≡ some u → u.parts ≡ 0 → IsSpent u) → f (parties_of views) ≡ f (v.party ∷ [])
+        → ((j : ℕ) (u : View T) → get_elem? views j ≡ some u → u.parts ≡ 0 → IsSpent u) → f (parties_of_views views) ≡ f (v.party ∷ [])
     alone [] id v here all each = absurd (some-ne-none v (sym here))
     alone (x ∷ xs) zero v here all each =
         let sum = sum_by-cons parts_of x xs in
         let is : x ≡ v = some-injective x v here in
-        ap (λ u. f (u.party ∷ parties_of xs)) is
-        ∙ more v.party (parties_of xs) [] (none xs (omega (arith, all, sum, ap parts_of is)) (λ j u at. each (suc j) u at))
+        ap (λ u. f (u.party ∷ parties_of_views xs)) is
+        ∙ more v.party (parties_of_views xs) [] (none xs (omega (arith, all, sum, ap parts_of is)) (λ j u at. each (suc j) u at))
     alone (x ∷ xs) (suc id) v here all each =
         let sum = sum_by-cons parts_of x xs in
         let within = parts_within xs id v here in
         let mine = each 0 x refl (omega (arith, all, sum, within)) in
-        ap (λ p. f (p ∷ parties_of xs)) mine.party ∙ (skip (parties_of xs) ∙ alone xs id v here (omega (arith, all, sum, within)) (λ j u at. each (suc j) u at))
+        ap (λ p. f (p ∷ parties_of_views xs)) mine.party ∙ (skip (parties_of_views xs)
+        ∙ alone xs id v here (omega (arith, all, sum, within)) (λ j u at. each (suc j) u at))
 
   -- a side of a ring
 
   side_skips : (r : ℕ) (side : Side) (ps : List (Party T)) → side_of (nobody ∷ ps) r side ≡ side_of ps r side
-  unfolding side_of items_of count_of end_of
+  unfolding side_of party_items party_count party_end
   side_skips r side ps =
-      let len : sum_by (count_of r side) (nobody ∷ ps) ≡ sum_by (count_of r side) ps = omega (arith, sum_by-cons (count_of r side) nobody ps) in
-      let openers : (p : ℕ) → sum_by (λ (party : Party T). span_at r side p party.span) (nobody ∷ ps) ≡ sum_by (λ (party : Party T). span_at r side p party.span) ps =
+      let len : sum_by (party_count r side) (nobody ∷ ps) ≡ sum_by (party_count r side) ps = omega (arith, sum_by-cons (party_count r side) nobody ps) in
+      let openers : (p : ℕ) → sum_by (λ (party : Party T). span_at r side p party.span) (nobody ∷ ps)
+      ≡ sum_by (λ (party : Party T). span_at r side p party.span) ps =
       λ p. omega (arith, sum_by-cons (λ (party : Party T). span_at r side p party.span) nobody ps) in
-      let open_count : sum_by (λ (party : Party T). span_count r side party.span) (nobody ∷ ps) ≡ sum_by (λ (party : Party T). span_count r side party.span) ps =
+      let open_count : sum_by (λ (party : Party T). span_count r side party.span) (nobody ∷ ps)
+      ≡ sum_by (λ (party : Party T). span_count r side party.span) ps =
       omega (arith, sum_by-cons (λ (party : Party T). span_count r side party.span) nobody ps) in
-      let reach : greatest (end_of r side) (nobody ∷ ps) ≡ greatest (end_of r side) ps = omega arith in
+      let reach : greatest (party_end r side) (nobody ∷ ps) ≡ greatest (party_end r side) ps = omega arith in
       λ i. record {
-        items_at = λ p. flat_map (items_of r side p) ps;
+        items_at = λ p. flat_map (party_items r side p) ps;
         len = len i;
         openers = λ p. openers p i;
         open_count = open_count i;
         reach = reach i;
       }
 
-  side_more : (r : ℕ) (side : Side) (x : Party T) (ps qs : List (Party T)) → side_of ps r side ≡ side_of qs r side → side_of (x ∷ ps) r side ≡ side_of (x ∷ qs) r side
+  side_more : (r : ℕ) (side : Side) (x : Party T) (ps qs : List (Party T)) → side_of ps r side ≡ side_of qs r side
+      → side_of (x ∷ ps) r side ≡ side_of (x ∷ qs) r side
   unfolding side_of
   side_more r side x ps qs same =
-      let len : sum_by (count_of r side) (x ∷ ps) ≡ sum_by (count_of r side) (x ∷ qs) =
-      omega (arith, sum_by-cons (count_of r side) x ps, sum_by-cons (count_of r side) x qs, ap (λ (l : RingSide T). l.len) same) in
+      let len : sum_by (party_count r side) (x ∷ ps) ≡ sum_by (party_count r side) (x ∷ qs) =
+      omega (arith, sum_by-cons (party_count r side) x ps, sum_by-cons (party_count r side) x qs, ap (λ (l : RingSide T). l.len) same) in
       let at : ℕ → Party T → ℕ = λ p party. span_at r side p party.span in
       let openers : (p : ℕ) → sum_by (at p) (x ∷ ps) ≡ sum_by (at p) (x ∷ qs) =
       λ p. omega (arith, sum_by-cons (at p) x ps, sum_by-cons (at p) x qs, ap (λ (l : RingSide T). l.openers p) same) in
@@ -80,17 +84,17 @@ module _ {T : Type 0} where
       let open_count : sum_by count (x ∷ ps) ≡ sum_by count (x ∷ qs) =
       omega (arith, sum_by-cons count x ps, sum_by-cons count x qs, ap (λ (l : RingSide T). l.open_count) same) in
       λ i. record {
-        items_at = λ p. items_of r side p x ++ (same i).items_at p;
+        items_at = λ p. party_items r side p x ++ (same i).items_at p;
         len = len i;
         openers = λ p. openers p i;
         open_count = open_count i;
-        reach = max (end_of r side x) (same i).reach;
+        reach = max (party_end r side x) (same i).reach;
       }
 
   module _ (tags : T → List ℕ) (plans : List RingPlan) (pool : ℕ) (s : St T) (c : IsConsistent tags plans pool s) (id : ℕ) (v : View T)
       (here : get_elem? s.views id ≡ some v) (all : v.parts ≡ all_parts) where
     abbrev parties : List (Party T)
-    parties = parties_of s.views
+    parties = parties_of_views s.views
 
     abbrev one : List (Party T)
     one = v.party ∷ []
@@ -103,7 +107,8 @@ module _ {T : Type 0} where
 
     sum_alone : (g : Party T → ℕ) → g nobody ≡ 0 → sum_by g parties ≡ sum_by g one
     sum_alone g nothing =
-        alone (sum_by g) (λ ps. omega (arith, sum_by-cons g nobody ps, nothing)) (λ p ps qs e. omega (arith, sum_by-cons g p ps, sum_by-cons g p qs, e)) s.views id v here total c.spent
+        alone (sum_by g) (λ ps. omega (arith, sum_by-cons g nobody ps, nothing)) (λ p ps qs e. omega (arith, sum_by-cons g p ps, sum_by-cons g p qs, e)) s.views
+        id v here total c.spent
 
     held_alone : (b : ℕ) → sum_by (holds tags b) parties ≡ sum_by (holds tags b) one
     unfolding holds moved
@@ -113,8 +118,8 @@ module _ {T : Type 0} where
     queued_alone b rs =
         λ i. sum_by (λ r. occurrences_in tags b (drop (side_alone r Take i).len (listed (side_alone r Put i)))) rs
 
-    places_alone : (n b : ℕ) → places tags n b parties ≡ places tags n b one
-    unfolding places
+    places_alone : (n b : ℕ) → place_count tags n b parties ≡ place_count tags n b one
+    unfolding place_count
     places_alone n b = omega (arith, held_alone b, queued_alone b (range_with_len 0 n))
 
     pub sound_alone : Sound tags plans pool one
@@ -128,6 +133,7 @@ module _ {T : Type 0} where
       };
     }
       where
-        first : (i : ℕ) (d : Party T) (b : ℕ) → i < 1 → moved tags Put b (slice_index_or one i d) ≤ occurrences b (slice_index_or one i d).given + moved tags Take b (slice_index_or one i d)
+        first : (i : ℕ) (d : Party T) (b : ℕ) → i < 1 → moved tags Put b (slice_index_or one i d) ≤ occurrences b (slice_index_or one i d).given
+            + moved tags Take b (slice_index_or one i d)
         first zero d b lt = (held_once tags plans pool s c id v here b).2
         first (suc i) d b lt = absurd (omega (arith, lt))

@@ -72,7 +72,8 @@ module _ {T : Type 0} where
 
   pub behind_items : (items : List T) (zs : List (Option T)) (k : ℕ) → get_elem? (map Some items ++ zs) (length items + k) ≡ get_elem? zs k
   behind_items [] zs k = ap (get_elem? zs) (let e : 0 + k ≡ k = omega arith in e)
-  behind_items (x ∷ items) zs k = ap (get_elem? (map Some (x ∷ items) ++ zs)) (let e : suc (length items) + k ≡ suc (length items + k) = omega arith in e) ∙ behind_items items zs k
+  behind_items (x ∷ items) zs k =
+      ap (get_elem? (map Some (x ∷ items) ++ zs)) (let e : suc (length items) + k ≡ suc (length items + k) = omega arith in e) ∙ behind_items items zs k
 
   pub length-cells : (items : List T) → length (map Some items) ≡ length items
   length-cells [] = refl

@@ -15,15 +15,15 @@ use Rattle.ringcore_laws.specs.declared.party.Party.{Party}
 use Rattle.ringcore_laws.specs.declared.party.Settled.{Settled}
 use Rattle.ringcore_laws.specs.declared.protocol.Span.{Span}
 use Rattle.ringcore_laws.specs.Party.{is_on}
-use Rattle.ringcore_laws.specs.RingSide.{RingSide, end_of, greatest, listed, settled_end, side_of, span_count, span_end}
+use Rattle.ringcore_laws.specs.RingSide.{RingSide, party_end, greatest, listed, settled_end, side_of, span_count, span_end}
 use Rattle.ringcore_laws.specs.Sound.{Sound}
 use Rattle.ringcore_laws.specs.History.{own_word, position_of}
 use Rattle.ringcore_laws.proofs.Laws.{element, on_own}
 use Rattle.ringcore_laws.proofs.RingLaws.{below_or_not, length-listed}
 use Rattle.ringcore_laws.proofs.HeadTailLaws.{on_or_off, reserved_tells}
 use Rattle.fabric_laws.specs.declared.view.View.{View}
-use Rattle.fabric_laws.specs.Rule.{IsConsistent, parties_of}
-use Rattle.fabric_laws.specs.Words.{own_at, settled_at}
+use Rattle.fabric_laws.specs.Rule.{IsConsistent, parties_of_views}
+use Rattle.fabric_laws.specs.Words.{own_at, settled_word_at}
 use Rattle.fabric_laws.specs.Closing.{IsWhole, LeavesQueue, LiesLeft, reach_of}
 use Rattle.fabric_laws.proofs.Alone.{side_alone, sound_alone}
 use Rattle.fabric_laws.proofs.Steps.{St, position_base, ring_sound, side_ruled, word_is}
@@ -31,7 +31,8 @@ use Rattle.fabric_laws.proofs.Views.{party_here, party_within}
 
 -- where all open spans of a side end at m, and none of its settled spans ends above
 module _ (r : ℕ) (side : Side) (m : ℕ) where
-  settled_below : {T : Type 0} (xs : List (Settled T)) → ((j : ℕ) (x : Settled T) → get_elem? xs j ≡ some x → x.ring ≡ r → x.side ≡ side → x.start + length x.items ≤ m)
+  settled_below : {T : Type 0} (xs : List (Settled T)) → ((j : ℕ) (x : Settled T) → get_elem? xs j ≡ some x → x.ring ≡ r → x.side ≡ side
+      → x.start + length x.items ≤ m)
       → greatest (settled_end r side) xs ≤ m
   settled_below {T} [] each = omega arith
   settled_below {T} (x ∷ xs) each =
@@ -66,13 +67,13 @@ module _ (r : ℕ) (side : Side) (m : ℕ) where
   rest_ends {T} x xs e = record { settled = λ j v at. e.settled (suc j) v at; spans = λ j v at. e.spans (suc j) v at }
 
   reaches : {T : Type 0} (views : List (View T)) → AllEnd views
-      → ((side_of (parties_of views) r side).reach ≤ m)
-      × (((side_of (parties_of views) r side).open_count ≡ 0) ⊎ (m ≤ (side_of (parties_of views) r side).reach))
-  unfolding side_of end_of
+      → ((side_of (parties_of_views views) r side).reach ≤ m)
+      × (((side_of (parties_of_views views) r side).open_count ≡ 0) ⊎ (m ≤ (side_of (parties_of_views views) r side).reach))
+  unfolding side_of party_end
   reaches {T} [] e = (omega arith, inl refl)
   reaches {T} (x ∷ xs) e =
       let count : Party T → ℕ = λ party. span_count r side party.span in
-      let sum = sum_by-cons count x.party (parties_of xs) in
+      let sum = sum_by-cons count x.party (parties_of_views xs) in
       let rest = reaches xs (rest_ends x xs e) in
       let low = e.settled 0 x refl in
       elim (span_ends x.party.span (e.spans 0 x refl)) [
@@ -85,13 +86,15 @@ module _ (r : ℕ) (side : Side) (m : ℕ) where
 
 module _ {T : Type 0} (tags : T → List ℕ) (plans : List RingPlan) (pool : ℕ) (s : St T) (c : IsConsistent tags plans pool s) where
   abbrev parties : List (Party T)
-  parties = parties_of s.views
+  parties = parties_of_views s.views
 
   -- no settled span ends above what is settled
-  settled_low : (r : ℕ) (side : Side) (j : ℕ) (v : View T) → get_elem? s.views j ≡ some v → greatest (settled_end r side) v.party.settled ≤ (side_of parties r side).len
+  settled_low : (r : ℕ) (side : Side) (j : ℕ) (v : View T) → get_elem? s.views j ≡ some v
+      → greatest (settled_end r side) v.party.settled ≤ (side_of parties r side).len
   settled_low r side j v here =
       settled_below r side (side_of parties r side).len v.party.settled
-      (λ k x at on_ring on_side. subst (λ (z : ℕ × Side). x.start + length x.items ≤ (side_of parties z.0 z.1).len) (λ i. (on_ring i, on_side i)) ((c.views j v here).ends k x at))
+      (λ k x at on_ring on_side. subst (λ (z : ℕ × Side). x.start + length x.items ≤ (side_of parties z.0 z.1).len) (λ i. (on_ring i, on_side i))
+      ((c.views j v here).ends k x at))
 
   module _ (r : ℕ) (plan : RingPlan) (at : slice_get plans r ≡ Some plan) where
     abbrev puts : RingSide T
@@ -129,10 +132,10 @@ module _ {T : Type 0} (tags : T → List ℕ) (plans : List RingPlan) (pool : �
             ap (reach_of Hts) (word_is tags plans pool s c r plan at Take ∙ ap (λ m. own_word m takes) e)
             ∙ (of_word takes.len takes.open_count ((side_ruled tags plans pool s c r plan at Take).small e) ∙ sym (hts_reach Take e))
 
-    end_is : position_of plan.put (get_or s.words (settled_at plan.put r Put) 0) ≡ puts.len
+    end_is : position_of plan.put (get_or s.words (settled_word_at plan.put r Put) 0) ≡ puts.len
     end_is = by_mode plan.put refl
       where
-        by_mode : (m : Mode) → plan.put ≡ m → position_of m (get_or s.words (settled_at m r Put) 0) ≡ puts.len
+        by_mode : (m : Mode) → plan.put ≡ m → position_of m (get_or s.words (settled_word_at m r Put) 0) ≡ puts.len
         by_mode Multi e = c.words.tail r Put plan at e
         by_mode Hts e =
             ap (position_of Hts) (word_is tags plans pool s c r plan at Put ∙ ap (λ m. own_word m puts) e)
@@ -175,7 +178,9 @@ module _ {T : Type 0} (tags : T → List ℕ) (plans : List RingPlan) (pool : �
         (λ i. drop (same i) (listed (puts i)))
       where
         low : (j : ℕ) (u : View T) → get_elem? (v ∷ []) j ≡ some u → greatest (settled_end r Take) u.party.settled ≤ (side_of parties r Take).len
-        low zero u at' = subst (λ (w : View T). greatest (settled_end r Take) w.party.settled ≤ (side_of parties r Take).len) (some-injective v u at') (settled_low r Take id v here)
+        low zero u at' =
+            subst (λ (w : View T). greatest (settled_end r Take) w.party.settled ≤ (side_of parties r Take).len) (some-injective v u at')
+            (settled_low r Take id v here)
         low (suc j) u at' = absurd (some-ne-none u (sym at'))
 
         no_span : (j : ℕ) (u : View T) → get_elem? (v ∷ []) j ≡ some u → Ends r Take (side_of parties r Take).len u.party.span

@@ -1,5 +1,6 @@
 -- A fabric stays consistent as a hand is split in two, and as two hands are made one
-use Rattle.std.proofs.Common.{◌≡◌, ℕ, zero, suc, ◌+◌, ◌-◌, ◌/◌, ◌<◌, ◌≢◌, ◌⊎◌, inl, inr, List, [], ◌∷◌, ◌++◌, length, set, sym, refl, ap, ◌∙◌, subst, arith, append-nil}
+use Rattle.std.proofs.Common.{◌≡◌, ℕ, zero, suc, ◌+◌, ◌-◌, ◌/◌, ◌<◌, ◌≢◌, ◌⊎◌, inl, inr, List, [], ◌∷◌, ◌++◌, length, set, sym, refl, ap, ◌∙◌, subst, arith}
+use Rattle.std.proofs.Common.{append-nil}
 use Rattle.std.specs.Prelude.{slice_get, slice_index_or, slice_set, Some, None}
 use mathlib.Core.Option.{some, some-ne-none}
 use lib.ListN.{get_elem?}
@@ -12,7 +13,7 @@ use Rattle.geom.specs.declared.plan.RingPlan.{RingPlan}
 use Rattle.geom.specs.Plan.{mode_of}
 use Rattle.ringcore_laws.specs.declared.party.Party.{Party}
 use Rattle.ringcore_laws.specs.Party.{joined, newcomer}
-use Rattle.ringcore_laws.specs.RingSide.{RingSide, count_of, listed, settled_count, side_of}
+use Rattle.ringcore_laws.specs.RingSide.{RingSide, party_count, listed, settled_count, side_of}
 use Rattle.ringcore_laws.specs.HeadTailRule.{base}
 use Rattle.ringcore_laws.specs.History.{own_word}
 use Rattle.ringcore_laws.proofs.Lists.{sum_by_joined}
@@ -21,7 +22,7 @@ use Rattle.ringcore_laws.proofs.Laws.{joined_by, joined_keeps, joined_sides, new
 use Rattle.ringcore_laws.proofs.HandLaws.{orderly_joined, orderly_newcomer}
 use Rattle.ringcore_laws.proofs.FreeKept.{free_joined, free_newcomer}
 use Rattle.fabric_laws.specs.declared.view.View.{View}
-use Rattle.fabric_laws.specs.Rule.{AreWords, AtHome, IsConsistent, IsSpent, IsTrue, parties_of}
+use Rattle.fabric_laws.specs.Rule.{AreWords, AtHome, IsConsistent, IsSpent, IsTrueView, parties_of_views}
 use Rattle.fabric_laws.specs.Changes.{both, kept, spent, split_off}
 use Rattle.fabric_laws.proofs.Steps.{St, Told, built, span_within}
 use Rattle.fabric_laws.proofs.Truths.{GoOn, observed_on, true_on}
@@ -29,10 +30,11 @@ use Rattle.fabric_laws.proofs.Views.{parties_push, parties_same, parties_set, pa
 
 module _ {T : Type 0} (tags : T → List ℕ) (plans : List RingPlan) (pool : ℕ) (s : St T) (c : IsConsistent tags plans pool s) where
   abbrev parties : List (Party T)
-  parties = parties_of s.views
+  parties = parties_of_views s.views
 
   -- where the sides of the rings are as they were, so are words and homes
-  module _ (after : List (Party T)) (same : (r : ℕ) (plan : RingPlan) (side : Side) → slice_get plans r ≡ Some plan → side_of after r side ≡ side_of parties r side) where
+  module _ (after : List (Party T)) (same : (r : ℕ) (plan : RingPlan) (side : Side) → slice_get plans r ≡ Some plan
+      → side_of after r side ≡ side_of parties r side) where
     words_as : AreWords plans s.words after
     words_as = record {
       own = λ r side plan at. c.words.own r side plan at ∙ ap (own_word (mode_of plan side)) (sym (same r plan side at));
@@ -85,12 +87,13 @@ module _ {T : Type 0} (tags : T → List ℕ) (plans : List RingPlan) (pool : �
 
     split_stays : IsConsistent tags plans pool record { words = s.words; homes = s.homes; views = split_views }
     split_stays =
-        let same : (r : ℕ) (plan : RingPlan) (side : Side) → slice_get plans r ≡ Some plan → side_of (parties ++ newcomer [] ∷ []) r side ≡ side_of parties r side =
+        let same : (r : ℕ) (plan : RingPlan) (side : Side) → slice_get plans r ≡ Some plan
+        → side_of (parties ++ newcomer [] ∷ []) r side ≡ side_of parties r side =
         λ r plan side at. side_of_newcomer parties [] r side in
         let on = goes_as (parties ++ newcomer [] ∷ []) same (λ r side. ap (λ (l : RingSide T). l.len) (side_of_newcomer parties [] r side)) in
         built tags plans pool record { words = s.words; homes = s.homes; views = split_views } (parties ++ newcomer [] ∷ [])
         (parties_push (set s.views id (kept v)) (split_off v) ∙ ap (λ ps. ps ++ newcomer [] ∷ []) (parties_same s.views id v (kept v) here refl))
-        c.lawful
+        c.fitting
         (newcomer_keeps tags plans pool parties c.sound)
         (orderly_newcomer plans parties c.ruled)
         (free_newcomer tags plans pool parties c.free)
@@ -102,11 +105,12 @@ module _ {T : Type 0} (tags : T → List ℕ) (plans : List RingPlan) (pool : �
           | inl old ↦ elim (at_set s.views id j (kept v) u old) [
             | inl own ↦
                 let k = c.views id v here in
-                subst (IsTrue plans (parties ++ newcomer [] ∷ [])) own.1
-                (true_on plans parties (parties ++ newcomer [] ∷ []) (kept v) on (span_within tags plans pool s c id v here) record { observed = k.observed; shown = k.shown; ends = k.ends })
+                subst (IsTrueView plans (parties ++ newcomer [] ∷ [])) own.1
+                (true_on plans parties (parties ++ newcomer [] ∷ []) (kept v) on (span_within tags plans pool s c id v here)
+                record { observed = k.observed; shown = k.shown; ends = k.ends })
             | inr other ↦ true_on plans parties (parties ++ newcomer [] ∷ []) u on (span_within tags plans pool s c j u other.1) (c.views j u other.1)
           ]
-          | inr new ↦ subst (IsTrue plans (parties ++ newcomer [] ∷ [])) new record {
+          | inr new ↦ subst (IsTrueView plans (parties ++ newcomer [] ∷ [])) new record {
             observed = λ o e. absurd (let u : None ≡ Some o = e in cc);
             shown = λ span e. absurd (let u : None ≡ Some span = e in cc);
             ends = λ j x e. absurd (some-ne-none x (sym e));
@@ -152,21 +156,22 @@ module _ {T : Type 0} (tags : T → List ℕ) (plans : List RingPlan) (pool : �
     same r plan side at = joined_sides tags plans pool parties id j v.party r plan side c.sound at at_i at_j apart free_i free_j
 
     same_len : (r : ℕ) (side : Side) → (side_of after r side).len ≡ (side_of parties r side).len
-    unfolding side_of count_of
+    unfolding side_of party_count
     same_len r side =
         let a = slice_index_or parties id v.party in
         let b = slice_index_or parties j v.party in
-        sum_by_joined (count_of r side) parties id j (joined a b) (newcomer []) v.party at_i at_j apart (sum_by-append (settled_count r side) a.settled b.settled) refl
+        sum_by_joined (party_count r side) parties id j (joined a b) (newcomer []) v.party at_i at_j apart
+        (sum_by-append (settled_count r side) a.settled b.settled) refl
 
     on : GoOn plans parties after
     on = goes_as after same same_len
 
-    parties_after : parties_of joined_views ≡ after
+    parties_after : parties_of_views joined_views ≡ after
     parties_after =
         parties_set one j spent
         ∙ ap (λ ps. slice_set ps j (newcomer [])) (parties_set s.views id (both v w) ∙ (λ k. slice_set parties id (joined (sym mine k) (sym theirs k))))
 
-    both_true : IsTrue plans after (both v w)
+    both_true : IsTrueView plans after (both v w)
     both_true =
         let k = c.views id v here in
         let l = c.views j w there in
@@ -179,7 +184,8 @@ module _ {T : Type 0} (tags : T → List ℕ) (plans : List RingPlan) (pool : �
           ];
         }
       where
-        in_either : {X : Type 0} (xs ys : List X) (n : ℕ) (x : X) → get_elem? (xs ++ ys) n ≡ some x → ((m : ℕ) × (get_elem? xs m ≡ some x)) ⊎ ((m : ℕ) × (get_elem? ys m ≡ some x))
+        in_either : {X : Type 0} (xs ys : List X) (n : ℕ) (x : X) → get_elem? (xs ++ ys) n ≡ some x
+            → ((m : ℕ) × (get_elem? xs m ≡ some x)) ⊎ ((m : ℕ) × (get_elem? ys m ≡ some x))
         in_either [] ys n x e = inr (n, e)
         in_either (z ∷ xs) ys zero x e = inl (zero, e)
         in_either (z ∷ xs) ys (suc n) x e = elim (in_either xs ys n x e) [ inl f ↦ inl (suc f.0, f.1) | inr g ↦ inr g ]
@@ -213,7 +219,7 @@ module _ {T : Type 0} (tags : T → List ℕ) (plans : List RingPlan) (pool : �
     join_stays : IsConsistent tags plans pool record { words = s.words; homes = s.homes; views = joined_views }
     join_stays =
         built tags plans pool record { words = s.words; homes = s.homes; views = joined_views } after parties_after
-        c.lawful
+        c.fitting
         (joined_keeps tags plans pool parties id j v.party c.sound at_i at_j apart free_i free_j)
         (orderly_joined tags plans pool parties id j v.party c.sound c.ruled at_i at_j apart free_i free_j)
         (free_joined tags plans pool parties c.free id j v.party c.sound at_i at_j apart free_i free_j)
@@ -222,13 +228,13 @@ module _ {T : Type 0} (tags : T → List ℕ) (plans : List RingPlan) (pool : �
         c.home_count
         (homes_as after same)
         (λ n u at. elim (at_set one j n spent u at) [
-          | inl gone ↦ subst (IsTrue plans after) gone.1 record {
+          | inl gone ↦ subst (IsTrueView plans after) gone.1 record {
             observed = λ o e. absurd (let z : None ≡ Some o = e in cc);
             shown = λ span e. absurd (let z : None ≡ Some span = e in cc);
             ends = λ m x e. absurd (some-ne-none x (sym e));
           }
           | inr left ↦ elim (at_set s.views id n (both v w) u left.1) [
-            | inl own ↦ subst (IsTrue plans after) own.1 both_true
+            | inl own ↦ subst (IsTrueView plans after) own.1 both_true
             | inr other ↦ true_on plans parties after u on (span_within tags plans pool s c n u other.1) (c.views n u other.1)
           ]
         ])

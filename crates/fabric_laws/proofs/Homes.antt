@@ -1,5 +1,6 @@
 -- What stands at home in the slots of all rings, as a span of one ring is reserved or settled
-use Rattle.std.proofs.Common.{◌≡◌, ℕ, zero, suc, ◌+◌, ◌-◌, ◌%◌, ◌<◌, ◌≤◌, ◌≢◌, ◌⊎◌, inl, inr, List, [], ◌∷◌, ◌++◌, length, map, take, drop, sym, ap, ◌∙◌, mod-lt, arith, replicate}
+use Rattle.std.proofs.Common.{◌≡◌, ℕ, zero, suc, ◌+◌, ◌-◌, ◌%◌, ◌<◌, ◌≤◌, ◌≢◌, ◌⊎◌, inl, inr, List, [], ◌∷◌, ◌++◌, length, map, take, drop, sym, ap, ◌∙◌}
+use Rattle.std.proofs.Common.{mod-lt, arith, replicate}
 use Rattle.std.specs.Prelude.{slice_get, Option, Some, None}
 use mathlib.Core.Option.{some}
 use mathlib.Core.Option as maybe
@@ -15,7 +16,8 @@ use Rattle.ringcore_laws.proofs.RingLaws.{below_or_not, held_cases, length-liste
 use Rattle.fabric_laws.specs.Rule.{AtHome}
 use Rattle.fabric_laws.specs.Words.{slot_at, slot_count, slots_before, slots_of}
 use Rattle.fabric_laws.specs.Kinds.{run}
-use Rattle.fabric_laws.proofs.Cells.{before_rest, behind_items, behind_many, get_dropped, get_left, get_right, get_taken, item_in_front, item_of, length-cells, length-many, one_of_many}
+use Rattle.fabric_laws.proofs.Cells.{before_rest, behind_items, behind_many, get_dropped, get_left, get_right, get_taken, item_in_front, item_of, length-cells}
+use Rattle.fabric_laws.proofs.Cells.{length-many, one_of_many}
 use Rattle.fabric_laws.proofs.Slots.{AreApart, emptied, emptied_else, filled, filled_else, filled_here}
 
 -- 1. Slots of rings
@@ -25,7 +27,8 @@ before_fits [] r plan h = absurd (let u : None ≡ Some plan = h in cc)
 before_fits (x ∷ xs) zero plan h = let same : x ≡ plan = (let u : Some x ≡ Some plan = h in cc) in omega (arith, sum_by-cons slots_of x xs, ap slots_of same)
 before_fits (x ∷ xs) (suc r) plan h = omega (arith, sum_by-cons slots_of x xs, before_fits xs r plan h)
 
-before_apart : (plans : List RingPlan) (r q : ℕ) (plan : RingPlan) → slice_get plans r ≡ Some plan → r < q → slots_before plans r + slots_of plan ≤ slots_before plans q
+before_apart : (plans : List RingPlan) (r q : ℕ) (plan : RingPlan) → slice_get plans r ≡ Some plan → r < q
+    → slots_before plans r + slots_of plan ≤ slots_before plans q
 before_apart [] r q plan h lt = absurd (let u : None ≡ Some plan = h in cc)
 before_apart (x ∷ xs) zero zero plan h lt = absurd (omega arith)
 before_apart (x ∷ xs) zero (suc q) plan h lt = let same : x ≡ plan = (let u : Some x ≡ Some plan = h in cc) in omega (arith, ap slots_of same)
@@ -33,7 +36,8 @@ before_apart (x ∷ xs) (suc r) zero plan h lt = absurd (omega arith)
 before_apart (x ∷ xs) (suc r) (suc q) plan h lt = omega (arith, before_apart xs r q plan h (omega arith))
 
 -- two rings have no slot in common
-pub rings_apart : (plans : List RingPlan) (r q : ℕ) (plan plan' : RingPlan) (i j : ℕ) → slice_get plans r ≡ Some plan → slice_get plans q ≡ Some plan' → r ≢ q → 0 < slots_of plan → 0 < slots_of plan'
+pub rings_apart : (plans : List RingPlan) (r q : ℕ) (plan plan' : RingPlan) (i j : ℕ) → slice_get plans r ≡ Some plan → slice_get plans q ≡ Some plan' → r ≢ q
+    → 0 < slots_of plan → 0 < slots_of plan'
     → slot_at plans r plan i ≢ slot_at plans q plan' j
 rings_apart plans r q plan plan' i j at at' apart pos pos' e =
     let one : i % slots_of plan < slots_of plan = mod-lt i pos in
@@ -43,13 +47,15 @@ rings_apart plans r q plan plan' i j at at' apart pos pos' e =
       | inr ge ↦ omega (arith, before_apart plans q r plan' at' (omega arith))
     ]
 
-pub slot_inside : (plans : List RingPlan) (r : ℕ) (plan : RingPlan) (p : ℕ) → slice_get plans r ≡ Some plan → 0 < slots_of plan → slot_at plans r plan p < slot_count plans
+pub slot_inside : (plans : List RingPlan) (r : ℕ) (plan : RingPlan) (p : ℕ) → slice_get plans r ≡ Some plan → 0 < slots_of plan
+    → slot_at plans r plan p < slot_count plans
 slot_inside plans r plan p at pos = let one : p % slots_of plan < slots_of plan = mod-lt p pos in omega (arith, before_fits plans r plan at)
 
 -- positions of one turn of a ring have slots of their own
 pub turn_apart : (plans : List RingPlan) (r : ℕ) (plan : RingPlan) (low p q : ℕ) → low ≤ p → p < low + slots_of plan → low ≤ q → q < low + slots_of plan
     → slot_at plans r plan p ≡ slot_at plans r plan q → p ≡ q
-turn_apart plans r plan low p q lp hp lq hq e = slots_differ (slots_of plan) low p q lp hp lq hq (let u : p % slots_of plan ≡ q % slots_of plan = omega arith in u)
+turn_apart plans r plan low p q lp hp lq hq e =
+    slots_differ (slots_of plan) low p q lp hp lq hq (let u : p % slots_of plan ≡ q % slots_of plan = omega arith in u)
 
 pub run_apart : (plans : List RingPlan) (r : ℕ) (plan : RingPlan) (p n : ℕ) → n ≤ slots_of plan → AreApart (slot_at plans r plan) p n
 run_apart plans r plan p n fits j k lj lk e =
@@ -57,7 +63,8 @@ run_apart plans r plan p n fits j k lj lk e =
     omega arith
 
 -- a position of the turn that is none of the run has none of its slots
-off_run : (plans : List RingPlan) (r : ℕ) (plan : RingPlan) (low start n q : ℕ) → low ≤ start → start + n ≤ low + slots_of plan → low ≤ q → q < low + slots_of plan → (q < start) ⊎ (start + n ≤ q)
+off_run : (plans : List RingPlan) (r : ℕ) (plan : RingPlan) (low start n q : ℕ) → low ≤ start → start + n ≤ low + slots_of plan → low ≤ q
+    → q < low + slots_of plan → (q < start) ⊎ (start + n ≤ q)
     → (k : ℕ) → k < n → slot_at plans r plan q ≢ slot_at plans r plan (start + k)
 off_run plans r plan low start n q above below lq hq out k lt e =
     let same = turn_apart plans r plan low q (start + k) lq hq (omega arith) (omega arith) e in
@@ -86,7 +93,8 @@ module _ {T : Type 0} where
       stays p above fits lp hp off =
           emptied_else slot hs span.start ys (slot p) (λ k lt. off_run plans r plan takes.len span.start span.count p above fits lp hp off k (omega arith))
 
-      pub home_put_reserved : puts.len ≤ span.start → span.start + span.count ≤ takes.len + plan.geometry.capacity → AtHome plans out (reserved_on puts span) takes r plan
+      pub home_put_reserved : puts.len ≤ span.start → span.start + span.count ≤ takes.len + plan.geometry.capacity
+          → AtHome plans out (reserved_on puts span) takes r plan
       unfolding listed
       home_put_reserved behind room = record {
         full = λ p x le free at.
@@ -107,10 +115,12 @@ module _ {T : Type 0} where
             let lt : p < puts.len = listed_below p x at in
             elim (held_cases span p) [
               | inl inside ↦ absurd (omega (arith, inside.2))
-              | inr off ↦ stays p behind (omega (arith, sound.within_capacity)) le (omega (arith, sound.within_capacity)) off.0 ∙ home.full p x le (omega arith) at
+              | inr off ↦
+                  stays p behind (omega (arith, sound.within_capacity)) le (omega (arith, sound.within_capacity)) off.0 ∙ home.full p x le (omega arith) at
             ];
         vacant = λ p le none lt.
-            stays p behind (omega (arith, sound.within_capacity)) (omega (arith, takes_le_puts plan.geometry puts takes sound)) lt (inr (omega arith)) ∙ home.vacant p le none lt;
+            stays p behind (omega (arith, sound.within_capacity)) (omega (arith, takes_le_puts plan.geometry puts takes sound)) lt (inr (omega arith))
+            ∙ home.vacant p le none lt;
       }
 
     -- 3. The ring of a span that is settled
@@ -125,16 +135,23 @@ module _ {T : Type 0} where
           filled_else slot hs span.start ys (slot p) (λ k lt. off_run plans r plan takes.len span.start span.count p above fits lp hp off k (omega arith))
 
       comes_back : (k : ℕ) (y : Option T) → span.count ≤ slots_of plan → get_elem? ys k ≡ some y → get_elem? back (slot (span.start + k)) ≡ some (some y)
-      comes_back k y fits at = filled_here slot hs span.start ys k y (run_apart plans r plan span.start (length ys) (omega arith)) (λ j lt. inside (span.start + j)) at
+      comes_back k y fits at =
+          filled_here slot hs span.start ys k y (run_apart plans r plan span.start (length ys) (omega arith)) (λ j lt. inside (span.start + j)) at
 
     -- a put of items, and what was reserved beyond them is given up
-    module _ (span : Span) (items : List T) (reach : ℕ) (inside : (p : ℕ) → slot p < length hs) (first : span.start ≡ puts.len) (fits : length items ≤ span.count)
+    module _ (span : Span) (items : List T) (reach : ℕ) (inside : (p : ℕ) → slot p < length hs) (first : span.start ≡ puts.len)
+        (fits : length items ≤ span.count)
         (room : span.start + span.count ≤ takes.len + plan.geometry.capacity) where
       abbrev put_cells : List (Option T)
       put_cells = map Some items ++ replicate (span.count - length items) None
 
       pub many : length put_cells ≡ span.count
-      many = omega (arith, length-append (map Some items) (replicate (span.count - length items) None), length-cells items, length-many {X = Option T} (span.count - length items) None)
+      many = omega (
+        arith,
+        length-append (map Some items) (replicate (span.count - length items) None),
+        length-cells items,
+        length-many {X = Option T} (span.count - length items) None,
+      )
 
       low : takes.len ≤ puts.len
       low = takes_le_puts plan.geometry puts takes sound
@@ -147,10 +164,13 @@ module _ {T : Type 0} where
               ∙ home.full p x le free (sym (get_left (listed puts) items p (omega (arith, all))) ∙ (ap (λ l. slice_get l p) (sym listed_new) ∙ at))
           | inr new ↦
               let place : p ≡ span.start + (p - span.start) = omega arith in
-              let item : slice_get items (p - length (listed puts)) ≡ Some x = sym (get_right (listed puts) items p (omega (arith, all))) ∙ (ap (λ l. slice_get l p) (sym listed_new) ∙ at) in
-              let item' : slice_get items (p - span.start) ≡ Some x = ap (λ n. slice_get items (p - n)) (let e : span.start ≡ length (listed puts) = omega (arith, all) in e) ∙ item in
+              let item : slice_get items (p - length (listed puts)) ≡ Some x =
+              sym (get_right (listed puts) items p (omega (arith, all))) ∙ (ap (λ l. slice_get l p) (sym listed_new) ∙ at) in
+              let item' : slice_get items (p - span.start) ≡ Some x =
+              ap (λ n. slice_get items (p - n)) (let e : span.start ≡ length (listed puts) = omega (arith, all) in e) ∙ item in
               ap (λ n. get_elem? (filled slot hs span.start put_cells) (slot n)) place
-              ∙ comes_back span put_cells many inside (p - span.start) (Some x) (omega (arith, low)) (item_in_front items (replicate (span.count - length items) None) (p - span.start) x item')
+              ∙ comes_back span put_cells many inside (p - span.start) (Some x) (omega (arith, low))
+              (item_in_front items (replicate (span.count - length items) None) (p - span.start) x item')
         ];
         vacant = λ p le none lt. elim (held_cases span p) [
           | inl held ↦
@@ -172,7 +192,8 @@ module _ {T : Type 0} where
           listed_new = listed_settled puts span items reach sound.published first
 
     -- a take of the first of the items that the span shows, and the others come back
-    module _ (span : Span) (items shown : List T) (reach : ℕ) (inside : (p : ℕ) → slot p < length hs) (first : span.start ≡ takes.len) (fits : length items ≤ span.count)
+    module _ (span : Span) (items shown : List T) (reach : ℕ) (inside : (p : ℕ) → slot p < length hs) (first : span.start ≡ takes.len)
+        (fits : length items ≤ span.count)
         (room : span.start + span.count ≤ puts.len) (shows : shown ≡ take span.count (drop span.start (listed puts))) where
       abbrev take_cells : List (Option T)
       take_cells = replicate (length items) None ++ map Some (drop (length items) shown)
@@ -208,17 +229,20 @@ module _ {T : Type 0} where
                   ∙ comes_back span take_cells take_many inside (length items + k) (Some x) (omega (arith, sound.within_capacity))
                   (behind_many (length items) None (map Some (drop (length items) shown)) k ∙ item_of (drop (length items) shown) k x item)
               | inr off ↦
-                  stays_back span take_cells take_many inside p (omega arith) (omega (arith, sound.within_capacity)) (omega arith) (omega (arith, sound.within_capacity)) off.0
+                  stays_back span take_cells take_many inside p (omega arith) (omega (arith, sound.within_capacity)) (omega arith)
+                  (omega (arith, sound.within_capacity)) off.0
                   ∙ home.full p x (omega arith) (omega (arith, off.1)) at
             ];
         vacant = λ p le none lt. elim (below_or_not p (takes.len + slots_of plan)) [
           | inl old ↦
-              stays_back span take_cells take_many inside p (omega arith) (omega (arith, sound.within_capacity)) (omega (arith, takes_le_puts plan.geometry puts takes sound)) old (inr (omega arith))
+              stays_back span take_cells take_many inside p (omega arith) (omega (arith, sound.within_capacity))
+              (omega (arith, takes_le_puts plan.geometry puts takes sound)) old (inr (omega arith))
               ∙ home.vacant p le none old
           | inr new ↦
               let k : ℕ = p - (takes.len + slots_of plan) in
               let place : p ≡ (span.start + k) + slots_of plan = omega arith in
-              let here : slot p ≡ slot (span.start + k) = ap slot place ∙ ap (λ n. slots_before plans r + n) (mod_past (span.start + k) (slots_of plan) (omega arith)) in
+              let here : slot p ≡ slot (span.start + k) =
+              ap slot place ∙ ap (λ n. slots_before plans r + n) (mod_past (span.start + k) (slots_of plan) (omega arith)) in
               ap (λ n. get_elem? (filled slot hs span.start take_cells) n) here
               ∙ comes_back span take_cells take_many inside k None (omega (arith, sound.within_capacity))
               (before_rest (length items) None (map Some (drop (length items) shown)) k (omega arith))

@@ -10,11 +10,11 @@ use Rattle.geom.specs.declared.plan.Side.{Side}
 use Rattle.geom.specs.declared.plan.Side.TheVariants.{Put, Take}
 use Rattle.geom.specs.declared.plan.RingPlan.{RingPlan}
 use Rattle.ringcore_laws.specs.declared.party.Party.{Party}
-use Rattle.ringcore_laws.specs.RingSide.{IsGapless, RingSide, items_of, listed, side_of}
+use Rattle.ringcore_laws.specs.RingSide.{IsGapless, RingSide, party_items, listed, side_of}
 use Rattle.ringcore_laws.specs.Sound.{SoundRing}
 use Rattle.ringcore_laws.proofs.RingLaws.{below_or_not, length-listed}
 use Rattle.fabric_laws.specs.declared.view.View.{View}
-use Rattle.fabric_laws.specs.Rule.{IsConsistent, parties_of}
+use Rattle.fabric_laws.specs.Rule.{IsConsistent, parties_of_views}
 use Rattle.fabric_laws.specs.Kinds.{IsApart, IsHeldOnce, learn_tells}
 use Rattle.fabric_laws.proofs.Closing.{whole}
 use Rattle.fabric_laws.proofs.Cells.{get_left}
@@ -49,7 +49,8 @@ module _ {B : Type 0} (f : ℕ → List B) where
   one_of (y ∷ []) e = (y, refl)
   one_of (y ∷ z ∷ ys) e = absurd (omega (arith, e))
 
-  one_each : (a n k : ℕ) (y : B) → ((p : ℕ) → a ≤ p → p < a + n → length (f p) ≡ 1) → k < n → f (a + k) ≡ y ∷ [] → slice_get (flat_map f (range_with_len a n)) k ≡ Some y
+  one_each : (a n k : ℕ) (y : B) → ((p : ℕ) → a ≤ p → p < a + n → length (f p) ≡ 1) → k < n → f (a + k) ≡ y ∷ []
+      → slice_get (flat_map f (range_with_len a n)) k ≡ Some y
   one_each a zero k y each lt is = absurd (omega arith)
   one_each a (suc n) zero y each lt is =
       let here : f a ≡ y ∷ [] = ap f (let e : a ≡ a + 0 = omega arith in e) ∙ is in
@@ -66,7 +67,8 @@ module _ {T : Type 0} where
       let lt : p < l.len = elim (below_or_not p l.len) [ inl lt ↦ lt | inr le ↦ absurd (omega (arith, ap length is, ap length (g.none p le))) ] in
       (lt, one_each l.items_at 0 l.len p y (λ q _ below. g.one q (omega arith)) lt (ap l.items_at (let e : 0 + p ≡ p = omega arith in e) ∙ is))
 
-  same_item : (plan : RingPlan) (puts takes : RingSide T) → SoundRing plan.geometry puts takes → (p : ℕ) (x y : T) → puts.items_at p ≡ x ∷ [] → takes.items_at p ≡ y ∷ [] → x ≡ y
+  same_item : (plan : RingPlan) (puts takes : RingSide T) → SoundRing plan.geometry puts takes → (p : ℕ) (x y : T) → puts.items_at p ≡ x ∷ []
+      → takes.items_at p ≡ y ∷ [] → x ≡ y
   same_item plan puts takes s p x y put taken =
       let px = listed_one puts s.published p x put in
       let py = listed_one takes s.dequeued p y taken in
@@ -78,12 +80,12 @@ module _ {T : Type 0} where
 module _ {T : Type 0} (tags : T → List ℕ) (plans : List RingPlan) (pool : ℕ) where
   module _ (s : St T) (c : IsConsistent tags plans pool s) (id : ℕ) (v : View T) (here : get_elem? s.views id ≡ some v) where
     abbrev parties : List (Party T)
-    parties = parties_of s.views
+    parties = parties_of_views s.views
 
-    own_items : (r p : ℕ) (side : Side) → items_of r side p (slice_index_or parties id v.party) ≡ items_of r side p v.party
-    own_items r p side = ap (items_of r side p) (party_here s.views id v v.party here)
+    own_items : (r p : ℕ) (side : Side) → party_items r side p (slice_index_or parties id v.party) ≡ party_items r side p v.party
+    own_items r p side = ap (party_items r side p) (party_here s.views id v v.party here)
 
-    all_few : (r p : ℕ) (side : Side) (plan : RingPlan) → slice_get plans r ≡ Some plan → length (flat_map (items_of r side p) parties) ≤ 1
+    all_few : (r p : ℕ) (side : Side) (plan : RingPlan) → slice_get plans r ≡ Some plan → length (flat_map (party_items r side p) parties) ≤ 1
     unfolding side_of
     all_few r p Put plan at =
         let g = (ring_sound tags plans pool s c r plan at).published in
@@ -92,16 +94,23 @@ module _ {T : Type 0} (tags : T → List ℕ) (plans : List RingPlan) (pool : �
         let g = (ring_sound tags plans pool s c r plan at).dequeued in
         elim (below_or_not p (side_of parties r Take).len) [ inl lt ↦ omega (arith, g.one p lt) | inr le ↦ omega (arith, ap length (g.none p le)) ]
 
-    all_at : (r p : ℕ) (side : Side) (plan : RingPlan) (x : T) → slice_get plans r ≡ Some plan → items_of r side p v.party ≡ x ∷ [] → (side_of parties r side).items_at p ≡ x ∷ []
+    all_at : (r p : ℕ) (side : Side) (plan : RingPlan) (x : T) → slice_get plans r ≡ Some plan → party_items r side p v.party ≡ x ∷ []
+        → (side_of parties r side).items_at p ≡ x ∷ []
     unfolding side_of
     all_at r p side plan x at is =
-        part_all (items_of r side p) parties id v.party x (party_within s.views id v here) (all_few r p side plan at) (own_items r p side ∙ is)
+        part_all (party_items r side p) parties id v.party x (party_within s.views id v here) (all_few r p side plan at) (own_items r p side ∙ is)
 
     pub apart : IsApart plans v.party
     apart = record {
-      once = λ r p side plan at. omega (arith, part_le (items_of r side p) parties id v.party (party_within s.views id v here), all_few r p side plan at, ap length (own_items r p side));
+      once = λ r p side plan at. omega (
+        arith,
+        part_le (party_items r side p) parties id v.party (party_within s.views id v here),
+        all_few r p side plan at,
+        ap length (own_items r p side),
+      );
       same = λ r p plan x y at put taken.
-          same_item plan (side_of parties r Put) (side_of parties r Take) (ring_sound tags plans pool s c r plan at) p x y (all_at r p Put plan x at put) (all_at r p Take plan y at taken);
+          same_item plan (side_of parties r Put) (side_of parties r Take) (ring_sound tags plans pool s c r plan at) p x y (all_at r p Put plan x at put)
+          (all_at r p Take plan y at taken);
     }
 
   pub learns : (slots id word : ℕ) (me : Me (Option T) (View T)) → 0 < me.0.parts

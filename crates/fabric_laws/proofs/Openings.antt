@@ -1,5 +1,6 @@
 -- A fabric begins consistent: all words are 0, all slots empty, and the one hand has all buffers
-use Rattle.std.proofs.Common.{◌≡◌, ℕ, zero, suc, ◌+◌, ◌*◌, ◌<◌, ◌≤◌, ◌≢◌, ◌⊎◌, inl, inr, List, [], ◌∷◌, length, map, drop, get_or, replicate, sym, refl, ap, ◌∙◌, subst, arith, true}
+use Rattle.std.proofs.Common.{◌≡◌, ℕ, zero, suc, ◌+◌, ◌*◌, ◌<◌, ◌≤◌, ◌≢◌, ◌⊎◌, inl, inr, List, [], ◌∷◌, length, map, drop, get_or, replicate, sym, refl, ap}
+use Rattle.std.proofs.Common.{◌∙◌, subst, arith, true}
 use Rattle.std.specs.Prelude.{slice_get, slice_index_or, Option, Some, None, ◌==◌}
 use mathlib.Core.Option.{some, some-injective, some-ne-none}
 use lib.ListN.{get_elem?}
@@ -17,16 +18,16 @@ use Rattle.geom.specs.Plan.{mode_of}
 use Rattle.ringcore_laws.specs.declared.party.Party.{Party}
 use Rattle.ringcore_laws.specs.declared.protocol.Span.{Span}
 use Rattle.ringcore_laws.specs.Party.{newcomer}
-use Rattle.ringcore_laws.specs.RingSide.{RingSide, count_of, end_of, items_of, listed, side_of}
-use Rattle.ringcore_laws.specs.Sound.{Sound, SoundRing, holds, in_ring, moved, occurrences, occurrences_in, places}
+use Rattle.ringcore_laws.specs.RingSide.{RingSide, party_count, party_end, party_items, listed, side_of}
+use Rattle.ringcore_laws.specs.Sound.{Sound, SoundRing, holds, in_ring, moved, occurrences, occurrences_in, place_count}
 use Rattle.ringcore_laws.specs.HeadTailRule.{HeadTailRule, RuledSide, RuledSpan}
-use Rattle.ringcore_laws.specs.FreeRings.{FreeRule, buffers_of}
+use Rattle.ringcore_laws.specs.FreeRings.{FreeRule, buffers_had}
 use Rattle.ringcore_laws.specs.History.{own_word}
 use Rattle.ringcore_laws.proofs.SideLaws.{side_of_newcomer}
 use Rattle.ringcore_laws.proofs.Laws.{range_same}
 use Rattle.ringcore_laws.proofs.OpeningLaws.{empty, occurrences-cons, ring_fresh, sum_none}
 use Rattle.fabric_laws.specs.declared.view.View.{View}
-use Rattle.fabric_laws.specs.Rule.{IsFitting, AtHome, IsConsistent, IsTrue, all_parts}
+use Rattle.fabric_laws.specs.Rule.{IsFitting, AtHome, IsConsistent, IsTrueView, all_parts}
 use Rattle.fabric_laws.specs.Words.{own_at, slot_at, slot_count, tail_at}
 use Rattle.fabric_laws.specs.Changes.{newborn}
 use Rattle.fabric_laws.proofs.Homes.{slot_inside}
@@ -52,11 +53,11 @@ module _ {T : Type 0} (tags : T → List ℕ) (plans : List RingPlan) (pool : �
   alone = newcomer (range_with_len 0 pool) ∷ []
 
   side_empty : (r : ℕ) (side : Side) → side_of alone r side ≡ empty
-  unfolding side_of items_of count_of end_of
+  unfolding side_of party_items party_count party_end
   side_empty r side = side_of_newcomer [] (range_with_len 0 pool) r side
 
   sound_alone : Sound tags plans pool alone
-  unfolding places holds moved listed
+  unfolding place_count holds moved listed
   sound_alone = record {
     rings = λ r plan at.
         subst (λ (l : RingSide T). SoundRing plan.geometry l (side_of alone r Take)) (sym (side_empty r Put))
@@ -68,7 +69,8 @@ module _ {T : Type 0} (tags : T → List ℕ) (plans : List RingPlan) (pool : �
     };
   }
     where
-      never : (k : ℕ) (d : Party T) (b : ℕ) → k < 1 → moved tags Put b (slice_index_or alone k d) ≤ occurrences b (slice_index_or alone k d).given + moved tags Take b (slice_index_or alone k d)
+      never : (k : ℕ) (d : Party T) (b : ℕ) → k < 1 → moved tags Put b (slice_index_or alone k d) ≤ occurrences b (slice_index_or alone k d).given
+          + moved tags Take b (slice_index_or alone k d)
       never zero d b lt = omega arith
       never (suc k) d b lt = absurd (omega arith)
 
@@ -77,7 +79,7 @@ module _ {T : Type 0} (tags : T → List ℕ) (plans : List RingPlan) (pool : �
           ap (λ (l : RingSide T). occurrences_in tags b (drop l.len (listed (side_of alone r Put)))) (side_empty r Take)
           ∙ ap (λ (l : RingSide T). occurrences_in tags b (listed l)) (side_empty r Put)
 
-      all : (b : ℕ) → places tags (length plans) b alone ≡ occurrences b (range_with_len 0 pool)
+      all : (b : ℕ) → place_count tags (length plans) b alone ≡ occurrences b (range_with_len 0 pool)
       all b =
           let rings : sum_by (in_ring tags b alone) (range_with_len 0 (length plans)) ≡ 0 =
           range_same (λ r. 0) (in_ring tags b alone) 0 (length plans) (λ r le lt. no_queue b r) ∙ sum_none 0 (length plans) in
@@ -105,7 +107,7 @@ module _ {T : Type 0} (tags : T → List ℕ) (plans : List RingPlan) (pool : �
   }
     where
       few : (k : ℕ) (d : Party T) → k < 1 → (s : Span) (plan : RingPlan) → (slice_index_or alone k d).span ≡ Some s
-          → slice_get plans s.ring ≡ Some plan → s.side ≡ Put → plan.free ≡ true → s.count ≤ buffers_of tags pool (slice_index_or alone k d)
+          → slice_get plans s.ring ≡ Some plan → s.side ≡ Put → plan.free ≡ true → s.count ≤ buffers_had tags pool (slice_index_or alone k d)
       few zero d lt s plan busy at put free = absurd (let u : None ≡ Some s = busy in cc)
       few (suc k) d lt s plan busy at put free = absurd (omega arith)
 
@@ -128,27 +130,32 @@ module _ {T : Type 0} (tags : T → List ℕ) (plans : List RingPlan) (pool : �
   first_view zero v e = some-injective first v e
   first_view (suc id) v e = absurd (some-ne-none v (sym e))
 
-  pub opens : (ws : List ℕ) → IsFitting plans pool → ws ≡ replicate (64 * length plans) 0 → IsConsistent tags plans pool (opening ws (replicate (slot_count plans) nothing) first)
+  pub opens : (ws : List ℕ) → IsFitting plans pool → ws ≡ replicate (64 * length plans) 0
+      → IsConsistent tags plans pool (opening ws (replicate (slot_count plans) nothing) first)
   unfolding listed
-  opens ws lawful zeros = record {
-    lawful = lawful;
+  opens ws fitting zeros = record {
+    fitting = fitting;
     sound = sound_alone;
     ruled = ruled_alone;
     free = free_alone;
     word_count = ap length zeros ∙ length-replicate (64 * length plans) 0;
     words = record {
       own = λ r side plan at.
-          zero_at (own_at r side) (own_inside r (length plans) side (slice_get_within plans r plan at)) ∙ sym (ap (own_word (mode_of plan side)) (side_empty r side) ∙ no_word (mode_of plan side));
+          zero_at (own_at r side) (own_inside r (length plans) side (slice_get_within plans r plan at))
+          ∙ sym (ap (own_word (mode_of plan side)) (side_empty r side) ∙ no_word (mode_of plan side));
       tail = λ r side plan at multi.
-          zero_at (tail_at r side) (tail_inside r (length plans) side (slice_get_within plans r plan at)) ∙ sym (ap (λ (l : RingSide T). l.len) (side_empty r side));
+          zero_at (tail_at r side) (tail_inside r (length plans) side (slice_get_within plans r plan at))
+          ∙ sym (ap (λ (l : RingSide T). l.len) (side_empty r side));
     };
     home_count = homes_long (slot_count plans);
     homes = λ r plan at.
-        subst (λ (z : RingSide T × RingSide T). AtHome plans (map some (replicate (slot_count plans) nothing)) z.0 z.1 r plan) (λ k. (sym (side_empty r Put) k, sym (side_empty r Take) k)) record {
+        subst (λ (z : RingSide T × RingSide T). AtHome plans (map some (replicate (slot_count plans) nothing)) z.0 z.1 r plan)
+        (λ k. (sym (side_empty r Put) k, sym (side_empty r Take) k)) record {
           full = λ p x le free is. absurd (let u : None ≡ Some x = is in cc);
-          vacant = λ p le free lt. home_none (slot_count plans) (slot_at plans r plan p) (slot_inside plans r plan p at (omega (arith, lawful.spare r plan at)));
+          vacant = λ p le free lt. home_none (slot_count plans) (slot_at plans r plan p)
+              (slot_inside plans r plan p at (omega (arith, fitting.spare r plan at)));
         };
-    views = λ id v e. subst (IsTrue plans alone) (first_view id v e) record {
+    views = λ id v e. subst (IsTrueView plans alone) (first_view id v e) record {
       observed = λ o h. absurd (let u : None ≡ Some o = h in cc);
       shown = λ span h. absurd (let u : None ≡ Some span = h in cc);
       ends = λ j x h. absurd (some-ne-none x (sym h));

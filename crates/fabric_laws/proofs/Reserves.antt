@@ -1,5 +1,6 @@
 -- A won Reserve keeps a fabric consistent, on each side and in each mode
-use Rattle.std.proofs.Common.{◌≡◌, ℕ, ◌+◌, ◌<◌, ◌≤◌, ◌≢◌, ◌⊎◌, inl, inr, List, [], ◌++◌, length, map, set, get_or, take, drop, sym, refl, ap, ◌∙◌, subst, le_trans, arith, append-nil, replicate, false, true, eqb}
+use Rattle.std.proofs.Common.{◌≡◌, ℕ, ◌+◌, ◌<◌, ◌≤◌, ◌≢◌, ◌⊎◌, inl, inr, List, [], ◌++◌, length, map, set, get_or, take, drop, sym, refl, ap, ◌∙◌, subst}
+use Rattle.std.proofs.Common.{le_trans, arith, append-nil, replicate, false, true, eqb}
 use Rattle.std.specs.Prelude.{slice_get, slice_index_or, slice_set, Option, Some, None}
 use mathlib.Core.Option.{some, none}
 use mathlib.Core.Option as maybe
@@ -22,7 +23,7 @@ use Rattle.ringcore_laws.specs.declared.protocol.Span.{Span}
 use Rattle.ringcore_laws.specs.Moves.{limit, reserved_by}
 use Rattle.ringcore_laws.specs.RingSide.{RingSide, side_of, listed}
 use Rattle.ringcore_laws.specs.HeadTailRule.{base}
-use Rattle.ringcore_laws.specs.FreeRings.{buffers_of}
+use Rattle.ringcore_laws.specs.FreeRings.{buffers_had}
 use Rattle.ringcore_laws.specs.History.{other_side, own_word, position_of}
 use Rattle.ringcore_laws.specs.Party.{is_on, with_open}
 use Rattle.ringcore_laws.specs.Sound.{SoundRing}
@@ -33,7 +34,7 @@ use Rattle.ringcore_laws.proofs.HeadTailLaws.{IsNext, next_above, on_or_off, ord
 use Rattle.ringcore_laws.proofs.HistoryLaws.{is_next}
 use Rattle.ringcore_laws.proofs.FreeKept.{free_opened}
 use Rattle.fabric_laws.specs.declared.view.View.{View}
-use Rattle.fabric_laws.specs.Rule.{AreWords, AtHome, IsConsistent, IsTrue, parties_of}
+use Rattle.fabric_laws.specs.Rule.{AreWords, AtHome, IsConsistent, IsTrueView, parties_of_views}
 use Rattle.fabric_laws.specs.Words.{own_at, slot_at, tail_at}
 use Rattle.fabric_laws.specs.Changes.{missed, reserved}
 use Rattle.fabric_laws.specs.Kinds.{reserve_put_tells, reserve_take_tells, run}
@@ -47,7 +48,8 @@ use Rattle.fabric_laws.proofs.Truths.{GoOn, observed_on, true_on}
 use Rattle.fabric_laws.proofs.Views.{parties_set, party_here, party_within}
 
 -- the own word after a reservation: so many positions more
-pub word_reserved : {I : Type 0} (mode : Mode) (l : RingSide I) (span : Span) → IsNext mode l span.start → own_word mode (reserved_on l span) ≡ own_word mode l + span.count
+pub word_reserved : {I : Type 0} (mode : Mode) (l : RingSide I) (span : Span) → IsNext mode l span.start
+    → own_word mode (reserved_on l span) ≡ own_word mode l + span.count
 word_reserved Multi l span next = omega (arith, next.multi refl)
 word_reserved Hts l span next = omega (arith, next.hts refl)
 
@@ -58,7 +60,7 @@ base_reserved Hts l span = omega arith
 module _ {T : Type 0} (tags : T → List ℕ) (plans : List RingPlan) (pool : ℕ) (s : St T) (c : IsConsistent tags plans pool s)
     (id : ℕ) (v : View T) (here : get_elem? s.views id ≡ some v) (alive : 0 < v.parts) (idle : v.party.span ≡ None) where
   abbrev parties : List (Party T)
-  parties = parties_of s.views
+  parties = parties_of_views s.views
 
   lt : id < length parties
   lt = party_within s.views id v here
@@ -73,7 +75,7 @@ module _ {T : Type 0} (tags : T → List ℕ) (plans : List RingPlan) (pool : �
   module _ (span : Span) (plan : RingPlan) (at : slice_get plans span.ring ≡ Some plan) (ys : List (Option T)) (items : List T)
       (positive : 0 < span.count) (next : IsNext (mode_of plan span.side) (side_of parties span.ring span.side) span.start)
       (low : span.start + span.count ≤ LAST) (within : span.start + span.count ≤ limit plan.geometry parties span.ring span.side)
-      (few : span.side ≡ Put → plan.free ≡ true → span.count ≤ buffers_of tags pool v.party)
+      (few : span.side ≡ Put → plan.free ≡ true → span.count ≤ buffers_had tags pool v.party)
       (many : length ys ≡ span.count)
       (shows : span.side ≡ Take → items ≡ take span.count (drop span.start (listed (side_of parties span.ring Put)))) where
     abbrev after : List (Party T)
@@ -86,7 +88,7 @@ module _ {T : Type 0} (tags : T → List ℕ) (plans : List RingPlan) (pool : �
     change r side = reserves parties id v.party span r side lt idle'
 
     spare : plan.geometry.capacity < plan.geometry.size
-    spare = (c.lawful.spare span.ring plan at)
+    spare = (c.fitting.spare span.ring plan at)
 
     above : (own.len ≤ span.start) × ((p : ℕ) → span.start ≤ p → own.openers p ≡ 0)
     above = next_above parties span.ring span.side (mode_of plan span.side) span.start (side_ruled tags plans pool s c span.ring plan at span.side) next
@@ -99,11 +101,19 @@ module _ {T : Type 0} (tags : T → List ℕ) (plans : List RingPlan) (pool : �
         by_side Put e =
             let lim = subst (λ (z : Side). span.start + span.count ≤ limit plan.geometry parties span.ring z) e within in
             let low' = subst (λ (z : Side). (side_of parties span.ring z).len ≤ span.start) e above.0 in
-            omega (arith, lim, low', takes_le_puts plan.geometry (side_of parties span.ring Put) (side_of parties span.ring Take) (ring_sound tags plans pool s c span.ring plan at), spare, (c.lawful.small span.ring plan at))
+            omega (
+              arith,
+              lim,
+              low',
+              takes_le_puts plan.geometry (side_of parties span.ring Put) (side_of parties span.ring Take)
+                  (ring_sound tags plans pool s c span.ring plan at),
+              spare,
+              (c.fitting.small span.ring plan at),
+            )
         by_side Take e =
             let lim = subst (λ (z : Side). span.start + span.count ≤ limit plan.geometry parties span.ring z) e within in
             let low' = subst (λ (z : Side). (side_of parties span.ring z).len ≤ span.start) e above.0 in
-            omega (arith, lim, low', (ring_sound tags plans pool s c span.ring plan at).within_capacity, spare, (c.lawful.small span.ring plan at))
+            omega (arith, lim, low', (ring_sound tags plans pool s c span.ring plan at).within_capacity, spare, (c.fitting.small span.ring plan at))
 
     -- the sides after: the own one, and any other
     own_after : side_of after span.ring span.side ≡ reserved_on own span
@@ -120,8 +130,10 @@ module _ {T : Type 0} (tags : T → List ℕ) (plans : List RingPlan) (pool : �
       len = λ r side. omega (arith, (change r side).len);
       base = λ r side plan' at'. elim (other_after r side) [
         | inl same ↦
-            subst (λ (z : ℕ × Side). base (mode_of plan' z.1) (side_of parties z.0 z.1) ≤ base (mode_of plan' z.1) (side_of after z.0 z.1)) (λ k. (sym same.0 k, sym same.1 k))
-            (subst (λ (l : RingSide T). base (mode_of plan' span.side) own ≤ base (mode_of plan' span.side) l) (sym own_after) (base_reserved (mode_of plan' span.side) own span))
+            subst (λ (z : ℕ × Side). base (mode_of plan' z.1) (side_of parties z.0 z.1) ≤ base (mode_of plan' z.1) (side_of after z.0 z.1))
+            (λ k. (sym same.0 k, sym same.1 k))
+            (subst (λ (l : RingSide T). base (mode_of plan' span.side) own ≤ base (mode_of plan' span.side) l) (sym own_after)
+            (base_reserved (mode_of plan' span.side) own span))
         | inr same ↦ omega (arith, ap (base (mode_of plan' side)) same)
       ];
       more = λ r plan' at'. ([], listed_after r ∙ sym (append-nil (listed (side_of parties r Put))));
@@ -146,7 +158,8 @@ module _ {T : Type 0} (tags : T → List ℕ) (plans : List RingPlan) (pool : �
             → get_or words' (own_at r side) 0 ≡ own_word (mode_of plan' side) (side_of after r side)
         by_name r side plan' at' (inl this) =
             let is : plan ≡ plan' = same_plan (sym at ∙ (ap (slice_get plans) (sym this.0) ∙ at')) in
-            subst (λ (z : ℕ × Side × RingPlan). get_or words' (own_at z.0 z.1) 0 ≡ own_word (mode_of z.2 z.1) (side_of after z.0 z.1)) (λ k. (sym this.0 k, sym this.1 k, is k))
+            subst (λ (z : ℕ × Side × RingPlan). get_or words' (own_at z.0 z.1) 0 ≡ own_word (mode_of z.2 z.1) (side_of after z.0 z.1))
+            (λ k. (sym this.0 k, sym this.1 k, is k))
             (word_set s.words (own_at span.ring span.side) (get_or s.words (own_at span.ring span.side) 0 + span.count)
             (omega (arith, own_inside span.ring (length plans) span.side (slice_get_within plans span.ring plan at), c.word_count))
             ∙ (ap (λ n. n + span.count) (word_is tags plans pool s c span.ring plan at span.side)
@@ -161,20 +174,24 @@ module _ {T : Type 0} (tags : T → List ℕ) (plans : List RingPlan) (pool : �
     homes' = emptied s.homes (run (slot_at plans span.ring plan) span.start ys)
 
     -- the slots of another ring stay as they were
-    elsewhere : (r : ℕ) (plan' : RingPlan) → slice_get plans r ≡ Some plan' → r ≢ span.ring → (p : ℕ) → get_elem? homes' (slot_at plans r plan' p) ≡ get_elem? s.homes (slot_at plans r plan' p)
+    elsewhere : (r : ℕ) (plan' : RingPlan) → slice_get plans r ≡ Some plan' → r ≢ span.ring → (p : ℕ)
+        → get_elem? homes' (slot_at plans r plan' p) ≡ get_elem? s.homes (slot_at plans r plan' p)
     elsewhere r plan' at' apart p =
         emptied_else (slot_at plans span.ring plan) s.homes span.start ys (slot_at plans r plan' p)
-        (λ k lt'. rings_apart plans r span.ring plan' plan p (span.start + k) at' at apart (omega (arith, (c.lawful.spare r plan' at'))) (omega (arith, spare)))
+        (λ k lt'. rings_apart plans r span.ring plan' plan p (span.start + k) at' at apart (omega (arith, (c.fitting.spare r plan' at')))
+        (omega (arith, spare)))
 
     homes_after : (r : ℕ) (plan' : RingPlan) → slice_get plans r ≡ Some plan' → AtHome plans homes' (side_of after r Put) (side_of after r Take) r plan'
     homes_after r plan' at' = elim (same_or_not r span.ring) [
       | inl same ↦
           let is : plan ≡ plan' = same_plan (sym at ∙ (ap (slice_get plans) (sym same) ∙ at')) in
-          subst (λ (z : ℕ × RingPlan). AtHome plans homes' (side_of after z.0 Put) (side_of after z.0 Take) z.0 z.1) (λ k. (sym same k, is k)) (by_side span.side refl)
+          subst (λ (z : ℕ × RingPlan). AtHome plans homes' (side_of after z.0 Put) (side_of after z.0 Take) z.0 z.1) (λ k. (sym same k, is k))
+          (by_side span.side refl)
       | inr apart ↦
           let old = c.homes r plan' at' in
           subst (λ (l : RingSide T). AtHome plans homes' l (side_of after r Take) r plan') (sym (untouched r Put (off_ring span.ring r span.side Put apart)))
-          (subst (λ (l : RingSide T). AtHome plans homes' (side_of parties r Put) l r plan') (sym (untouched r Take (off_ring span.ring r span.side Take apart))) record {
+          (subst (λ (l : RingSide T). AtHome plans homes' (side_of parties r Put) l r plan')
+          (sym (untouched r Take (off_ring span.ring r span.side Take apart))) record {
             full = λ p x le free is. elsewhere r plan' at' apart p ∙ old.full p x le free is;
             vacant = λ p le free lt'. elsewhere r plan' at' apart p ∙ old.vacant p le free lt';
           })
@@ -190,7 +207,8 @@ module _ {T : Type 0} (tags : T → List ℕ) (plans : List RingPlan) (pool : �
             let opposite = untouched span.ring Take (ap (λ z. is_on span.ring z span.ring Take) e ∙ off_take span.ring span.ring) in
             subst (λ (l : RingSide T). AtHome plans homes' l (side_of after span.ring Take) span.ring plan) (sym mine)
             (subst (λ (l : RingSide T). AtHome plans homes' (reserved_on (side_of parties span.ring Put) span) l span.ring plan) (sym opposite)
-            (home_put_reserved plans s.homes (side_of parties span.ring Put) (side_of parties span.ring Take) span.ring plan ring spare (c.homes span.ring plan at) span ys many
+            (home_put_reserved plans s.homes (side_of parties span.ring Put) (side_of parties span.ring Take) span.ring plan ring spare
+            (c.homes span.ring plan at) span ys many
             (subst (λ (z : Side). (side_of parties span.ring z).len ≤ span.start) e above.0)
             (subst (λ (z : Side). span.start + span.count ≤ limit plan.geometry parties span.ring z) e within)))
         by_side Take e =
@@ -199,12 +217,13 @@ module _ {T : Type 0} (tags : T → List ℕ) (plans : List RingPlan) (pool : �
             let opposite = untouched span.ring Put (ap (λ z. is_on span.ring z span.ring Put) e ∙ off_put span.ring span.ring) in
             subst (λ (l : RingSide T). AtHome plans homes' l (side_of after span.ring Take) span.ring plan) (sym opposite)
             (subst (λ (l : RingSide T). AtHome plans homes' (side_of parties span.ring Put) l span.ring plan) (sym mine)
-            (home_take_reserved plans s.homes (side_of parties span.ring Put) (side_of parties span.ring Take) span.ring plan ring spare (c.homes span.ring plan at) span ys many
+            (home_take_reserved plans s.homes (side_of parties span.ring Put) (side_of parties span.ring Take) span.ring plan ring spare
+            (c.homes span.ring plan at) span ys many
             (subst (λ (z : Side). (side_of parties span.ring z).len ≤ span.start) e above.0)
             (subst (λ (z : Side). span.start + span.count ≤ limit plan.geometry parties span.ring z) e within)))
 
     -- what the hand itself knows
-    own_true : IsTrue plans after (reserved span items v)
+    own_true : IsTrueView plans after (reserved span items v)
     own_true =
         let k = c.views id v here in
         record {
@@ -221,16 +240,16 @@ module _ {T : Type 0} (tags : T → List ℕ) (plans : List RingPlan) (pool : �
     reserve_stays =
         built tags plans pool record { words = words'; homes = homes'; views = set s.views id (reserved span items v) } after
         (parties_set s.views id (reserved span items v) ∙ ap (λ (p : Party T). slice_set parties id (with_open p span)) (sym mine))
-        c.lawful
+        c.fitting
         (reserve_keeps tags plans pool parties id v.party span plan c.sound lt idle' at spare record { behind = above.0; above = above.1; room = within })
         (orderly_reserved plans parties id v.party span plan c.ruled lt idle' at positive (slice_get_within plans span.ring plan at) next low within small)
-        (free_opened tags plans pool parties c.free id v.party span plan lt idle' at (λ put free. omega (arith, few put free, ap (buffers_of tags pool) mine)))
+        (free_opened tags plans pool parties c.free id v.party span plan lt idle' at (λ put free. omega (arith, few put free, ap (buffers_had tags pool) mine)))
         (length-set s.words (own_at span.ring span.side) (get_or s.words (own_at span.ring span.side) 0 + span.count) ∙ c.word_count)
         words_after
         (length-emptied s.homes (run (slot_at plans span.ring plan) span.start ys) ∙ c.home_count)
         homes_after
         (λ j u e. elim (at_set s.views id j (reserved span items v) u e) [
-          | inl new ↦ subst (IsTrue plans after) new.1 own_true
+          | inl new ↦ subst (IsTrueView plans after) new.1 own_true
           | inr old ↦ true_on plans parties after u goes_on (span_within tags plans pool s c j u old.1) (c.views j u old.1)
         ])
         (told_on tags plans pool s c id v (reserved span items v) here alive refl refl refl)
@@ -239,24 +258,30 @@ module _ {T : Type 0} (tags : T → List ℕ) (plans : List RingPlan) (pool : �
   -- the state and the hand after a step on the word i, which found y and left x
   abbrev pub Goes : St T → ℕ → ℕ → Me (Option T) (View T) → (ℕ → Me (Option T) (View T) → Type 0) → ℕ → Type 0
   Goes s i id me then x =
-      (w : View T) × (a : Act (Option T)) × Valid s.homes me.1 a × IsConsistent tags plans pool (stepped s i x id me.1 w a) × then (get_or s.words i 0) (w, carried_after me.1 a)
+      (w : View T) × (a : Act (Option T)) × Valid s.homes me.1 a × IsConsistent tags plans pool (stepped s i x id me.1 w a)
+      × then (get_or s.words i 0) (w, carried_after me.1 a)
 
   module _ (slots id : ℕ) (me : Me (Option T) (View T)) (r : ℕ) (plan : RingPlan) (o : Observed) (t n : ℕ)
-      (at : slice_get plans r ≡ Some plan) (alive : 0 < me.0.parts) (idle : me.0.party.span ≡ None) (seen : me.0.observed ≡ Some o) (on_ring : o.ring ≡ r) (tail : o.tail_seen ≡ Some t)
+      (at : slice_get plans r ≡ Some plan) (alive : 0 < me.0.parts) (idle : me.0.party.span ≡ None) (seen : me.0.observed ≡ Some o) (on_ring : o.ring ≡ r)
+      (tail : o.tail_seen ≡ Some t)
       (positive : 0 < n) where
     -- where the word is still the one looked at, the next span of the side starts there
-    next_is : (s : St T) (c : IsConsistent tags plans pool s) → get_elem? s.views id ≡ some me.0 → (side : Side) → o.side ≡ side → get_or s.words (own_at r side) 0 ≡ o.looked_at
-        → IsNext (mode_of plan side) (side_of (parties_of s.views) r side) (position_of (mode_of plan side) o.looked_at)
+    next_is : (s : St T) (c : IsConsistent tags plans pool s) → get_elem? s.views id ≡ some me.0 → (side : Side) → o.side ≡ side
+        → get_or s.words (own_at r side) 0 ≡ o.looked_at
+        → IsNext (mode_of plan side) (side_of (parties_of_views s.views) r side) (position_of (mode_of plan side) o.looked_at)
     next_is s c here side on_side hit =
         let k = (c.views id me.0 here).observed o seen in
-        is_next (mode_of plan side) (side_of (parties_of s.views) r side) o.looked_at (sym (word_is tags plans pool s c r plan at side) ∙ hit)
+        is_next (mode_of plan side) (side_of (parties_of_views s.views) r side) o.looked_at (sym (word_is tags plans pool s c r plan at side) ∙ hit)
         (λ hts. k.0.whole plan (ap (slice_get plans) on_ring ∙ at) (ap (mode_of plan) on_side ∙ hts)) (side_ruled tags plans pool s c r plan at side).small
 
-    seen_tail : (s : St T) (c : IsConsistent tags plans pool s) → get_elem? s.views id ≡ some me.0 → t ≤ (side_of (parties_of s.views) r (other_side o.side)).len
-    seen_tail s c here = subst (λ (z : ℕ). t ≤ (side_of (parties_of s.views) z (other_side o.side)).len) on_ring (((c.views id me.0 here).observed o seen).0.tail_seen t tail)
+    seen_tail : (s : St T) (c : IsConsistent tags plans pool s) → get_elem? s.views id ≡ some me.0
+        → t ≤ (side_of (parties_of_views s.views) r (other_side o.side)).len
+    seen_tail s c here =
+        subst (λ (z : ℕ). t ≤ (side_of (parties_of_views s.views) z (other_side o.side)).len) on_ring
+        (((c.views id me.0 here).observed o seen).0.tail_seen t tail)
 
     pub reserves_put : o.side ≡ Put → position_of plan.put o.looked_at + n ≤ plan.geometry.capacity + t → position_of plan.put o.looked_at + n ≤ LAST
-        → (plan.free ≡ true → n ≤ buffers_of tags pool me.0.party)
+        → (plan.free ≡ true → n ≤ buffers_had tags pool me.0.party)
         → Allows (IsConsistent tags plans pool) slots id me (own_at r Put) (λ y. either (eqb y o.looked_at) (o.looked_at + n) y)
         (reserve_put_tells (step slots (own_at r Put) o.looked_at (o.looked_at + n) none) me)
     reserves_put on_side room low few s c _ here _ =
@@ -268,25 +293,37 @@ module _ {T : Type 0} (tags : T → List ℕ) (plans : List RingPlan) (pool : �
         let ys : List (Option T) = replicate n None in
         let slot : ℕ → ℕ = slot_at plans r plan in
         let k = seen_tail s c here in
-        let behind : t ≤ (side_of (parties_of s.views) r Take).len = subst (λ (z : Side). t ≤ (side_of (parties_of s.views) r (other_side z)).len) on_side k in
+        let behind : t ≤ (side_of (parties_of_views s.views) r Take).len =
+        subst (λ (z : Side). t ≤ (side_of (parties_of_views s.views) r (other_side z)).len) on_side k in
         exchanged y o.looked_at (o.looked_at + n) (Goes s i id me (reserve_put_tells (step slots i o.looked_at (o.looked_at + n) none) me))
         (λ hit.
         let next = next_is s c here Put on_side hit in
-        let first = next_above (parties_of s.views) r Put plan.put start (side_ruled tags plans pool s c r plan at Put) next in
+        let first = next_above (parties_of_views s.views) r Put plan.put start (side_ruled tags plans pool s c r plan at Put) next in
         let ring = ring_sound tags plans pool s c r plan at in
-        let spare = (c.lawful.spare r plan at) in
-        let won = reserve_stays tags plans pool s c id v here alive idle span plan at ys [] positive next low (omega (arith, room, behind)) (λ _. few) (length-many {X = Option T} n None)
+        let spare = (c.fitting.spare r plan at) in
+        let won =
+        reserve_stays tags plans pool s c id v here alive idle span plan at ys [] positive next low (omega (arith, room, behind)) (λ _. few)
+        (length-many {X = Option T} n None)
         (λ e. absurd (let u : Put ≡ Take = e in cc)) in (
           reserved span [] v,
           takes_all (run slot start ys),
           takes_valid slot s.homes me.1 start ys
-              (run_apart plans r plan start (length ys) (omega (arith, length-many {X = Option T} n None, room, behind, first.0, takes_le_puts plan.geometry (side_of (parties_of s.views) r Put) (side_of (parties_of s.views) r Take) ring, spare)))
+              (run_apart plans r plan start (length ys) (omega (
+                arith,
+                length-many {X = Option T} n None,
+                room,
+                behind,
+                first.0,
+                takes_le_puts plan.geometry (side_of (parties_of_views s.views) r Put) (side_of (parties_of_views s.views) r Take) ring,
+                spare,
+              )))
               (λ j z e.
               let is_none : z ≡ None = many_alike n None j z e in
               let lt : j < n = omega (arith, some_below ys j z e, length-many {X = Option T} n None) in
               subst (λ (u : Option T). get_elem? s.homes (slot (start + j)) ≡ some (some u)) (sym is_none)
               ((c.homes r plan at).vacant (start + j) (omega (arith, first.0)) (first.1 (start + j) (omega arith)) (omega (arith, lt, room, behind, spare)))),
-          subst (λ (z : ℕ × List (maybe.Option (Option T))). IsConsistent tags plans pool record { words = set s.words i z.0; homes = z.1; views = set s.views id (reserved span [] v) })
+          subst (λ (z : ℕ × List (maybe.Option (Option T))). IsConsistent tags plans pool
+              record { words = set s.words i z.0; homes = z.1; views = set s.views id (reserved span [] v) })
               (λ j. (ap (λ m. m + n) hit j, sym (takes_homes s.homes me.1 (run slot start ys)) j)) won,
           λ q m plan' e f at'.
               let to : r ≡ q = (own_same r Put q Put e).0 in
@@ -295,7 +332,8 @@ module _ {T : Type 0} (tags : T → List ℕ) (plans : List RingPlan) (pool : �
               let is : plan ≡ plan' = same_plan (sym at ∙ (ap (slice_get plans) to ∙ (ap (λ (l : List RingPlan). slice_get l q) (sym told) ∙ at'))) in (
                 λ _. (
                   λ j. reserved record { ring = to j; side = Put; start = position_of (is j).put o.looked_at; count = count j } [] v,
-                  takes_carried me.1 (run slot start ys) ∙ (λ j. run (slot_at (sym told j) (to j) (is j)) (position_of (is j).put o.looked_at) (replicate (count j) None) ++ me.1),
+                  takes_carried me.1 (run slot start ys) ∙ (λ j. run (slot_at (sym told j) (to j) (is j)) (position_of (is j).put o.looked_at)
+                      (replicate (count j) None) ++ me.1),
                 ),
                 λ miss. absurd (miss hit),
               ),
@@ -313,17 +351,26 @@ module _ {T : Type 0} (tags : T → List ℕ) (plans : List RingPlan) (pool : �
         let span : Span = record { ring = r; side = Take; start = start; count = n } in
         let slot : ℕ → ℕ = slot_at plans r plan in
         let k = seen_tail s c here in
-        let behind : t ≤ (side_of (parties_of s.views) r Put).len = subst (λ (z : Side). t ≤ (side_of (parties_of s.views) r (other_side z)).len) on_side k in
-        let published : List T = listed (side_of (parties_of s.views) r Put) in
+        let behind : t ≤ (side_of (parties_of_views s.views) r Put).len =
+        subst (λ (z : Side). t ≤ (side_of (parties_of_views s.views) r (other_side z)).len) on_side k in
+        let published : List T = listed (side_of (parties_of_views s.views) r Put) in
         let items : List T = take n (drop start published) in
         let ys : List (Option T) = map Some items in
         exchanged y o.looked_at (o.looked_at + n) (Goes s i id me (reserve_take_tells (step slots i o.looked_at (o.looked_at + n) none) me))
         (λ hit.
         let next = next_is s c here Take on_side hit in
-        let first = next_above (parties_of s.views) r Take plan.take start (side_ruled tags plans pool s c r plan at Take) next in
+        let first = next_above (parties_of_views s.views) r Take plan.take start (side_ruled tags plans pool s c r plan at Take) next in
         let ring = ring_sound tags plans pool s c r plan at in
-        let spare = (c.lawful.spare r plan at) in
-        let long : length items ≡ n = omega (arith, length-take n (drop start published), length-drop start published, length-listed (side_of (parties_of s.views) r Put) ring.published, room, behind) in
+        let spare = (c.fitting.spare r plan at) in
+        let long : length items ≡ n =
+        omega (
+          arith,
+          length-take n (drop start published),
+          length-drop start published,
+          length-listed (side_of (parties_of_views s.views) r Put) ring.published,
+          room,
+          behind,
+        ) in
         let won = reserve_stays tags plans pool s c id v here alive idle span plan at ys items positive next low (omega (arith, room, behind))
         (λ e. absurd (let u : Take ≡ Put = e in cc)) (length-cells items ∙ long) (λ _. refl) in (
           reserved span items v,
@@ -336,7 +383,8 @@ module _ {T : Type 0} (tags : T → List ℕ) (plans : List RingPlan) (pool : �
               subst (λ (u : Option T). get_elem? s.homes (slot (start + j)) ≡ some (some u)) (sym cell.1)
               ((c.homes r plan at).full (start + j) cell.0 (omega (arith, first.0)) (first.1 (start + j) (omega arith))
               (sym (get_taken n (drop start published) j lt ∙ get_dropped start published j) ∙ cell.2))),
-          subst (λ (z : ℕ × List (maybe.Option (Option T))). IsConsistent tags plans pool record { words = set s.words i z.0; homes = z.1; views = set s.views id (reserved span items v) })
+          subst (λ (z : ℕ × List (maybe.Option (Option T))). IsConsistent tags plans pool
+              record { words = set s.words i z.0; homes = z.1; views = set s.views id (reserved span items v) })
               (λ j. (ap (λ m. m + n) hit j, sym (takes_homes s.homes me.1 (run slot start ys)) j)) won,
           λ q m plan' e f at'.
               let to : r ≡ q = (own_same r Take q Take e).0 in

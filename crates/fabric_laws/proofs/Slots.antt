@@ -63,7 +63,8 @@ module _ {S : Type 0} where
 
   module _ (slot : ℕ → ℕ) where
     -- a slot of none of these positions stays as it was
-    pub emptied_else : (hs : List (maybe.Option S)) (p : ℕ) (ys : List S) (i : ℕ) → ((k : ℕ) → k < length ys → i ≢ slot (p + k)) → get_elem? (emptied hs (run slot p ys)) i ≡ get_elem? hs i
+    pub emptied_else : (hs : List (maybe.Option S)) (p : ℕ) (ys : List S) (i : ℕ) → ((k : ℕ) → k < length ys → i ≢ slot (p + k))
+        → get_elem? (emptied hs (run slot p ys)) i ≡ get_elem? hs i
     emptied_else hs p [] i off = refl
     emptied_else hs p (y ∷ ys) i off =
         set_else (emptied hs (run slot (suc p) ys)) (slot p) i none (λ e. off 0 (omega arith) (e ∙ ap slot (let z : p ≡ p + 0 = omega arith in z)))
@@ -88,7 +89,8 @@ module _ {S : Type 0} where
     gives_carried p [] c = refl
     gives_carried p (y ∷ ys) c = gives_carried (suc p) ys c
 
-    pub gives_homes : (hs : List (maybe.Option S)) (p : ℕ) (ys : List S) (c : List (ℕ × S)) → homes_after hs (run slot p ys ++ c) (gives_all (length ys)) ≡ filled hs p ys
+    pub gives_homes : (hs : List (maybe.Option S)) (p : ℕ) (ys : List S) (c : List (ℕ × S))
+        → homes_after hs (run slot p ys ++ c) (gives_all (length ys)) ≡ filled hs p ys
     gives_homes hs p [] c = refl
     gives_homes hs p (y ∷ ys) c = gives_homes (set hs (slot p) (some y)) (suc p) ys c
 
@@ -96,13 +98,16 @@ module _ {S : Type 0} where
     length-filled hs p [] = refl
     length-filled hs p (y ∷ ys) = length-filled (set hs (slot p) (some y)) (suc p) ys ∙ length-set hs (slot p) (some y)
 
-    pub filled_else : (hs : List (maybe.Option S)) (p : ℕ) (ys : List S) (i : ℕ) → ((k : ℕ) → k < length ys → i ≢ slot (p + k)) → get_elem? (filled hs p ys) i ≡ get_elem? hs i
+    pub filled_else : (hs : List (maybe.Option S)) (p : ℕ) (ys : List S) (i : ℕ) → ((k : ℕ) → k < length ys → i ≢ slot (p + k))
+        → get_elem? (filled hs p ys) i ≡ get_elem? hs i
     filled_else hs p [] i off = refl
     filled_else hs p (y ∷ ys) i off =
-        filled_else (set hs (slot p) (some y)) (suc p) ys i (λ k lt e. off (suc k) (omega arith) (e ∙ ap slot (let z : suc p + k ≡ p + suc k = omega arith in z)))
+        filled_else (set hs (slot p) (some y)) (suc p) ys i (λ k lt e. off (suc k) (omega arith)
+        (e ∙ ap slot (let z : suc p + k ≡ p + suc k = omega arith in z)))
         ∙ set_else hs (slot p) i (some y) (λ e. off 0 (omega arith) (e ∙ ap slot (let z : p ≡ p + 0 = omega arith in z)))
 
-    pub filled_here : (hs : List (maybe.Option S)) (p : ℕ) (ys : List S) (k : ℕ) (y : S) → AreApart slot p (length ys) → ((k : ℕ) → k < length ys → slot (p + k) < length hs)
+    pub filled_here : (hs : List (maybe.Option S)) (p : ℕ) (ys : List S) (k : ℕ) (y : S) → AreApart slot p (length ys)
+        → ((k : ℕ) → k < length ys → slot (p + k) < length hs)
         → get_elem? ys k ≡ some y → get_elem? (filled hs p ys) (slot (p + k)) ≡ some (some y)
     filled_here hs p [] k y apart inside e = absurd (some-ne-none y (sym e))
     filled_here hs p (x ∷ xs) zero y apart inside e =

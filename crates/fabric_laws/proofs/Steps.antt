@@ -17,7 +17,7 @@ use Rattle.geom.specs.Plan.{mode_of}
 use Rattle.ringcore_laws.specs.declared.party.Party.{Party}
 use Rattle.ringcore_laws.specs.declared.protocol.Span.{Span}
 use Rattle.ringcore_laws.specs.RingSide.{RingSide, side_of}
-use Rattle.ringcore_laws.specs.Sound.{Sound, SoundRing, holds, moved, occurrences, places}
+use Rattle.ringcore_laws.specs.Sound.{Sound, SoundRing, holds, moved, occurrences, place_count}
 use Rattle.ringcore_laws.specs.HeadTailRule.{HeadTailRule, RuledSide, base}
 use Rattle.ringcore_laws.specs.FreeRings.{FreeRule}
 use Rattle.ringcore_laws.specs.History.{own_word, position_of}
@@ -25,7 +25,7 @@ use Rattle.ringcore_laws.proofs.RingLaws.{below_or_not, held_cases, length-liste
 use Rattle.ringcore_laws.proofs.Laws.{element}
 use Rattle.ringcore_laws.proofs.HeadTailLaws.{own_span, sum_by_part}
 use Rattle.fabric_laws.specs.declared.view.View.{View}
-use Rattle.fabric_laws.specs.Rule.{IsFitting, AreWords, AtHome, IsConsistent, IsSpent, IsTrue, all_parts, parties_of}
+use Rattle.fabric_laws.specs.Rule.{IsFitting, AreWords, AtHome, IsConsistent, IsSpent, IsTrueView, all_parts, parties_of_views}
 use Rattle.fabric_laws.specs.Kinds.{IsHeldOnce}
 use Rattle.fabric_laws.specs.Words.{own_at, slot_count}
 use Rattle.fabric_laws.proofs.Truths.{IsWithin}
@@ -51,12 +51,13 @@ module _ {T : Type 0} (tags : T → List ℕ) (plans : List RingPlan) (pool : �
     pub parts : sum_by (λ (v : View T). v.parts) views ≡ all_parts
 
   -- a fabric whose hands are these parties is consistent
-  pub built : (s : St T) (ps : List (Party T)) → parties_of s.views ≡ ps → IsFitting plans pool → Sound tags plans pool ps → HeadTailRule plans ps → FreeRule tags plans pool ps
+  pub built : (s : St T) (ps : List (Party T)) → parties_of_views s.views ≡ ps → IsFitting plans pool → Sound tags plans pool ps → HeadTailRule plans ps
+      → FreeRule tags plans pool ps
       → length s.words ≡ 64 * length plans → AreWords plans s.words ps → length s.homes ≡ slot_count plans
       → ((r : ℕ) (plan : RingPlan) → slice_get plans r ≡ Some plan → AtHome plans s.homes (side_of ps r Put) (side_of ps r Take) r plan)
-      → ((id : ℕ) (v : View T) → get_elem? s.views id ≡ some v → IsTrue plans ps v) → Told s.views → IsConsistent tags plans pool s
-  built s ps same lawful sound ruled free word_count words home_count homes views told = record {
-    lawful = lawful;
+      → ((id : ℕ) (v : View T) → get_elem? s.views id ≡ some v → IsTrueView plans ps v) → Told s.views → IsConsistent tags plans pool s
+  built s ps same fitting sound ruled free word_count words home_count homes views told = record {
+    fitting = fitting;
     sound = subst (Sound tags plans pool) (sym same) sound;
     ruled = subst (HeadTailRule plans) (sym same) ruled;
     free = subst (FreeRule tags plans pool) (sym same) free;
@@ -64,7 +65,7 @@ module _ {T : Type 0} (tags : T → List ℕ) (plans : List RingPlan) (pool : �
     words = subst (AreWords plans s.words) (sym same) words;
     home_count = home_count;
     homes = λ r plan at. subst (λ (v : List (Party T)). AtHome plans s.homes (side_of v r Put) (side_of v r Take) r plan) (sym same) (homes r plan at);
-    views = λ id v here. subst (λ (p : List (Party T)). IsTrue plans p v) (sym same) (views id v here);
+    views = λ id v here. subst (λ (p : List (Party T)). IsTrueView plans p v) (sym same) (views id v here);
     told = told.told;
     spent = told.spent;
     parts = told.parts;
@@ -72,10 +73,11 @@ module _ {T : Type 0} (tags : T → List ℕ) (plans : List RingPlan) (pool : �
 
   module _ (s : St T) (c : IsConsistent tags plans pool s) where
     abbrev parties : List (Party T)
-    parties = parties_of s.views
+    parties = parties_of_views s.views
 
     -- a hand's view changes, but not its parts
-    pub told_on : (id : ℕ) (v w : View T) → get_elem? s.views id ≡ some v → 0 < v.parts → w.parts ≡ v.parts → w.plans ≡ v.plans → w.pool ≡ v.pool → Told (set s.views id w)
+    pub told_on : (id : ℕ) (v w : View T) → get_elem? s.views id ≡ some v → 0 < v.parts → w.parts ≡ v.parts → w.plans ≡ v.plans → w.pool ≡ v.pool
+        → Told (set s.views id w)
     told_on id v w here alive same_parts same_plans same_pool = record {
       told = λ j u at pos. elim (at_set s.views id j w u at) [
         | inl own ↦
@@ -92,13 +94,15 @@ module _ {T : Type 0} (tags : T → List ℕ) (plans : List RingPlan) (pool : �
     }
 
     -- nor the party that it is: all else is as it was
-    pub stays : (i id : ℕ) (v w : View T) → get_elem? s.views id ≡ some v → 0 < v.parts → w.party ≡ v.party → w.parts ≡ v.parts → w.plans ≡ v.plans → w.pool ≡ v.pool
-        → IsTrue plans parties w → IsConsistent tags plans pool record { words = set s.words i (get_or s.words i 0); homes = s.homes; views = set s.views id w }
+    pub stays : (i id : ℕ) (v w : View T) → get_elem? s.views id ≡ some v → 0 < v.parts → w.party ≡ v.party → w.parts ≡ v.parts → w.plans ≡ v.plans
+        → w.pool ≡ v.pool
+        → IsTrueView plans parties w → IsConsistent tags plans pool
+        record { words = set s.words i (get_or s.words i 0); homes = s.homes; views = set s.views id w }
     stays i id v w here alive same_party same_parts same_plans same_pool new =
         subst (λ (ws : List ℕ). IsConsistent tags plans pool record { words = ws; homes = s.homes; views = set s.views id w }) (sym (set-get_or s.words i 0))
         (built record { words = s.words; homes = s.homes; views = set s.views id w } parties (parties_same s.views id v w here same_party)
-        c.lawful c.sound c.ruled c.free c.word_count c.words c.home_count c.homes
-        (λ j u at. elim (at_set s.views id j w u at) [ inl own ↦ subst (IsTrue plans parties) own.1 new | inr old ↦ c.views j u old.1 ])
+        c.fitting c.sound c.ruled c.free c.word_count c.words c.home_count c.homes
+        (λ j u at. elim (at_set s.views id j w u at) [ inl own ↦ subst (IsTrueView plans parties) own.1 new | inr old ↦ c.views j u old.1 ])
         (told_on id v w here alive same_parts same_plans same_pool))
 
     module _ (r : ℕ) (plan : RingPlan) (at : slice_get plans r ≡ Some plan) where
@@ -113,7 +117,8 @@ module _ {T : Type 0} (tags : T → List ℕ) (plans : List RingPlan) (pool : �
       word_is side = c.words.own r side plan at
 
       pub position_is : (side : Side) → position_of (mode_of plan side) (get_or s.words (own_at r side) 0) ≡ base (mode_of plan side) (side_of parties r side)
-      position_is side = ap (position_of (mode_of plan side)) (word_is side) ∙ position_base (mode_of plan side) (side_of parties r side) (side_ruled side).small
+      position_is side =
+          ap (position_of (mode_of plan side)) (word_is side) ∙ position_base (mode_of plan side) (side_of parties r side) (side_ruled side).small
 
       -- what open takes hold is published
       pub takes_within : (p : ℕ) → 0 < (side_of parties r Take).openers p → p < (side_of parties r Put).len
@@ -153,12 +158,18 @@ module _ {T : Type 0} (tags : T → List ℕ) (plans : List RingPlan) (pool : �
         record {
           plan = plan.0;
           there = plan.1;
-          published = omega (arith, takes_within span.ring plan.0 plan.1 last held', ruled.positive, length-listed (side_of parties span.ring Put) (ring_sound span.ring plan.0 plan.1).published);
+          published =
+              omega (
+                arith,
+                takes_within span.ring plan.0 plan.1 last held',
+                ruled.positive,
+                length-listed (side_of parties span.ring Put) (ring_sound span.ring plan.0 plan.1).published,
+              );
         }
 
     -- each buffer of the pool is the hand's once at most, and no other number is
     pub held_once : (id : ℕ) (u : View T) → get_elem? s.views id ≡ some u → IsHeldOnce tags pool u.party
-    unfolding places
+    unfolding place_count
     held_once id u here b =
         let mine = party_here s.views id u u.party here in
         let part = sum_by_part (holds tags b) parties id u.party (party_within s.views id u here) in
@@ -168,5 +179,6 @@ module _ {T : Type 0} (tags : T → List ℕ) (plans : List RingPlan) (pool : �
             | inr le ↦ omega (arith, c.sound.buffers.no_place b le)
           ],
           λ le. omega (arith, c.sound.buffers.no_place b le),
-          subst (λ (p : Party T). moved tags Put b p ≤ occurrences b p.given + moved tags Take b p) mine (c.sound.buffers.never_below_none id u.party b (party_within s.views id u here)),
+          subst (λ (p : Party T). moved tags Put b p ≤ occurrences b p.given + moved tags Take b p) mine
+              (c.sound.buffers.never_below_none id u.party b (party_within s.views id u here)),
         )

@@ -13,14 +13,16 @@ use Rattle.ringcore_laws.specs.HeadTailRule.{base}
 use Rattle.ringcore_laws.specs.History.{other_side}
 use Rattle.ringcore_laws.specs.Invariant.{IsBehind, TrueObserved}
 use Rattle.fabric_laws.specs.declared.view.View.{View}
-use Rattle.fabric_laws.specs.Rule.{IsTrue}
+use Rattle.fabric_laws.specs.Rule.{IsTrueView}
 
 module _ {T : Type 0} where
   -- no side goes back, and what is published stays
   pub record GoOn (plans : List RingPlan) (before after : List (Party T)) : Type 0 where
     pub len : (r : ℕ) (side : Side) → (side_of before r side).len ≤ (side_of after r side).len
-    pub base : (r : ℕ) (side : Side) (plan : RingPlan) → slice_get plans r ≡ Some plan → base (mode_of plan side) (side_of before r side) ≤ base (mode_of plan side) (side_of after r side)
-    pub more : (r : ℕ) (plan : RingPlan) → slice_get plans r ≡ Some plan → (items : List T) × (listed (side_of after r Put) ≡ listed (side_of before r Put) ++ items)
+    pub base : (r : ℕ) (side : Side) (plan : RingPlan) → slice_get plans r ≡ Some plan
+        → base (mode_of plan side) (side_of before r side) ≤ base (mode_of plan side) (side_of after r side)
+    pub more : (r : ℕ) (plan : RingPlan) → slice_get plans r ≡ Some plan → (items : List T)
+        × (listed (side_of after r Put) ≡ listed (side_of before r Put) ++ items)
 
   pub take_within : (n : ℕ) (xs ys : List T) → n ≤ length xs → take n (xs ++ ys) ≡ take n xs
   take_within zero xs ys le = refl
@@ -52,7 +54,7 @@ module _ {T : Type 0} where
   -- of a hand whose open take span lies in what is published
   pub true_on : (plans : List RingPlan) (before after : List (Party T)) (v : View T) → GoOn plans before after
       → ((span : Span) → v.party.span ≡ Some span → span.side ≡ Take → IsWithin plans before span)
-      → IsTrue plans before v → IsTrue plans after v
+      → IsTrueView plans before v → IsTrueView plans after v
   true_on plans before after v on within k = record {
     observed = λ o e. observed_on plans before after o on (k.observed o e);
     shown = λ span busy taking.

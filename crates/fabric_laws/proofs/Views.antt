@@ -7,34 +7,36 @@ use Rattle.std.specs.List.{sum_by}
 use Rattle.std.proofs.lemmas.List.Sums.{sum_by-cons}
 use Rattle.ringcore_laws.specs.declared.party.Party.{Party}
 use Rattle.fabric_laws.specs.declared.view.View.{View}
-use Rattle.fabric_laws.specs.Rule.{parties_of}
+use Rattle.fabric_laws.specs.Rule.{parties_of_views}
 
 module _ {T : Type 0} where
-  pub parties_length : (views : List (View T)) → length (parties_of views) ≡ length views
+  pub parties_length : (views : List (View T)) → length (parties_of_views views) ≡ length views
   parties_length [] = refl
   parties_length (x ∷ xs) = ap suc (parties_length xs)
 
-  pub party_within : (views : List (View T)) (id : ℕ) (v : View T) → get_elem? views id ≡ some v → id < length (parties_of views)
+  pub party_within : (views : List (View T)) (id : ℕ) (v : View T) → get_elem? views id ≡ some v → id < length (parties_of_views views)
   party_within [] id v e = absurd (some-ne-none v (sym e))
   party_within (x ∷ xs) zero v e = omega arith
   party_within (x ∷ xs) (suc id) v e = let k = party_within xs id v e in omega arith
 
-  pub party_here : (views : List (View T)) (id : ℕ) (v : View T) (d : Party T) → get_elem? views id ≡ some v → slice_index_or (parties_of views) id d ≡ v.party
+  pub party_here : (views : List (View T)) (id : ℕ) (v : View T) (d : Party T) → get_elem? views id ≡ some v
+      → slice_index_or (parties_of_views views) id d ≡ v.party
   party_here [] id v d e = absurd (some-ne-none v (sym e))
   party_here (x ∷ xs) zero v d e = ap (λ (u : View T). u.party) (some-injective x v e)
   party_here (x ∷ xs) (suc id) v d e = party_here xs id v d e
 
-  pub parties_set : (views : List (View T)) (id : ℕ) (w : View T) → parties_of (set views id w) ≡ set (parties_of views) id w.party
+  pub parties_set : (views : List (View T)) (id : ℕ) (w : View T) → parties_of_views (set views id w) ≡ set (parties_of_views views) id w.party
   parties_set [] id w = refl
   parties_set (x ∷ xs) zero w = refl
   parties_set (x ∷ xs) (suc id) w = ap (λ l. x.party ∷ l) (parties_set xs id w)
 
-  pub parties_same : (views : List (View T)) (id : ℕ) (v w : View T) → get_elem? views id ≡ some v → w.party ≡ v.party → parties_of (set views id w) ≡ parties_of views
+  pub parties_same : (views : List (View T)) (id : ℕ) (v w : View T) → get_elem? views id ≡ some v → w.party ≡ v.party
+      → parties_of_views (set views id w) ≡ parties_of_views views
   parties_same [] id v w e same = refl
-  parties_same (x ∷ xs) zero v w e same = ap (λ p. p ∷ parties_of xs) (same ∙ sym (ap (λ (u : View T). u.party) (some-injective x v e)))
+  parties_same (x ∷ xs) zero v w e same = ap (λ p. p ∷ parties_of_views xs) (same ∙ sym (ap (λ (u : View T). u.party) (some-injective x v e)))
   parties_same (x ∷ xs) (suc id) v w e same = ap (λ l. x.party ∷ l) (parties_same xs id v w e same)
 
-  pub parties_push : (views : List (View T)) (w : View T) → parties_of (views ++ w ∷ []) ≡ parties_of views ++ w.party ∷ []
+  pub parties_push : (views : List (View T)) (w : View T) → parties_of_views (views ++ w ∷ []) ≡ parties_of_views views ++ w.party ∷ []
   parties_push [] w = refl
   parties_push (x ∷ xs) w = ap (λ l. x.party ∷ l) (parties_push xs w)
 

@@ -18,14 +18,14 @@ module _ {T : Type 0} where
       let found : Observed = record { ring = ring; side = side; looked_at = word; tail_seen = None } in
       record v { observed = Some found; lost = None; steps = v.steps + 1 }
 
-  -- a look found that another hand's span is open on an HTS side
-  abbrev pub found_busy : View T → View T
-  found_busy v = record v { observed = None; lost = None; steps = v.steps + 1 }
+  -- a look found this word, which shows that another hand's span is open on an HTS side
+  abbrev pub found_busy : ℕ → View T → View T
+  found_busy word v = record v { observed = None; lost = Some word; steps = v.steps + 1 }
 
   -- a look, by what it found
-  abbrev pub after_look : Mode → ℕ → Side → ℕ → View T → View T
-  after_look Multi ring side word v = looked ring side word v
-  after_look Hts ring side word v = if word % RESERVED == 0 then looked ring side word v else found_busy v
+  abbrev pub view_after_look : Mode → ℕ → Side → ℕ → View T → View T
+  view_after_look Multi ring side word v = looked ring side word v
+  view_after_look Hts ring side word v = if word % RESERVED == 0 then looked ring side word v else found_busy word v
 
   -- a question for room found how far the other side is settled
   abbrev pub asked : ℕ → View T → View T
@@ -65,7 +65,8 @@ module _ {T : Type 0} where
 
   -- two hands made one, and what is left of the second
   abbrev pub both : View T → View T → View T
-  both v w = record v { party = joined v.party w.party; shown = []; steps = v.steps + w.steps; parts = v.parts + w.parts }
+  both v w =
+      record v { party = joined v.party w.party; shown = []; steps = v.steps + w.steps; parts = v.parts + w.parts }
 
   abbrev pub spent : View T
   spent = newborn [] 0 0 []

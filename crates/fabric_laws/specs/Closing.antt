@@ -1,5 +1,6 @@
 -- What lies in the slots of a fabric that no thread shares any more
-use Rattle.std.specs.Prelude.{ℕ, ◌+◌, ◌<◌, ◌≤◌, ◌≡◌, ◌/◌, ◌%◌, List, [], ◌∷◌, drop, slice_get, slice_index, Option, Some}
+use Rattle.std.specs.Prelude.{ℕ, ◌+◌, ◌<◌, ◌≤◌, ◌≡◌, ◌/◌, ◌%◌, List, [], ◌∷◌, drop, slice_get, slice_index, Option}
+use Rattle.std.specs.Prelude.{Some}
 use mathlib.Core.Option.{some}
 use lib.ListN.{get_elem?}
 use Rattle.atomic_table.specs.Table.{State}
@@ -12,8 +13,8 @@ use Rattle.ringcore_laws.specs.RingSide.{listed, side_of}
 use Rattle.ringcore_laws.specs.History.{position_of}
 use Rattle.ringcore_laws.specs.Sound.{Sound, queue}
 use Rattle.fabric_laws.specs.declared.view.View.{View}
-use Rattle.fabric_laws.specs.Rule.{all_parts, parties_of}
-use Rattle.fabric_laws.specs.Words.{own_at, settled_at, slot_at}
+use Rattle.fabric_laws.specs.Rule.{all_parts, parties_of_views}
+use Rattle.fabric_laws.specs.Words.{own_at, settled_word_at, slot_at}
 
 -- how far a side is reserved, by its own word
 abbrev pub reach_of : Mode → ℕ → ℕ
@@ -25,24 +26,25 @@ abbrev pub first_left : List ℕ → ℕ → RingPlan → ℕ
 first_left words r plan = reach_of plan.take (slice_index words (own_at r Take))
 
 abbrev pub end_left : List ℕ → ℕ → RingPlan → ℕ
-end_left words r plan = position_of plan.put (slice_index words (settled_at plan.put r Put))
+end_left words r plan = position_of plan.put (slice_index words (settled_word_at plan.put r Put))
 
 module _ {T : Type 0} where
   -- the published items of a ring at positions that no take has reserved
   abbrev pub left_items : State (Option T) (View T) → ℕ → List T
-  left_items s r = drop (side_of (parties_of s.views) r Take).reach (listed (side_of (parties_of s.views) r Put))
+  left_items s r =
+      drop (side_of (parties_of_views s.views) r Take).reach (listed (side_of (parties_of_views s.views) r Put))
 
   -- what lies in the slots of a ring
   pub record LiesLeft (plans : List RingPlan) (s : State (Option T) (View T)) (r : ℕ) (plan : RingPlan) : Type 0 where
     -- the words show from where on, and how far
-    pub first : first_left s.words r plan ≡ (side_of (parties_of s.views) r Take).reach
-    pub end : end_left s.words r plan ≡ (side_of (parties_of s.views) r Put).len
+    pub first : first_left s.words r plan ≡ (side_of (parties_of_views s.views) r Take).reach
+    pub end : end_left s.words r plan ≡ (side_of (parties_of_views s.views) r Put).len
     -- all of it is in one turn of the ring
     pub turn : end_left s.words r plan ≤ first_left s.words r plan + plan.geometry.capacity
     pub last : end_left s.words r plan ≤ LAST
     -- each position has its item at home
     pub there : (p : ℕ) → first_left s.words r plan ≤ p → p < end_left s.words r plan
-        → (x : T) × (slice_get (listed (side_of (parties_of s.views) r Put)) p ≡ Some x)
+        → (x : T) × (slice_get (listed (side_of (parties_of_views s.views) r Put)) p ≡ Some x)
         × (get_elem? s.homes (slot_at plans r plan p) ≡ some (some (Some x)))
 
   -- A hand that has all parts is the only one: its spans and buffers are all that there are, and sound

@@ -1,6 +1,7 @@
--- The kinds of step on a word, each with what it tells the hand that makes it: of the step, the hand before, the word found and the hand
--- after
-use Rattle.std.specs.Prelude.{ℕ, suc, ◌+◌, ◌-◌, ◌*◌, ◌<◌, ◌≤◌, ◌≡◌, ◌≢◌, List, [], ◌∷◌, ◌++◌, map, length, take, drop, replicate, true}
+-- The kinds of step on a word, each with what it tells the hand that makes it: of the step, the hand before, the word
+-- found and the hand after
+use Rattle.std.specs.Prelude.{ℕ, suc, ◌+◌, ◌-◌, ◌*◌, ◌<◌, ◌≤◌, ◌≡◌, ◌≢◌, List, [], ◌∷◌, ◌++◌, map, length, take, drop}
+use Rattle.std.specs.Prelude.{replicate, true}
 use Rattle.std.specs.Prelude.{slice_get, Option, Some, None}
 use mathlib.Core.Option.{some}
 use lib.ListN.{get_elem?}
@@ -11,18 +12,18 @@ use Rattle.geom.specs.declared.plan.RingPlan.{RingPlan}
 use Rattle.geom.specs.declared.word.TheConstants.{LAST, RESERVED}
 use Rattle.geom.specs.Plan.{mode_of}
 use Rattle.ringcore_laws.specs.declared.party.Party.{Party}
-use Rattle.ringcore_laws.specs.RingSide.{items_of}
+use Rattle.ringcore_laws.specs.RingSide.{party_items}
 use Rattle.ringcore_laws.specs.declared.party.Settled.{Settled}
 use Rattle.ringcore_laws.specs.declared.protocol.Observed.{Observed}
 use Rattle.ringcore_laws.specs.declared.protocol.Span.{Span}
-use Rattle.ringcore_laws.specs.FreeRings.{AreSingle, buffers_of}
+use Rattle.ringcore_laws.specs.FreeRings.{AreSingle, buffers_had}
 use Rattle.ringcore_laws.specs.Moves.{Owns}
 use Rattle.ringcore_laws.specs.Sound.{holds, moved, occurrences}
 use Rattle.ringcore_laws.specs.History.{other_side, position_of}
 use Rattle.fabric_laws.specs.declared.view.View.{View}
 use Rattle.fabric_laws.specs.Rule.{all_parts}
-use Rattle.fabric_laws.specs.Words.{own_at, settled_at, slot_at, tail_at}
-use Rattle.fabric_laws.specs.Changes.{after_look, asked, missed, reserved, settled}
+use Rattle.fabric_laws.specs.Words.{own_at, settled_word_at, slot_at, tail_at}
+use Rattle.fabric_laws.specs.Changes.{view_after_look, asked, missed, reserved, settled}
 use Rattle.fabric_laws.specs.Closing.{IsWhole}
 
 -- slots of positions from p on, with these values
@@ -43,36 +44,44 @@ module _ {T : Type 0} where
 
   -- Look: a load of the own word
   abbrev pub look_tells : Step (Option T) → Me (Option T) (View T) → ℕ → Me (Option T) (View T) → Type 0
-  look_tells st m x m' = (r : ℕ) (side : Side) (plan : RingPlan) → st.word ≡ own_at r side → slice_get m.0.plans r ≡ Some plan
-      → (m'.0 ≡ after_look (mode_of plan side) r side x m.0) × (m'.1 ≡ m.1)
+  look_tells st m x m' =
+      (r : ℕ) (side : Side) (plan : RingPlan) → st.word ≡ own_at r side → slice_get m.0.plans r ≡ Some plan
+      → (m'.0 ≡ view_after_look (mode_of plan side) r side x m.0) × (m'.1 ≡ m.1)
       × ReadsBack r side (position_of (mode_of plan side) x) m.0 × (position_of (mode_of plan side) x ≤ LAST)
 
   -- a put into a free ring finds room for all buffers that the hand has
   abbrev pub HasRoom : (T → List ℕ) → Side → RingPlan → ℕ → ℕ → View T → Type 0
-  HasRoom tags Put plan position tail v = plan.free ≡ true → position + buffers_of tags v.pool v.party ≤ plan.geometry.capacity + tail
+  HasRoom tags Put plan position tail v =
+      plan.free ≡ true → position + buffers_had tags v.pool v.party ≤ plan.geometry.capacity + tail
   HasRoom tags Take plan position tail v = Unit {0}
 
   -- Room: a load of the word that shows how far the other side is settled
   abbrev pub room_tells : (T → List ℕ) → Step (Option T) → Me (Option T) (View T) → ℕ → Me (Option T) (View T) → Type 0
   room_tells tags st m x m' = (r : ℕ) (side : Side) (plan : RingPlan) (o : Observed)
-      → st.word ≡ settled_at (mode_of plan (other_side side)) r (other_side side)
+      → st.word ≡ settled_word_at (mode_of plan (other_side side)) r (other_side side)
       → slice_get m.0.plans r ≡ Some plan → m.0.observed ≡ Some o → o.ring ≡ r → o.side ≡ side
-      → let tail = position_of (mode_of plan (other_side side)) x in let position = position_of (mode_of plan side) o.looked_at in
+      → let tail = position_of (mode_of plan (other_side side)) x in let position =
+      position_of (mode_of plan side) o.looked_at in
       (m'.0 ≡ asked tail m.0) × (m'.1 ≡ m.1) × ReadsBack r (other_side side) tail m.0 × (tail ≤ LAST)
-      × IsNear side plan.geometry.capacity position tail × (m.0.party.span ≡ None → HasRoom tags side plan position tail m.0)
+      × IsNear side plan.geometry.capacity position tail
+      × (m.0.party.span ≡ None → HasRoom tags side plan position tail m.0)
 
-  -- Reserve: an exchange of the own word, by which the slots of the new span come to the hand, those of a take with the published items
+  -- Reserve: an exchange of the own word, by which the slots of the new span come to the hand, those of a take with the
+  -- published items
   abbrev pub reserve_put_tells : Step (Option T) → Me (Option T) (View T) → ℕ → Me (Option T) (View T) → Type 0
   reserve_put_tells st m x m' = (r n : ℕ) (plan : RingPlan) → st.word ≡ own_at r Put → st.second ≡ st.first + n
       → slice_get m.0.plans r ≡ Some plan
-      → let start = position_of plan.put st.first in let span : Span = record { ring = r; side = Put; start = start; count = n } in
-      (x ≡ st.first → (m'.0 ≡ reserved span [] m.0) × (m'.1 ≡ run (slot_at m.0.plans r plan) start (replicate n None) ++ m.1))
+      → let start = position_of plan.put st.first in let span : Span =
+      record { ring = r; side = Put; start = start; count = n } in
+      (x ≡ st.first → (m'.0 ≡ reserved span [] m.0)
+      × (m'.1 ≡ run (slot_at m.0.plans r plan) start (replicate n None) ++ m.1))
       × (x ≢ st.first → (m'.0 ≡ missed x m.0) × (m'.1 ≡ m.1))
 
   abbrev pub reserve_take_tells : Step (Option T) → Me (Option T) (View T) → ℕ → Me (Option T) (View T) → Type 0
   reserve_take_tells st m x m' = (r n : ℕ) (plan : RingPlan) → st.word ≡ own_at r Take → st.second ≡ st.first + n
       → slice_get m.0.plans r ≡ Some plan
-      → let start = position_of plan.take st.first in let span : Span = record { ring = r; side = Take; start = start; count = n } in
+      → let start = position_of plan.take st.first in let span : Span =
+      record { ring = r; side = Take; start = start; count = n } in
       (x ≡ st.first → (items : List T) × (length items ≡ n) × (m'.0 ≡ reserved span items m.0)
       × (m'.1 ≡ run (slot_at m.0.plans r plan) start (map Some items) ++ m.1))
       × (x ≢ st.first → (m'.0 ≡ missed x m.0) × (m'.1 ≡ m.1))
@@ -87,13 +96,14 @@ module _ {T : Type 0} where
   held [] = []
   held (y ∷ ys) = with_item y.1 (held ys)
 
-  -- What the slots of a span hold as it is settled: of a put the items, and nothing in the slots beyond them; of a take nothing in
-  -- the slots of the items that it takes, and the others again in theirs
+  -- What the slots of a span hold as it is settled: of a put the items, and nothing in the slots beyond them; of a take
+  -- nothing in the slots of the items that it takes, and the others again in theirs
   abbrev pub cells_of : Side → List T → List T → ℕ → List (Option T)
   cells_of Put items shown count = map Some items ++ replicate (count - length items) None
   cells_of Take items shown count = replicate (length items) None ++ map Some (drop (length items) shown)
 
-  -- a hand may settle its open span with these items: they are its own to put, or the first that the span shows, and its slots hold them
+  -- a hand may settle its open span with these items: they are its own to put, or the first that the span shows, and
+  -- its slots hold them
   pub record IsReady (tags : T → List ℕ) (plans : List RingPlan) (plan : RingPlan) (span : Span) (items : List T)
       (m : Me (Option T) (View T)) : Type 0 where
     pub busy : m.0.party.span ≡ Some span
@@ -103,7 +113,8 @@ module _ {T : Type 0} where
     pub shows : span.side ≡ Take → (items ≡ take (length items) m.0.shown) × (length m.0.shown ≡ span.count)
     pub has : m.1 ≡ run (slot_at plans span.ring plan) span.start (cells_of span.side items m.0.shown span.count)
 
-  -- what a settle of so many positions moves: a put what the hand's slots hold, a take the first items that its span shows
+  -- what a settle of so many positions moves: a put what the hand's slots hold, a take the first items that its span
+  -- shows
   abbrev pub moved_by : Span → ℕ → Me (Option T) (View T) → List T
   moved_by span k m = moved_on span.side k m
     where
@@ -116,28 +127,33 @@ module _ {T : Type 0} where
   IsHeldOnce tags pool party = (b : ℕ) → (holds tags b party ≤ 1) × (pool ≤ b → holds tags b party ≡ 0)
       × (moved tags Put b party ≤ occurrences b party.given + moved tags Take b party)
 
-  -- What a party holds doesn't clash: no position is in two of its settled spans of a side, and an item that it published and took again is
-  -- the same
+  -- What a party holds doesn't clash: no position is in two of its settled spans of a side, and an item that it
+  -- published and took again is the same
   pub record IsApart (plans : List RingPlan) (party : Party T) : Type 0 where
-    pub once : (r p : ℕ) (side : Side) (plan : RingPlan) → slice_get plans r ≡ Some plan → length (items_of r side p party) ≤ 1
+    pub once : (r p : ℕ) (side : Side) (plan : RingPlan) → slice_get plans r ≡ Some plan
+        → length (party_items r side p party) ≤ 1
     pub same : (r p : ℕ) (plan : RingPlan) (x y : T) → slice_get plans r ≡ Some plan
-        → items_of r Put p party ≡ x ∷ [] → items_of r Take p party ≡ y ∷ [] → x ≡ y
+        → party_items r Put p party ≡ x ∷ [] → party_items r Take p party ≡ y ∷ [] → x ≡ y
 
-  -- Learn: a load of any word, uncounted, by which a hand learns that what it holds doesn't clash, that it has no more parts than there
-  -- are, and that it is the only one where it has all. Nothing changes
+  -- Learn: a load of any word, uncounted, by which a hand learns that what it holds doesn't clash, that it has no more
+  -- parts than there are, and that it is the only one where it has all. Nothing changes
   abbrev pub learn_tells : (T → List ℕ) → Step (Option T) → Me (Option T) (View T) → ℕ → Me (Option T) (View T) → Type 0
-  learn_tells tags st m x m' = (m'.0 ≡ m.0) × (m'.1 ≡ m.1) × IsHeldOnce tags m.0.pool m.0.party × IsApart m.0.plans m.0.party
+  learn_tells tags st m x m' =
+      (m'.0 ≡ m.0) × (m'.1 ≡ m.1) × IsHeldOnce tags m.0.pool m.0.party × IsApart m.0.plans m.0.party
       × (m.0.parts ≤ all_parts) × IsWhole tags m.0
 
-  -- Settle of a multi side: an exchange of its tail, by which the slots of the span go home. Lost, it found that an earlier span isn't
-  -- settled
-  abbrev pub settle_tells : (T → List ℕ) → Step (Option T) → Me (Option T) (View T) → ℕ → Me (Option T) (View T) → Type 0
+  -- Settle of a multi side: an exchange of its tail, by which the slots of the span go home. Lost, it found that an
+  -- earlier span isn't settled
+  abbrev pub settle_tells : (T → List ℕ) → Step (Option T) → Me (Option T) (View T) → ℕ → Me (Option T) (View T)
+      → Type 0
   settle_tells tags st m x m' = (span : Span) → st.word ≡ tail_at span.ring span.side → m.0.party.span ≡ Some span
-      → (x ≡ st.first → (m'.0 ≡ settled span (moved_by span span.count m) m.0) × (m'.1 ≡ []) × IsHeldOnce tags m'.0.pool m'.0.party)
+      → (x ≡ st.first → (m'.0 ≡ settled span (moved_by span span.count m) m.0) × (m'.1 ≡ [])
+      × IsHeldOnce tags m'.0.pool m'.0.party)
       × (x ≢ st.first → (m'.0 ≡ missed x m.0) × (m'.1 ≡ m.1) × (x < span.start))
 
   -- Settle of an HTS side: a store of its word, by which the slots of the span go home
   abbrev pub store_tells : (T → List ℕ) → Step (Option T) → Me (Option T) (View T) → ℕ → Me (Option T) (View T) → Type 0
-  store_tells tags st m x m' = (span : Span) (k : ℕ) → st.word ≡ own_at span.ring span.side → st.first ≡ (span.start + k) * RESERVED
+  store_tells tags st m x m' =
+      (span : Span) (k : ℕ) → st.word ≡ own_at span.ring span.side → st.first ≡ (span.start + k) * RESERVED
       → m.0.party.span ≡ Some span
       → (m'.0 ≡ settled span (moved_by span k m) m.0) × (m'.1 ≡ []) × IsHeldOnce tags m'.0.pool m'.0.party

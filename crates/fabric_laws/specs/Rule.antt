@@ -1,5 +1,6 @@
 -- When a fabric is consistent: what its words, the items at home in its slots and the views of all hands have in common
-use Rattle.std.specs.Prelude.{ℕ, ◌+◌, ◌*◌, ◌<◌, ◌≤◌, ◌≡◌, ◌^◌, List, map, length, take, drop, slice_get, slice_index, true, Option, Some}
+use Rattle.std.specs.Prelude.{ℕ, ◌+◌, ◌*◌, ◌<◌, ◌≤◌, ◌≡◌, ◌^◌, List, map, length, take, drop, slice_get, slice_index}
+use Rattle.std.specs.Prelude.{true, Option, Some}
 use Rattle.std.specs.Prelude.{None, []}
 use mathlib.Core.Option.{some}
 use mathlib.Core.Option as maybe
@@ -33,12 +34,13 @@ all_parts = 2 ^ 63
 pub record IsFitting (plans : List RingPlan) (pool : ℕ) : Type 0 where
   pub spare : (r : ℕ) (plan : RingPlan) → slice_get plans r ≡ Some plan → plan.geometry.capacity < plan.geometry.size
   pub small : (r : ℕ) (plan : RingPlan) → slice_get plans r ≡ Some plan → plan.geometry.size ≤ 2 ^ 20
-  pub free_rings : (r : ℕ) (plan : RingPlan) → slice_get plans r ≡ Some plan → plan.free ≡ true → pool ≤ plan.geometry.capacity
+  pub free_rings : (r : ℕ) (plan : RingPlan) → slice_get plans r ≡ Some plan → plan.free ≡ true
+      → pool ≤ plan.geometry.capacity
 
 module _ {T : Type 0} where
   -- the hands as parties to the rings
-  abbrev pub parties_of : List (View T) → List (Party T)
-  parties_of views = map (λ v. v.party) views
+  abbrev pub parties_of_views : List (View T) → List (Party T)
+  parties_of_views views = map (λ v. v.party) views
 
   -- each own word is the one that the hands' spans make, and each tail of a multi side is how far it is settled
   pub record AreWords (plans : List RingPlan) (words : List ℕ) (parties : List (Party T)) : Type 0 where
@@ -58,7 +60,7 @@ module _ {T : Type 0} where
         → get_elem? homes (slot_at plans r plan p) ≡ some (some None)
 
   -- what a hand knows of the rings is so
-  pub record IsTrue (plans : List RingPlan) (parties : List (Party T)) (v : View T) : Type 0 where
+  pub record IsTrueView (plans : List RingPlan) (parties : List (Party T)) (v : View T) : Type 0 where
     -- a word looked at is not above what its word is now, nor a tail seen above how far the other side is settled
     pub observed : (o : Observed) → v.observed ≡ Some o → TrueObserved plans parties o × IsBehind plans parties o
     -- the items of its open take span are those published at its positions
@@ -76,19 +78,21 @@ module _ {T : Type 0} where
 module _ {T : Type 0} (tags : T → List ℕ) where
   pub record IsConsistent (plans : List RingPlan) (pool : ℕ) (s : State (Option T) (View T)) : Type 0 where
     -- the plan may be
-    pub lawful : IsFitting plans pool
-    -- no slot and no buffer has two holders, nothing is lost, and what was dequeued is a beginning of what was published
-    pub sound : Sound tags plans pool (parties_of s.views)
+    pub fitting : IsFitting plans pool
+    -- no slot and no buffer has two holders, nothing is lost, and what was dequeued is a beginning of what was
+    -- published
+    pub sound : Sound tags plans pool (parties_of_views s.views)
     -- the open spans stand behind what is settled, of a multi side without gap, of an HTS side one at most
-    pub ruled : HeadTailRule plans (parties_of s.views)
+    pub ruled : HeadTailRule plans (parties_of_views s.views)
     -- each item on a free ring carries one buffer, and nobody reserves more there than it has
-    pub free : FreeRule tags plans pool (parties_of s.views)
+    pub free : FreeRule tags plans pool (parties_of_views s.views)
     pub word_count : length s.words ≡ 64 * length plans
-    pub words : AreWords plans s.words (parties_of s.views)
+    pub words : AreWords plans s.words (parties_of_views s.views)
     pub home_count : length s.homes ≡ slot_count plans
     pub homes : (r : ℕ) (plan : RingPlan) → slice_get plans r ≡ Some plan
-        → AtHome plans s.homes (side_of (parties_of s.views) r Put) (side_of (parties_of s.views) r Take) r plan
-    pub views : (id : ℕ) (v : View T) → get_elem? s.views id ≡ some v → IsTrue plans (parties_of s.views) v
+        → AtHome plans s.homes (side_of (parties_of_views s.views) r Put) (side_of (parties_of_views s.views) r Take) r
+        plan
+    pub views : (id : ℕ) (v : View T) → get_elem? s.views id ≡ some v → IsTrueView plans (parties_of_views s.views) v
     -- each hand that is no spent one knows the plan, and all parts add up
     pub told : (id : ℕ) (v : View T) → get_elem? s.views id ≡ some v → 0 < v.parts → (v.plans ≡ plans) × (v.pool ≡ pool)
     pub spent : (id : ℕ) (v : View T) → get_elem? s.views id ≡ some v → v.parts ≡ 0 → IsSpent v

@@ -1,4 +1,5 @@
--- Where the words and the slots of a ring lie. Words that different threads write lie 128 bytes apart, so that they share no cache line
+-- Where the words and the slots of a ring lie. Words that different threads write lie 128 bytes apart, so that they
+-- share no cache line
 use Rattle.std.specs.Prelude.{ℕ, zero, suc, ◌+◌, ◌*◌, ◌%◌, List, [], ◌∷◌}
 use Rattle.std.specs.List.{sum_by}
 use Rattle.geom.specs.declared.plan.Mode.{Mode}
@@ -18,9 +19,9 @@ tail_at ring Put = 64 * ring + 16
 tail_at ring Take = 64 * ring + 48
 
 -- the word that shows how far a side is settled
-abbrev pub settled_at : Mode → ℕ → Side → ℕ
-settled_at Multi ring side = tail_at ring side
-settled_at Hts ring side = own_at ring side
+abbrev pub settled_word_at : Mode → ℕ → Side → ℕ
+settled_word_at Multi ring side = tail_at ring side
+settled_word_at Hts ring side = own_at ring side
 
 -- how many slots a ring has
 abbrev pub slots_of : RingPlan → ℕ

@@ -18,7 +18,7 @@ ghost use Rattle.geom.specs.declared.word.TheConstants.{LAST, RESERVED};
 ghost use Rattle.geom.specs.Plan.{mode_of};
 ghost use Rattle.ringcore_laws.specs.declared.protocol.Observed.{Observed};
 ghost use Rattle.ringcore_laws.specs.declared.protocol.Span.{Span};
-ghost use Rattle.ringcore_laws.specs.FreeRings.{buffers_of};
+ghost use Rattle.ringcore_laws.specs.FreeRings.{buffers_had};
 ghost use Rattle.ringcore_laws.specs.History.{other_side, position_of};
 ghost use Rattle.std.specs.List.{range_with_len};
 ghost use Rattle.fabric_laws.specs.declared.view.View.{View};
@@ -27,7 +27,7 @@ ghost use Rattle.fabric_laws.specs.Closing.{IsWhole, LeavesQueue, LiesLeft};
 ghost use Rattle.fabric_laws.specs.Kinds.{IsReady, look_tells, reserve_put_tells, reserve_take_tells, room_tells};
 ghost use Rattle.fabric_laws.specs.Kinds.{learn_tells, settle_tells, store_tells};
 ghost use Rattle.fabric_laws.specs.Rule.{IsFitting, IsConsistent, all_parts};
-ghost use Rattle.fabric_laws.specs.Words.{own_at, settled_at, slot_count, tail_at};
+ghost use Rattle.fabric_laws.specs.Words.{own_at, settled_word_at, slot_count, tail_at};
 
 /// Look, on each side and in each mode: a load of the own word.
 pub fn a_look_is_allowed<T>()
@@ -43,7 +43,7 @@ pub fn a_question_for_room_is_allowed<T>()
     ensures { (tags : T → List ℕ) (plans : List RingPlan) (pool slots id : ℕ) (me : Me (Option T) (View T)) (r : ℕ)
         (side : Side) (plan : RingPlan) (o : Observed)
         → slice_get plans r ≡ Some plan → 0 < me.0.parts → me.0.observed ≡ Some o → o.ring ≡ r → o.side ≡ side
-        → let word = settled_at (mode_of plan (other_side side)) r (other_side side) in
+        → let word = settled_word_at (mode_of plan (other_side side)) r (other_side side) in
         Allows (IsConsistent tags plans pool) slots id me word (λ n. n)
         (room_tells tags (step slots word 0 0 none) me) }
 {}
@@ -57,7 +57,7 @@ pub fn a_reserve_is_allowed<T>()
         → o.ring ≡ r → o.tail_seen ≡ Some t → 0 < n
         → o.side ≡ Put → position_of plan.put o.looked_at + n ≤ plan.geometry.capacity + t
         → position_of plan.put o.looked_at + n ≤ LAST
-        → (plan.free ≡ true → n ≤ buffers_of tags pool me.0.party)
+        → (plan.free ≡ true → n ≤ buffers_had tags pool me.0.party)
         → Allows (IsConsistent tags plans pool) slots id me (own_at r Put)
         (λ y. either (y == o.looked_at) (o.looked_at + n) y)
         (reserve_put_tells (step slots (own_at r Put) o.looked_at (o.looked_at + n) none) me) }

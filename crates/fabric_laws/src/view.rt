@@ -12,7 +12,8 @@ pub struct View<T> {
     pub shown: LinkedList<T>,
     /// What its last look found, and its last question for room since.
     pub observed: Option<Observed>,
-    /// What the last exchange since that look found, where it lost.
+    /// The word that refused the last start: what its look found, where the side was busy, or its exchange, where that
+    /// lost.
     pub lost: Option<u64>,
     /// How many steps on words the hand has made.
     pub steps: u64,

@@ -10,7 +10,8 @@ pub record Extent : Type 0 where
 
 abbrev pub extent_code : Coded Extent
 extent_code =
-    code_by (ℕ × ℕ) (coded× coded_ℕ coded_ℕ) (λ e. (e.size, e.capacity)) (λ p. record { size = p.0; capacity = p.1 }) (λ _. refl)
+    code_by (ℕ × ℕ) (coded× coded_ℕ coded_ℕ) (λ e. (e.size, e.capacity)) (λ p. record { size = p.0; capacity = p.1 })
+    (λ _. refl)
 
 -- an extent that a ring may have: at least one item, and one slot at least that stays empty
 pub record IsExtent (e : Extent) : Type 0 where

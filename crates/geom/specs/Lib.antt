@@ -1,4 +1,5 @@
 pub mod Extent
+pub mod Fault
 pub mod Fit
 pub mod Plan
 pub mod Sizes

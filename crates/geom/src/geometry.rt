@@ -6,6 +6,7 @@
 ghost use Rattle.std.specs.Prelude.{◌≡◌, ◌≢◌, ℕ, ◌+◌, ◌-◌, ◌%◌, ◌<◌, ◌≤◌, ◌^◌};
 ghost use Rattle.std.specs.Int.{IsPowerOfTwo};
 ghost use Rattle.geom.specs.Extent.{IsExtent, slot_of};
+ghost use Rattle.geom.specs.Fault.{number_of};
 ghost use Rattle.geom.specs.Sizes.{power_gives, exact_gives};
 
 use std::marker::Model;
@@ -17,12 +18,24 @@ const MAX_SIZE: u64 = 1 << 20;
 /// Why a ring can't have the size or the capacity that was asked for.
 #[derive(Clone, Copy, Debug, PartialEq, Eq, Error)]
 pub enum GeomFault {
-    #[error("NotPower")]
+    /// A count of slots from 2 to 2^20 that is no power of two.
+    #[error("not a power: a count of slots is a power of two")]
     NotPower = 1,
-    #[error("TooSmall")]
+    /// Fewer than two slots, or a capacity of no item.
+    #[error("too small: a ring has two slots at least, and takes one item")]
     TooSmall = 2,
-    #[error("TooLarge")]
+    /// More than 2^20 slots, or a capacity that needs more.
+    #[error("too large: a ring has 2^20 slots at most")]
     TooLarge = 3,
+}
+
+impl GeomFault {
+    /// 1 `NotPower`, 2 `TooSmall`, 3 `TooLarge`.
+    pub fn number(self) -> u8
+        ensures { result ≡ number_of self }
+    {
+        self as u8
+    }
 }
 
 /// How many slots a ring has, and how many items it takes: a power of two of slots, and fewer items than slots.

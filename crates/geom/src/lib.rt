@@ -1,7 +1,18 @@
 //! The geometry of rings: how many slots and items a ring has, in which slot a position lies, the modes of its two
 //! sides, and the packed word of a head/tail-sync side. No call takes memory.
+//!
+//! A caller, proved in `example.rt`: a ring that was made for `capacity` items grants a first burst as many, and the
+//! `unwrap` can't fail.
+//!
+//! ```text
+//! let geometry = Geometry::exact(capacity).unwrap();
+//! let plan = RingPlan::alike(geometry, Mode::Multi, false);
+//! How::Burst.granted(n, plan.geometry.capacity())  // the smaller of n and capacity
+//! ```
 #![tactic(auto)]
 
+#[cfg(test)]
+mod example;
 mod geometry;
 mod plan;
 #[cfg(test)]

@@ -18,7 +18,9 @@ pub enum Mode {
 /// A side of a ring: producers put, consumers take.
 #[derive(Clone, Copy, Debug, PartialEq, Eq)]
 pub enum Side {
+    /// The side of the producers.
     Put,
+    /// The side of the consumers.
     Take,
 }
 
@@ -48,6 +50,7 @@ impl How {
 /// What a ring is to be.
 #[derive(Clone, Copy, Debug)]
 pub struct RingPlan {
+    /// How many slots and items the ring has.
     pub geometry: Geometry,
     /// The mode of the put side.
     pub put: Mode,

@@ -48,7 +48,7 @@ fn refusals_and_their_names(rt: HostRuntime) -> Result<(), Fail> {
     ];
     for (made, text) in cases {
         let fault = made.err().ok_or("a geometry that should be refused")?;
-        let told = format!(in rt.alloc(); "{} {fault}", fault as u8)?;
+        let told = format!(in rt.alloc(); "{} {fault:?}", fault.number())?;
         assert_eq!(rt; told.as_str(), text);
     }
     Ok(())

@@ -4,7 +4,7 @@ use Rattle.std.proofs.lemmas.Nat.{pow_pos, pow-add, shl-shr, shr_split, div-mul-
 use Rattle.std.proofs.Math.Nat.{mul_assoc}
 use Rattle.lpm.specs.Prefixes.{size_of, first_bits, masked}
 use Rattle.lpm.proofs.Masks.{size_pos, first_bits-shallower, shared_shallower, shared_from_masked, masked_le, below_next, masked_among}
-use Rattle.lpm.proofs.GroupPaint.{group_span}
+use Rattle.lpm.proofs.GroupOverwrites.{group_span}
 
 pub first_bits-place : (bits i low : ℕ) → low < size_of bits → first_bits (i * size_of bits + low) bits ≡ i
 first_bits-place bits i low h = div-mul-add i (size_of bits) low h

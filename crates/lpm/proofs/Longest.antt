@@ -4,34 +4,34 @@ use Rattle.std.specs.Ordering.{eq_by_cmp, is_eq}
 use Rattle.std.specs.Cmp.{tied_itself, Equal-is}
 use Rattle.std.specs.FinMap as map
 use Rattle.lpm.specs.declared.prefix.Prefix.{Prefix}
-use Rattle.lpm.specs.Cell.{Cell, cell, painted}
+use Rattle.lpm.specs.TableEntry.{TableEntry, entry_of, overwritten}
 use Rattle.lpm.specs.Prefixes.{Members, prefix_cmp, prefix_of, masked, first_bits}
-use Rattle.lpm.specs.Match.{longest, cell_or}
+use Rattle.lpm.specs.Match.{longest, entry_or}
 use Rattle.lpm.proofs.Keys.{prefix_total, prefix_antisymmetric}
 use Rattle.lpm.proofs.Masks.{shared_shallower}
-use Rattle.lpm.proofs.Cells.{painted-deeper, painted-covered}
+use Rattle.lpm.proofs.Overwritten.{overwritten-deeper, overwritten-covered}
 use Rattle.std.proofs.lemmas.Bool.{cases_lt}
 use Rattle.std.proofs.Common.{inl, inr}
 
-cell_or-depth : (w : Option ℕ) (d n : ℕ) (c : Cell) → d ≤ n → c.depth ≤ n → (cell_or w d c).depth ≤ n
-cell_or-depth None d n c h k = k
-cell_or-depth (Some x) d n c h k = h
+entry_or-depth : (w : Option ℕ) (d n : ℕ) (c : TableEntry) → d ≤ n → c.depth ≤ n → (entry_or w d c).depth ≤ n
+entry_or-depth None d n c h k = k
+entry_or-depth (Some x) d n c h k = h
 
 pub longest-depth : (m : Members) (a n : ℕ) → (longest m a n).depth ≤ n
 unfolding longest
 longest-depth m a zero = omega arith
-longest-depth m a (suc n) = cell_or-depth (map.get m (prefix_of a (suc n))) (suc n) (suc n) (longest m a n) (omega arith)
+longest-depth m a (suc n) = entry_or-depth (map.get m (prefix_of a (suc n))) (suc n) (suc n) (longest m a n) (omega arith)
     (omega (arith, longest-depth m a n))
 
-pub longest-zero : (m : Members) (a : ℕ) → longest m a 0 ≡ cell 0 0
+pub longest-zero : (m : Members) (a : ℕ) → longest m a 0 ≡ entry_of 0 0
 unfolding longest
 longest-zero m a = refl
 
 -- where a member of this depth holds the address, it is the longest of at most this depth
-pub longest-here : (m : Members) (a d h : ℕ) → 0 < d → map.get m (prefix_of a d) ≡ Some h → longest m a d ≡ cell d h
+pub longest-here : (m : Members) (a d h : ℕ) → 0 < d → map.get m (prefix_of a d) ≡ Some h → longest m a d ≡ entry_of d h
 unfolding longest
 longest-here m a zero h pos e = absurd (omega arith)
-longest-here m a (suc d) h pos e = ap (λ w. cell_or w (suc d) (longest m a d)) e
+longest-here m a (suc d) h pos e = ap (λ w. entry_or w (suc d) (longest m a d)) e
 
 -- and where none does, the longest is shorter
 pub longest-shorter : (m : Members) (a d : ℕ) → 0 < d → map.get m (prefix_of a d) ≡ None → longest m a d ≡ longest m a (d - 1)
@@ -39,7 +39,7 @@ unfolding longest
 longest-shorter m a zero pos e = absurd (omega arith)
 longest-shorter m a (suc d) pos e =
     let same : d ≡ suc d - 1 = omega arith in
-    ap (λ w. cell_or w (suc d) (longest m a d)) e ∙ ap (longest m a) same
+    ap (λ w. entry_or w (suc d) (longest m a d)) e ∙ ap (longest m a) same
 
 -- addresses that share their first n bits have one longest match of at most n bits
 pub longest-shared : (m : Members) (a b n : ℕ) → first_bits a n ≡ first_bits b n → n ≤ 32 → longest m a n ≡ longest m b n
@@ -47,7 +47,7 @@ unfolding longest
 longest-shared m a b zero e h = refl
 longest-shared m a b (suc n) e h =
     let below : longest m a n ≡ longest m b n = longest-shared m a b n (shared_shallower a b (suc n) n e (omega arith) h) (omega arith) in
-    λ i. cell_or (map.get m (record { address = e i * 2 ^ (32 - suc n); depth = suc n })) (suc n) (below i)
+    λ i. entry_or (map.get m (record { address = e i * 2 ^ (32 - suc n); depth = suc n })) (suc n) (below i)
 
 -- the members m with w, a hop or none, at the one prefix k
 abbrev pub ChangesAt : Members → Members → Prefix → Option ℕ → Type 0
@@ -66,9 +66,10 @@ changed_apart m m' k w change q apart =
 pub changed_here : (m m' : Members) (k : Prefix) (w : Option ℕ) → ChangesAt m m' k w → map.get m' k ≡ w
 changed_here m m' k w change = change k ∙ ap (λ b. cond b w (map.get m k)) (ap is_eq (tied_itself prefix_total k))
 
-cell_or-painted : (g : Option ℕ) (n d : ℕ) (new c c' : Cell) → d < n → c' ≡ painted d new c → cell_or g n c' ≡ painted d new (cell_or g n c)
-cell_or-painted None n d new c c' h e = e
-cell_or-painted (Some hop) n d new c c' h e = sym (painted-deeper d new (cell n hop) h)
+entry_or-overwritten : (g : Option ℕ) (n d : ℕ) (new c c' : TableEntry) → d < n → c' ≡ overwritten d new c
+    → entry_or g n c' ≡ overwritten d new (entry_or g n c)
+entry_or-overwritten None n d new c c' h e = e
+entry_or-overwritten (Some hop) n d new c c' h e = sym (overwritten-deeper d new (entry_of n hop) h)
 
 module _ (m m' : Members) (x d : ℕ) (w : Option ℕ) (change : ChangesAt m m' (prefix_of x d) w) where
   -- a member deeper than n has no part in a match of at most n bits
@@ -77,7 +78,7 @@ module _ (m m' : Members) (x d : ℕ) (w : Option ℕ) (change : ChangesAt m m' 
   longest-deeper a zero h = refl
   longest-deeper a (suc n) h =
       let apart : prefix_of a (suc n) ≢ prefix_of x d = λ e. omega (arith, ap (λ (p : Prefix). p.depth) e) in
-      λ i. cell_or (changed_apart m m' _ w change (prefix_of a (suc n)) apart i) (suc n) (longest-deeper a n (omega arith) i)
+      λ i. entry_or (changed_apart m m' _ w change (prefix_of a (suc n)) apart i) (suc n) (longest-deeper a n (omega arith) i)
 
   -- nor has it at an address that it doesn't hold
   pub longest-outside : (a n : ℕ) → masked a d ≢ masked x d → longest m' a n ≡ longest m a n
@@ -86,9 +87,9 @@ module _ (m m' : Members) (x d : ℕ) (w : Option ℕ) (change : ChangesAt m m' 
   longest-outside a (suc n) h =
       let apart : prefix_of a (suc n) ≢ prefix_of x d =
       λ e. h (subst (λ k. masked a k ≡ masked x d) (ap (λ (p : Prefix). p.depth) e) (ap (λ (p : Prefix). p.address) e)) in
-      λ i. cell_or (changed_apart m m' _ w change (prefix_of a (suc n)) apart i) (suc n) (longest-outside a n h i)
+      λ i. entry_or (changed_apart m m' _ w change (prefix_of a (suc n)) apart i) (suc n) (longest-outside a n h i)
 
-  at_depth : (a n : ℕ) → masked a d ≡ masked x d → d ≡ suc n → longest m' a (suc n) ≡ cell_or w d (longest m a (d - 1))
+  at_depth : (a n : ℕ) → masked a d ≡ masked x d → d ≡ suc n → longest m' a (suc n) ≡ entry_or w d (longest m a (d - 1))
   unfolding longest
   at_depth a n e is =
       let same : prefix_of a (suc n) ≡ prefix_of x d =
@@ -96,23 +97,23 @@ module _ (m m' : Members) (x d : ℕ) (w : Option ℕ) (change : ChangesAt m m' 
       let found : map.get m' (prefix_of a (suc n)) ≡ w = ap (map.get m') same ∙ changed_here m m' _ w change in
       let shorter : n ≡ d - 1 = omega arith in
       let below : longest m' a n ≡ longest m a (d - 1) = longest-deeper a n (omega arith) ∙ ap (longest m a) shorter in
-      λ i. cell_or (found i) (sym is i) (below i)
+      λ i. entry_or (found i) (sym is i) (below i)
 
-  deeper_step : (a n : ℕ) (new : Cell) → d < suc n → longest m' a n ≡ painted d new (longest m a n)
-      → longest m' a (suc n) ≡ painted d new (longest m a (suc n))
+  deeper_step : (a n : ℕ) (new : TableEntry) → d < suc n → longest m' a n ≡ overwritten d new (longest m a n)
+      → longest m' a (suc n) ≡ overwritten d new (longest m a (suc n))
   unfolding longest
   deeper_step a n new h before =
       let apart : prefix_of a (suc n) ≢ prefix_of x d = λ e. omega (arith, ap (λ (p : Prefix). p.depth) e) in
-      ap (λ g. cell_or g (suc n) (longest m' a n)) (changed_apart m m' _ w change (prefix_of a (suc n)) apart)
-      ∙ cell_or-painted (map.get m (prefix_of a (suc n))) (suc n) d new _ _ h before
+      ap (λ g. entry_or g (suc n) (longest m' a n)) (changed_apart m m' _ w change (prefix_of a (suc n)) apart)
+      ∙ entry_or-overwritten (map.get m (prefix_of a (suc n))) (suc n) d new _ _ h before
 
   -- at an address that it holds, what was no deeper gives way to it, or to the next shorter member
   pub longest-covered : (a n : ℕ) → masked a d ≡ masked x d → 0 < d → d ≤ n
-      → longest m' a n ≡ painted d (cell_or w d (longest m a (d - 1))) (longest m a n)
+      → longest m' a n ≡ overwritten d (entry_or w d (longest m a (d - 1))) (longest m a n)
   longest-covered a zero e pos h = absurd (omega arith)
   longest-covered a (suc n) e pos h =
       elim (cases_lt n d) [
         | inl below ↦
-            at_depth a n e (omega arith) ∙ sym (painted-covered d _ (longest m a (suc n)) (omega (arith, longest-depth m a (suc n))))
+            at_depth a n e (omega arith) ∙ sym (overwritten-covered d _ (longest m a (suc n)) (omega (arith, longest-depth m a (suc n))))
         | inr above ↦ deeper_step a n _ (omega arith) (longest-covered a n e pos above)
       ]

@@ -3,16 +3,16 @@ use Rattle.std.proofs.Common.{◌≡◌, ◌≢◌, ℕ, zero, suc, ◌≤◌, �
 use Rattle.std.proofs.lemmas.Bool.{cases_lt, cases_eq}
 use Rattle.std.proofs.lemmas.Bool.Decides.{nat_tests}
 use Rattle.std.specs.FinMap as map
-use Rattle.lpm.specs.Cell.{Cell, hop_of}
+use Rattle.lpm.specs.TableEntry.{TableEntry, hop_of}
 use Rattle.lpm.specs.Prefixes.{Members, prefix_of}
-use Rattle.lpm.specs.Match.{Holds, IsLongestMatch, longest, cell_or, lookup_in}
+use Rattle.lpm.specs.Match.{Holds, IsLongestMatch, longest, entry_or, lookup_in}
 
--- a cell that was found is that of a member
-abbrev pub IsFound : Members → ℕ → Cell → Type 0
+-- an entry that was found is that of a member
+abbrev pub IsFound : Members → ℕ → TableEntry → Type 0
 IsFound m a c = 0 < c.depth → Holds m a c.depth c.number
 
-found_or : (m : Members) (a n : ℕ) (w : Option ℕ) (c : Cell) → map.get m (prefix_of a (suc n)) ≡ w → suc n ≤ 32 → IsFound m a c
-    → IsFound m a (cell_or w (suc n) c)
+found_or : (m : Members) (a n : ℕ) (w : Option ℕ) (c : TableEntry) → map.get m (prefix_of a (suc n)) ≡ w → suc n ≤ 32 → IsFound m a c
+    → IsFound m a (entry_or w (suc n) c)
 found_or m a n None c e h k = k
 found_or m a n (Some hop) c e h k = λ _. record { lawful = (omega arith, h); member = e }
 
@@ -21,11 +21,11 @@ unfolding longest
 longest_found m a zero h = λ pos. absurd (omega arith)
 longest_found m a (suc n) h = found_or m a n _ (longest m a n) refl h (longest_found m a n (omega arith))
 
-found_here : (w : Option ℕ) (n d h : ℕ) (c : Cell) → w ≡ Some h → d ≤ n → d ≤ (cell_or w n c).depth
+found_here : (w : Option ℕ) (n d h : ℕ) (c : TableEntry) → w ≡ Some h → d ≤ n → d ≤ (entry_or w n c).depth
 found_here None n d h c e k = cc
 found_here (Some x) n d h c e k = k
 
-kept_or : (w : Option ℕ) (n d : ℕ) (c : Cell) → d ≤ n → d ≤ c.depth → d ≤ (cell_or w n c).depth
+kept_or : (w : Option ℕ) (n d : ℕ) (c : TableEntry) → d ≤ n → d ≤ c.depth → d ≤ (entry_or w n c).depth
 kept_or None n d c k e = e
 kept_or (Some x) n d c k e = k
 
@@ -41,13 +41,13 @@ longest_greatest m a (suc n) d h holds k =
       | inr deeper ↦ kept_or _ (suc n) d (longest m a n) k (longest_greatest m a n d h holds deeper)
     ]
 
-pub hop_of-none : (c : Cell) → c.depth ≡ 0 → hop_of c ≡ None
+pub hop_of-none : (c : TableEntry) → c.depth ≡ 0 → hop_of c ≡ None
 hop_of-none c e = grind (arith, nat_tests)
 
-pub hop_of-some : (c : Cell) → c.depth ≢ 0 → hop_of c ≡ Some c.number
+pub hop_of-some : (c : TableEntry) → c.depth ≢ 0 → hop_of c ≡ Some c.number
 hop_of-some c e = grind (arith, nat_tests)
 
-pub answer_holds : (m : Members) (a : ℕ) (c : Cell) → IsFound m a c → ((d h : ℕ) → Holds m a d h → d ≤ c.depth)
+pub answer_holds : (m : Members) (a : ℕ) (c : TableEntry) → IsFound m a c → ((d h : ℕ) → Holds m a d h → d ≤ c.depth)
     → IsLongestMatch m a (hop_of c)
 answer_holds m a c found greatest =
     elim (cases_eq c.depth 0) [

@@ -1,5 +1,6 @@
 -- A right table stays right through each step of an add or a remove.
-use Rattle.std.proofs.Common.{◌≡◌, ◌≢◌, ℕ, ◌+◌, ◌-◌, ◌*◌, ◌^◌, ◌<◌, ◌≤◌, Bool, true, false, cond, Option, Some, None, IsSome, List, get_or, refl, sym, ap, ◌∙◌, subst, inl, inr, ◌↔◌, arith}
+use Rattle.std.proofs.Common.{◌≡◌, ◌≢◌, ℕ, ◌+◌, ◌-◌, ◌*◌, ◌^◌, ◌<◌, ◌≤◌, Bool, true, false, cond, Option, Some, None, IsSome, List, get_or, refl, sym, ap, ◌∙◌}
+use Rattle.std.proofs.Common.{subst, inl, inr, ◌↔◌, arith}
 use Rattle.std.proofs.lemmas.Bool.{cases_eq, cases_Bool}
 use Rattle.std.specs.FinMap as fin_map
 use Rattle.std.specs.FinSet as fin_set
@@ -7,11 +8,11 @@ use Rattle.std.specs.FinMap.{get-insert, get-remove}
 use Rattle.std.specs.List.{count_by}
 use Rattle.std.specs.Cmp.{nat_cmp_total, Equal-is}
 use Rattle.lpm.specs.declared.prefix.Prefix.{Prefix}
-use Rattle.lpm.specs.Cell.{Cell, cell, is_group, painted}
+use Rattle.lpm.specs.TableEntry.{TableEntry, entry_of, is_group, overwritten}
 use Rattle.lpm.specs.Prefixes.{Members, AreMembers, IsDepth, IsMember, prefix_of, prefix_cmp, masked, first_bits, size_of}
-use Rattle.lpm.specs.Match.{longest, cell_or}
+use Rattle.lpm.specs.Match.{longest, entry_or}
 use Rattle.lpm.specs.Groups.{deeper_firsts, has_deeper, groups_of}
-use Rattle.lpm.specs.Plane.{Plane, EachPlace, address_at, first_at, cell_at, used_of, Grows, Regroups, Paints, KeepsGroups}
+use Rattle.lpm.specs.TwoLevels.{TwoLevels, EachPlace, address_at, first_at, entry_at, used_of, Grows, Regroups, Overwrites, KeepsGroups}
 use Rattle.lpm.specs.Right.{IsRight}
 use Rattle.std.specs.Ordering.{eq_by_cmp}
 use Rattle.lpm.proofs.Keys.{prefix_total, prefix_antisymmetric}
@@ -29,41 +30,41 @@ pub removes : (m : Members) (k : Prefix) → ChangesAt m (fin_map.remove m k) k 
 removes m k q = get-remove prefix_total m k q
 
 -- a table is right for members that its places and groups say, whatever it said before
-pub right_for : (p q : Plane) (m m' : Members) → IsRight p m → q.bits ≡ p.bits → q.limit ≡ p.limit → AreMembers m'
-    → EachPlace p (λ i low. cell_at q i low ≡ longest m' (address_at p i low) 32)
+pub right_for : (p q : TwoLevels) (m m' : Members) → IsRight p m → q.bits ≡ p.bits → q.limit ≡ p.limit → AreMembers m'
+    → EachPlace p (λ i low. entry_at q i low ≡ longest m' (address_at p i low) 32)
     → ((i : ℕ) → i < 2 ^ p.bits → is_group (first_at q i) ≡ has_deeper p.bits m' i)
     → used_of q ≡ groups_of p.bits m' → used_of q ≤ p.limit → IsRight q m'
-right_for p q m m' r bits limit are cells grouped used within = record {
+right_for p q m m' r bits limit are entries grouped used within = record {
   some = subst (λ n. 0 < n) (sym bits) r.some;
   most = subst (λ n. n ≤ 24) (sym bits) r.most;
   members = are;
   right = λ i low fits_i fits.
-      cells i low (subst (λ n. i < 2 ^ n) bits fits_i) (subst (λ n. low < size_of n) bits fits)
+      entries i low (subst (λ n. i < 2 ^ n) bits fits_i) (subst (λ n. low < size_of n) bits fits)
       ∙ ap (λ n. longest m' (i * size_of n + low) 32) (sym bits);
   grouped = λ i fits. grouped i (subst (λ n. i < 2 ^ n) bits fits) ∙ ap (λ n. has_deeper n m' i) (sym bits);
   used = used ∙ ap (λ n. groups_of n m') (sym bits);
   within = subst (λ n. used_of q ≤ n) (sym limit) within;
 }
 
--- places painted for one prefix say the new longest match, where the paint is what holds there now
-pub painted_right : (p q r : Plane) (m m' : Members) (x d : ℕ) (w : Option ℕ) (c : Cell) → IsRight p m → q.bits ≡ p.bits
-    → EachPlace p (λ i low. cell_at q i low ≡ cell_at p i low)
-    → IsDepth d → ChangesAt m m' (prefix_of x d) w → ((a : ℕ) → masked a d ≡ masked x d → c ≡ cell_or w d (longest m a (d - 1)))
-    → Paints q r (prefix_of x d) c
-    → EachPlace p (λ i low. cell_at r i low ≡ longest m' (address_at p i low) 32)
-painted_right p q r m m' x d w c right bits same lawful change is paints i low fits_i fits =
+-- places overwritten for one prefix say the new longest match, where the overwrite is what holds there now
+pub overwritten_right : (p q r : TwoLevels) (m m' : Members) (x d : ℕ) (w : Option ℕ) (c : TableEntry) → IsRight p m → q.bits ≡ p.bits
+    → EachPlace p (λ i low. entry_at q i low ≡ entry_at p i low)
+    → IsDepth d → ChangesAt m m' (prefix_of x d) w → ((a : ℕ) → masked a d ≡ masked x d → c ≡ entry_or w d (longest m a (d - 1)))
+    → Overwrites q r (prefix_of x d) c
+    → EachPlace p (λ i low. entry_at r i low ≡ longest m' (address_at p i low) 32)
+overwritten_right p q r m m' x d w c right bits same lawful change is overwrites i low fits_i fits =
     let a : ℕ = address_at p i low in
-    let entry : i < 2 ^ q.bits = subst (λ n. i < 2 ^ n) (sym bits) fits_i in
+    let in_level : i < 2 ^ q.bits = subst (λ n. i < 2 ^ n) (sym bits) fits_i in
     let place : low < size_of q.bits = subst (λ n. low < size_of n) (sym bits) fits in
     let address : i * size_of q.bits + low ≡ a = ap (λ n. i * size_of n + low) bits in
-    let was : cell_at q i low ≡ longest m a 32 = same i low fits_i fits ∙ right.right i low fits_i fits in
+    let was : entry_at q i low ≡ longest m a 32 = same i low fits_i fits ∙ right.right i low fits_i fits in
     elim (cases_eq (masked a d) (masked x d)) [
       | inl held ↦
-          paints.covered i low entry place (ap (λ n. masked n d) address ∙ held)
-          ∙ ap (painted d c) was ∙ ap (λ e. painted d e (longest m a 32)) (is a held)
+          overwrites.covered i low in_level place (ap (λ n. masked n d) address ∙ held)
+          ∙ ap (overwritten d c) was ∙ ap (λ e. overwritten d e (longest m a 32)) (is a held)
           ∙ sym (longest-covered m m' x d w change a 32 held lawful.0 lawful.1)
       | inr other ↦
-          paints.others i low entry place (λ e. other (sym (ap (λ n. masked n d) address) ∙ e)) ∙ was
+          overwrites.others i low in_level place (λ e. other (sym (ap (λ n. masked n d) address) ∙ e)) ∙ was
           ∙ sym (longest-outside m m' x d w change a 32 other)
     ]
 
@@ -88,20 +89,20 @@ prefix_is_member x d hop lawful short small = record {
 }
 
 -- a member no deeper than the first level is added or removed
-pub right_shallow : (p q : Plane) (m m' : Members) (x d : ℕ) (w : Option ℕ) (c : Cell) → IsRight p m → IsDepth d → d ≤ p.bits
+pub right_shallow : (p q : TwoLevels) (m m' : Members) (x d : ℕ) (w : Option ℕ) (c : TableEntry) → IsRight p m → IsDepth d → d ≤ p.bits
     → ChangesAt m m' (prefix_of x d) w → AreMembers m'
-    → ((a : ℕ) → masked a d ≡ masked x d → c ≡ cell_or w d (longest m a (d - 1))) → KeepsGroups p q → Paints p q (prefix_of x d) c
+    → ((a : ℕ) → masked a d ≡ masked x d → c ≡ entry_or w d (longest m a (d - 1))) → KeepsGroups p q → Overwrites p q (prefix_of x d) c
     → IsRight q m'
-right_shallow p q m m' x d w c right lawful shallow change are is keeps paints =
+right_shallow p q m m' x d w c right lawful shallow change are is keeps overwrites =
     let firsts = firsts_of_shallow p.bits m m' (prefix_of x d) w change shallow in
     right_for p q m m' right keeps.bits keeps.limit are
-    (painted_right p p q m m' x d w c right refl (λ i low fits_i fits. refl) lawful change is paints)
+    (overwritten_right p p q m m' x d w c right refl (λ i low fits_i fits. refl) lawful change is overwrites)
     (λ i fits. keeps.kinds i ∙ right.grouped i fits ∙ ap (λ s. fin_set.contains s i) (sym firsts))
     (keeps.used ∙ right.used ∙ ap fin_set.len (sym firsts))
     (omega (arith, keeps.used, right.within))
 
 -- how many groups the members need with one deep member more
-pub groups_with : (p : Plane) (m m' : Members) (x d hop : ℕ) → ChangesAt m m' (prefix_of x d) (Some hop) → p.bits < d
+pub groups_with : (p : TwoLevels) (m m' : Members) (x d hop : ℕ) → ChangesAt m m' (prefix_of x d) (Some hop) → p.bits < d
     → groups_of p.bits m' ≡ cond (has_deeper p.bits m (first_bits (masked x d) p.bits)) (groups_of p.bits m) (groups_of p.bits m + 1)
 groups_with p m m' x d hop change deep =
     let f : ℕ = first_bits (masked x d) p.bits in
@@ -118,13 +119,13 @@ groups_with p m m' x d hop change deep =
     ∙ fin_set.len-insert nat_cmp_total (deeper_firsts p.bits m) f
 
 -- a deep member is added: its entry has a group afterwards
-pub right_deep : (p q r : Plane) (m m' : Members) (x d hop : ℕ) → IsRight p m → IsDepth d → p.bits < d
+pub right_deep : (p q r : TwoLevels) (m m' : Members) (x d hop : ℕ) → IsRight p m → IsDepth d → p.bits < d
     → ChangesAt m m' (prefix_of x d) (Some hop) → AreMembers m'
-    → q.bits ≡ p.bits → q.limit ≡ p.limit → EachPlace p (λ i low. cell_at q i low ≡ cell_at p i low)
+    → q.bits ≡ p.bits → q.limit ≡ p.limit → EachPlace p (λ i low. entry_at q i low ≡ entry_at p i low)
     → is_group (first_at q (first_bits (masked x d) p.bits)) ≡ true →
     ((i : ℕ) → i ≢ first_bits (masked x d) p.bits → is_group (first_at q i) ≡ is_group (first_at p i))
-    → used_of q ≡ groups_of p.bits m' → used_of q ≤ p.limit → KeepsGroups q r → Paints q r (prefix_of x d) (cell d hop) → IsRight r m'
-right_deep p q r m m' x d hop right lawful deep change are bits limit same here others used within keeps paints =
+    → used_of q ≡ groups_of p.bits m' → used_of q ≤ p.limit → KeepsGroups q r → Overwrites q r (prefix_of x d) (entry_of d hop) → IsRight r m'
+right_deep p q r m m' x d hop right lawful deep change are bits limit same here others used within keeps overwrites =
     let f : ℕ = first_bits (masked x d) p.bits in
     let has : has_deeper p.bits m' f ≡ true =
     deeper_has p.bits m' f (record {
@@ -136,7 +137,7 @@ right_deep p q r m m' x d hop right lawful deep change are bits limit same here 
       among = refl;
     }) in
     right_for p r m m' right (keeps.bits ∙ bits) (keeps.limit ∙ limit) are
-    (painted_right p q r m m' x d (Some hop) (cell d hop) right bits same lawful change (λ a e. refl) paints)
+    (overwritten_right p q r m m' x d (Some hop) (entry_of d hop) right bits same lawful change (λ a e. refl) overwrites)
     (λ i fits. keeps.kinds i ∙ elim (cases_eq i f) [
       | inl at ↦ subst (λ n. is_group (first_at q n) ≡ has_deeper p.bits m' n) (sym at) (here ∙ sym has)
       | inr other ↦ others i other ∙ right.grouped i fits ∙ sym (has_deeper_other p.bits m m' (prefix_of x d) (Some hop) change i other)
@@ -145,14 +146,14 @@ right_deep p q r m m' x d hop right lawful deep change are bits limit same here 
     (omega (arith, keeps.used))
 
 -- a member no deeper than the first level needs no further group
-pub shallow_fits : (p : Plane) (m m' : Members) (x d : ℕ) (w : Option ℕ) → IsRight p m → d ≤ p.bits → ChangesAt m m' (prefix_of x d) w
+pub shallow_fits : (p : TwoLevels) (m m' : Members) (x d : ℕ) (w : Option ℕ) → IsRight p m → d ≤ p.bits → ChangesAt m m' (prefix_of x d) w
     → groups_of p.bits m' ≤ p.limit
 shallow_fits p m m' x d w right shallow change =
     let same = ap fin_set.len (firsts_of_shallow p.bits m m' (prefix_of x d) w change shallow) in
     omega (arith, right.used, right.within)
 
 -- a deeper member needs too many groups exactly where its entry has none and no more may be had
-pub deep_needs : (p : Plane) (m m' : Members) (x d hop f : ℕ) → IsRight p m → ChangesAt m m' (prefix_of x d) (Some hop) → p.bits < d
+pub deep_needs : (p : TwoLevels) (m m' : Members) (x d hop f : ℕ) → IsRight p m → ChangesAt m m' (prefix_of x d) (Some hop) → p.bits < d
     → f ≡ first_bits (masked x d) p.bits → f < 2 ^ p.bits
     → ((is_group (first_at p f) ≡ false) × (used_of p ≡ p.limit)) ↔ (p.limit < groups_of p.bits m')
 deep_needs p m m' x d hop f right change deep at fits =
@@ -180,24 +181,24 @@ members_without m k are = members_changed m (fin_map.remove m k) k None (removes
 abbrev old_or_new : Bool → ℕ
 old_or_new b = cond b 0 1
 
--- a deep member is added by its steps: room for a group, the entry's group, and the paint
-pub deep_added : (p q r s : Plane) (m m' : Members) (x d hop f : ℕ) → IsRight p m → IsDepth d → p.bits < d
+-- a deep member is added by its steps: room for a group, the entry's group, and the overwrite
+pub deep_added : (p q r s : TwoLevels) (m m' : Members) (x d hop f : ℕ) → IsRight p m → IsDepth d → p.bits < d
     → ChangesAt m m' (prefix_of x d) (Some hop) → AreMembers m'
     → f ≡ first_bits (masked x d) p.bits → f < 2 ^ p.bits → Grows p q → Regroups q r f true
     → used_of r ≡ used_of q + cond (is_group (first_at q f)) 0 1
-    → (is_group (first_at p f) ≡ false → used_of p < p.limit) → KeepsGroups r s → Paints r s (prefix_of x d) (cell d hop) → IsRight s m'
-deep_added p q r s m m' x d hop f right lawful deep change are at fits grows opens used room keeps paints =
+    → (is_group (first_at p f) ≡ false → used_of p < p.limit) → KeepsGroups r s → Overwrites r s (prefix_of x d) (entry_of d hop) → IsRight s m'
+deep_added p q r s m m' x d hop f right lawful deep change are at fits grows opens used room keeps overwrites =
     let g : ℕ = groups_of p.bits m in
     let kind : (i : ℕ) → is_group (first_at q i) ≡ is_group (first_at p i) = λ i. ap
-    (λ (es : List Cell). is_group (get_or es i (cell 0 0))) grows.first in
-    let same_used : used_of q ≡ used_of p = ap (λ (es : List Cell). count_by is_group es) grows.first in
+    (λ (es : List TableEntry). is_group (get_or es i (entry_of 0 0))) grows.first in
+    let same_used : used_of q ≡ used_of p = ap (λ (es : List TableEntry). count_by is_group es) grows.first in
     let needs : groups_of p.bits m' ≡ cond (is_group (first_at p f)) g (g + 1) =
     groups_with p m m' x d hop change deep ∙ ap (λ n. cond (has_deeper p.bits m n) g (g + 1)) (sym at)
     ∙ ap (λ b. cond b g (g + 1)) (sym (right.grouped f fits)) in
     let counts : used_of r ≡ used_of p + cond (is_group (first_at p f)) 0 1 = used ∙ (λ i. same_used i + cond (kind f i) 0 1) in
     right_deep p r s m m' x d hop right lawful deep change are (opens.bits ∙ grows.bits) (opens.limit ∙ grows.limit)
-    (λ i low fits_i fits_low. opens.cells i low (subst (λ n. i < 2 ^ n) (sym grows.bits) fits_i)
-    (subst (λ n. low < size_of n) (sym grows.bits) fits_low) ∙ grows.cells i low fits_i fits_low)
+    (λ i low fits_i fits_low. opens.entries i low (subst (λ n. i < 2 ^ n) (sym grows.bits) fits_i)
+    (subst (λ n. low < size_of n) (sym grows.bits) fits_low) ∙ grows.entries i low fits_i fits_low)
     (subst (λ n. is_group (first_at r n) ≡ true) at opens.here)
     (λ i other. opens.others i (λ e. other (e ∙ at)) ∙ kind i)
     (elim (cases_Bool (is_group (first_at p f))) [
@@ -210,18 +211,18 @@ deep_added p q r s m m' x d hop f right lawful deep change are at fits grows ope
       | inl grouped ↦ let b = ap old_or_new grouped in omega (arith, right.within)
       | inr plain ↦ let b = ap old_or_new plain in omega (arith, room plain)
     ])
-    keeps paints
+    keeps overwrites
 
 -- a member is removed: its places say what is left
-pub removed_places : (p q : Plane) (m m' : Members) (x d : ℕ) (c : Cell) → IsRight p m → IsDepth d → ChangesAt m m' (prefix_of x d) None
+pub removed_places : (p q : TwoLevels) (m m' : Members) (x d : ℕ) (c : TableEntry) → IsRight p m → IsDepth d → ChangesAt m m' (prefix_of x d) None
     → c ≡ longest m' x (d - 1)
-    → Paints p q (prefix_of x d) c → EachPlace p (λ i low. cell_at q i low ≡ longest m' (address_at p i low) 32)
-removed_places p q m m' x d c right lawful change is paints =
-    painted_right p p q m m' x d None c right refl (λ i low fits_i fits. refl) lawful change
-    (λ a e. is ∙ next_shorter m m' x d None change lawful.0 lawful.1 a e) paints
+    → Overwrites p q (prefix_of x d) c → EachPlace p (λ i low. entry_at q i low ≡ longest m' (address_at p i low) 32)
+removed_places p q m m' x d c right lawful change is overwrites =
+    overwritten_right p p q m m' x d None c right refl (λ i low fits_i fits. refl) lawful change
+    (λ a e. is ∙ next_shorter m m' x d None change lawful.0 lawful.1 a e) overwrites
 
 -- a deep member that is there, with its entry's first bits
-module _ (p : Plane) (m : Members) (right : IsRight p m) (x d : ℕ) (lawful : IsDepth d) (deep : p.bits < d)
+module _ (p : TwoLevels) (m : Members) (right : IsRight p m) (x d : ℕ) (lawful : IsDepth d) (deep : p.bits < d)
     (there : IsSome (fin_map.get m (prefix_of x d)))
     (f : ℕ) (at : f ≡ first_bits (masked x d) p.bits) (fits : f < 2 ^ p.bits) where
   needed : has_deeper p.bits m f ≡ true
@@ -232,8 +233,8 @@ module _ (p : Plane) (m : Members) (right : IsRight p m) (x d : ℕ) (lawful : I
   pub had_group : is_group (first_at p f) ≡ true
   had_group = right.grouped f fits ∙ needed
 
-  module _ (q : Plane) (m' : Members) (change : ChangesAt m m' (prefix_of x d) None) (are : AreMembers m') (keeps : KeepsGroups p q)
-      (cells : EachPlace p (λ i low. cell_at q i low ≡ longest m' (address_at p i low) 32)) where
+  module _ (q : TwoLevels) (m' : Members) (change : ChangesAt m m' (prefix_of x d) None) (are : AreMembers m') (keeps : KeepsGroups p q)
+      (entries : EachPlace p (λ i low. entry_at q i low ≡ longest m' (address_at p i low) 32)) where
     -- where another member needs the group, the table is right
     pub right_kept : has_deeper p.bits m' f ≡ true → IsRight q m'
     right_kept still =
@@ -242,7 +243,7 @@ module _ (p : Plane) (m : Members) (right : IsRight p m) (x d : ℕ) (lawful : I
         ∙ fin_set.len-insert nat_cmp_total (deeper_firsts p.bits m) (first_bits (masked x d) p.bits)
         ∙ ap (λ n. cond (has_deeper p.bits m n) (groups_of p.bits m) (groups_of p.bits m + 1)) (sym at)
         ∙ ap (λ b. cond b (groups_of p.bits m) (groups_of p.bits m + 1)) needed in
-        right_for p q m m' right keeps.bits keeps.limit are cells
+        right_for p q m m' right keeps.bits keeps.limit are entries
         (λ i fits_i. keeps.kinds i ∙ right.grouped i fits_i ∙ elim (cases_eq i f) [
           | inl same ↦ subst (λ n. has_deeper p.bits m n ≡ has_deeper p.bits m' n) (sym same) (needed ∙ sym still)
           | inr other ↦ sym (has_deeper_other p.bits m m' (prefix_of x d) None change i (λ e. other (e ∙ sym at)))
@@ -250,24 +251,24 @@ module _ (p : Plane) (m : Members) (right : IsRight p m) (x d : ℕ) (lawful : I
         (keeps.used ∙ right.used ∙ sym count) (omega (arith, keeps.used, right.within))
 
     module _ (none : has_deeper p.bits m' f ≡ false) where
-      same_match : (low : ℕ) → low < size_of p.bits → cell_at q f low ≡ longest m' (address_at p f 0) p.bits
+      same_match : (low : ℕ) → low < size_of p.bits → entry_at q f low ≡ longest m' (address_at p f 0) p.bits
       same_match low place =
           let first : first_bits (address_at p f low) p.bits ≡ f = first_bits-place p.bits f low place in
           let first_0 : first_bits (address_at p f 0) p.bits ≡ f = first_bits-place p.bits f 0 (size_pos p.bits) in
           let within = right.most in
-          cells f low fits place
+          entries f low fits place
           ∙ longest-shallow m' (address_at p f low) p.bits 32 (ap (has_deeper p.bits m') first ∙ none) (omega arith) (omega arith)
           ∙ longest-shared m' (address_at p f low) (address_at p f 0) p.bits (first ∙ sym first_0) (omega arith)
 
       -- else its places say the same, so that the entry can
-      pub closes_alike : (low : ℕ) → low < size_of q.bits → cell_at q f low ≡ cell_at q f 0
+      pub closes_alike : (low : ℕ) → low < size_of q.bits → entry_at q f low ≡ entry_at q f 0
       closes_alike low place = same_match low (subst (λ n. low < size_of n) keeps.bits place) ∙ sym (same_match 0 (size_pos p.bits))
 
-      pub closes_plain : is_group (cell_at q f 0) ≡ false
+      pub closes_plain : is_group (entry_at q f 0) ≡ false
       closes_plain = let within = right.most in ap is_group (same_match 0 (size_pos p.bits))
           ∙ longest_plain m' (address_at p f 0) p.bits (omega arith)
 
-      pub right_closed : (r : Plane) → Regroups q r f false → used_of r + 1 ≡ used_of q → IsRight r m'
+      pub right_closed : (r : TwoLevels) → Regroups q r f false → used_of r + 1 ≡ used_of q → IsRight r m'
       right_closed r closes used =
           let here = subst (λ n. has_deeper p.bits m' n ≡ false) at none in
           let count = ap fin_set.len (firsts_without p.bits m m' (prefix_of x d) None change here)
@@ -275,8 +276,8 @@ module _ (p : Plane) (m : Members) (right : IsRight p m) (x d : ℕ) (lawful : I
           ∙ ap (λ n. cond (has_deeper p.bits m n) (groups_of p.bits m - 1) (groups_of p.bits m)) (sym at)
           ∙ ap (λ b. cond b (groups_of p.bits m - 1) (groups_of p.bits m)) needed in
           right_for p r m m' right (closes.bits ∙ keeps.bits) (closes.limit ∙ keeps.limit) are
-          (λ i low fits_i fits_low. closes.cells i low (subst (λ n. i < 2 ^ n) (sym keeps.bits) fits_i)
-          (subst (λ n. low < size_of n) (sym keeps.bits) fits_low) ∙ cells i low fits_i fits_low)
+          (λ i low fits_i fits_low. closes.entries i low (subst (λ n. i < 2 ^ n) (sym keeps.bits) fits_i)
+          (subst (λ n. low < size_of n) (sym keeps.bits) fits_low) ∙ entries i low fits_i fits_low)
           (λ i fits_i. elim (cases_eq i f) [
             | inl same ↦ subst (λ n. is_group (first_at r n) ≡ has_deeper p.bits m' n) (sym same) (closes.here ∙ sym none)
             | inr other ↦ closes.others i other ∙ keeps.kinds i ∙ right.grouped i fits_i

@@ -3,7 +3,7 @@ use Rattle.std.proofs.Common.{◌≡◌, ℕ, zero, suc, ◌-◌, ◌≤◌, ◌
 use Rattle.std.proofs.lemmas.Bool.{cases_lt}
 use Rattle.std.proofs.lemmas.Bool.Decides.{nat_tests}
 use Rattle.std.specs.FinMap as map
-use Rattle.lpm.specs.Cell.{is_group}
+use Rattle.lpm.specs.TableEntry.{is_group}
 use Rattle.lpm.specs.Prefixes.{Members, prefix_of, masked, first_bits}
 use Rattle.lpm.specs.Match.{longest}
 use Rattle.lpm.specs.Groups.{has_deeper}

@@ -1,7 +1,7 @@
 -- Longest match (RFC 1519, section 4.4; RFC 4632, section 5.1; Longest Prefix Match Library chapter of DPDK's guide).
 use Rattle.std.specs.Prelude.{◌≡◌, ℕ, suc, zero, ◌≤◌, Option, Some, None}
 use Rattle.std.specs.FinMap as map
-use Rattle.lpm.specs.Cell.{Cell, cell, hop_of}
+use Rattle.lpm.specs.TableEntry.{TableEntry, entry_of, hop_of}
 use Rattle.lpm.specs.Prefixes.{Members, IsDepth, prefix_of}
 
 -- a member of this depth holds the address, and this is its hop
@@ -15,15 +15,16 @@ IsLongestMatch m address None = (depth hop : ℕ) → ¬ Holds m address depth h
 IsLongestMatch m address (Some hop) =
     (depth : ℕ) × Holds m address depth hop × ((d h : ℕ) → Holds m address d h → d ≤ depth)
 
--- the hop with its depth if there is one, else the other cell
-abbrev pub cell_or : Option ℕ → ℕ → Cell → Cell
-cell_or None depth other = other
-cell_or (Some hop) depth other = cell depth hop
+-- the hop with its depth if there is one, else the other entry
+abbrev pub entry_or : Option ℕ → ℕ → TableEntry → TableEntry
+entry_or None depth other = other
+entry_or (Some hop) depth other = entry_of depth hop
 
 -- the longest member of at most this depth that holds the address
-unfoldable pub longest : Members → ℕ → ℕ → Cell
-longest m address zero = cell 0 0
-longest m address (suc depth) = cell_or (map.get m (prefix_of address (suc depth))) (suc depth) (longest m address depth)
+unfoldable pub longest : Members → ℕ → ℕ → TableEntry
+longest m address zero = entry_of 0 0
+longest m address (suc depth) =
+    entry_or (map.get m (prefix_of address (suc depth))) (suc depth) (longest m address depth)
 
 -- the one answer for which `IsLongestMatch` holds
 abbrev pub lookup_in : Members → ℕ → Option ℕ

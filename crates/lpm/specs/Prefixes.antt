@@ -32,7 +32,8 @@ prefix_cmp = then_cmp (on (λ p. p.address) nat_cmp) (on (λ p. p.depth) nat_cmp
 
 abbrev pub prefix_code : Coded Prefix
 prefix_code =
-    code_by (ℕ × ℕ) (coded× coded_ℕ coded_ℕ) (λ p. (p.address, p.depth)) (λ c. record { address = c.0; depth = c.1 }) (λ _. refl)
+    code_by (ℕ × ℕ) (coded× coded_ℕ coded_ℕ) (λ p. (p.address, p.depth))
+    (λ c. record { address = c.0; depth = c.1 }) (λ _. refl)
 
 -- the members of a table, each a prefix with its next hop
 abbrev pub Members : Type 0

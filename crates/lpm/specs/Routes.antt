@@ -55,7 +55,8 @@ abbrev pub routes_code : Coded Routes
 routes_code =
     code_by (ℕ × (ℕ × (Members × List (Option ℕ))))
     (coded× coded_ℕ (coded× coded_ℕ (coded× (map.code prefix_code coded_ℕ) (coded_list (coded_option coded_ℕ)))))
-    (λ t. (t.bits, (t.limit, (t.members, t.groups)))) (λ c. record { bits = c.0; limit = c.1.0; members = c.1.1.0; groups = c.1.1.1 })
+    (λ t. (t.bits, (t.limit, (t.members, t.groups))))
+    (λ c. record { bits = c.0; limit = c.1.0; members = c.1.1.0; groups = c.1.1.1 })
     (λ _. refl)
 
 -- a route that a table takes, where memory can be had

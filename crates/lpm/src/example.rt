@@ -1,11 +1,11 @@
-//! Callers, proved like the rest: the one route of a table decides over the address that it was added with, and the
-//! entries say what `lookup` says.
-ghost use Rattle.std.specs.Prelude.{◌≡◌, ◌<◌, ◌≤◌, ◌^◌, IfOk, Some};
-ghost use Rattle.lpm.specs.Match.{IsLongestMatch};
+//! Callers, proved like the rest: the one route of a table decides over the address that it was added with, a burst
+//! says of each address what `lookup` says, and so do the entries.
+ghost use Rattle.std.specs.Prelude.{◌≡◌, ◌<◌, ◌^◌, IfOk, Some};
+ghost use Rattle.lpm.specs.Match.{IsLongestMatch, lookup_in};
 ghost use Rattle.lpm.specs.Prefixes.{IsDepth};
 
 use crate::places::{first_of, low_of};
-use crate::{Entry, RouteFault, Table};
+use crate::{Entry, NextHop, RouteFault, Table};
 use std::alloc::Global;
 
 /// What a table with this one route answers for the address.
@@ -26,13 +26,21 @@ pub(crate) fn sole_route(
     Ok(table.lookup(addr))
 }
 
-/// What a table, whose first level has 2^`bits` entries, says of the address, read from its entries.
-pub(crate) fn read(table: &Table, bits: u8, addr: u32) -> Option<u32>
-    requires level { bits ≡ table.now.bits }
-    requires some { 0 < bits }
-    requires most { bits ≤ 24 }
+/// What a table says of two addresses, looked up in one burst.
+pub(crate) fn look_up_two(table: &Table, first: u32, second: u32) -> (Option<u32>, Option<u32>)
+    ensures first { result.0 ≡ lookup_in table.now.members first }
+    ensures second { result.1 ≡ lookup_in table.now.members second }
+{
+    let mut hops = [NextHop::none(); 2];
+    table.lookup_bulk(&[first, second], &mut hops);
+    (hops[0].hop(), hops[1].hop())
+}
+
+/// What a table says of the address, read from its entries.
+pub(crate) fn read(table: &Table, addr: u32) -> Option<u32>
     ensures { IsLongestMatch table.now.members addr result }
 {
+    let bits = table.bits();
     match table.entry(first_of(addr, bits) as u32) {
         Entry::Group(group) => table.group_entry(group, low_of(addr, bits) as u32),
         Entry::Hop(hop) => Some(hop),

@@ -16,14 +16,16 @@ mod entry;
 mod fault;
 mod levels;
 mod members;
-mod paint;
+mod next_hop;
+mod overwrite;
+mod packed_entry;
 mod places;
 mod prefix;
-mod slot;
 mod table;
 
 pub use entry::Entry;
 pub use fault::RouteFault;
+pub use next_hop::NextHop;
 pub use table::Table;
 
 #[cfg(test)]

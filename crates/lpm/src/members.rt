@@ -12,8 +12,8 @@ ghost use Rattle.lpm.specs.Match.{longest};
 ghost use Rattle.lpm.specs.Groups.{has_deeper};
 
 use crate::fault::RouteFault;
+use crate::packed_entry::PackedEntry;
 use crate::prefix::Prefix;
-use crate::slot::Slot;
 use std::alloc::Global;
 use std::collections::BTreeMap;
 use std::marker::Model;
@@ -81,7 +81,7 @@ impl Members {
     }
 
     /// The longest member of at most this depth that holds the address, as an entry says it.
-    pub fn longest(&self, address: u32, depth: u8) -> Slot
+    pub fn longest(&self, address: u32, depth: u8) -> PackedEntry
         requires depth { depth ≤ 32 }
         requires members { AreMembers self.now }
         ensures { result ≡ longest self.now address depth }
@@ -89,11 +89,11 @@ impl Members {
         let mut tried = depth;
         while tried > 0 {
             if let Some(hop) = self.get(Prefix::of(address, tried)) {
-                return Slot::route(tried, hop);
+                return PackedEntry::route(tried, hop);
             }
             tried -= 1;
         }
-        Slot::none()
+        PackedEntry::none()
     }
 
     /// Whether a member lies between two prefixes, both included.

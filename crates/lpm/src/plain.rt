@@ -1,14 +1,16 @@
 //! The same table as a plain list of its routes, which every call searches, under the same contract: what the tests
 //! compare the levels with.
 
-ghost use Rattle.std.specs.Prelude.{◌≡◌, ◌<◌, ◌≤◌, ◌^◌, ◌↔◌, ◌⊎◌, ◌&&◌, ℕ, length, not, nat_eq, nat_lt, OnOk, OnErr, IfErr};
+ghost use Rattle.std.specs.Prelude.{◌≡◌, ◌<◌, ◌≤◌, ◌^◌, ◌↔◌, ◌⊎◌, ◌&&◌, ℕ, length, not, nat_eq, nat_lt, OnOk, OnErr};
+ghost use Rattle.std.specs.Prelude.{IfErr};
 ghost use Rattle.std.specs.FinMap as map;
 ghost use Rattle.std.specs.FinSet as set;
 ghost use Rattle.lpm.specs.Prefixes.{IsDepth, first_bits};
 ghost use Rattle.lpm.specs.Match.{IsLongestMatch, lookup_in};
 ghost use Rattle.lpm.specs.Groups.{groups_of};
 ghost use Rattle.lpm.specs.Listed.{members_of, listed_firsts};
-ghost use Rattle.lpm.specs.Routes.{Accepts, HasMembers, HasRoute, IsNew, LacksRoute, NeedsTooMany, with_route, without_route};
+ghost use Rattle.lpm.specs.Routes.{Accepts, HasMembers, HasRoute, IsNew, LacksRoute, NeedsTooMany, with_route};
+ghost use Rattle.lpm.specs.Routes.{without_route};
 
 use crate::fault::RouteFault;
 use crate::places::first_of;

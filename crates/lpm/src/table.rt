@@ -1,7 +1,8 @@
-//! The route table: its members in a search tree, and the two levels that `lookup` reads.
+//! The route table: its members in a search tree, and the two levels that `lookup` reads. Which calls take no memory is
+//! read in the code and tested: a signature doesn't show it, since the tree and the levels carry their allocator.
 
 ghost use Rattle.std.specs.Prelude.{◌≡◌, ◌<◌, ◌≤◌, ◌^◌, ◌↔◌, ◌⊎◌, ℕ, Some, None, IfOk, IfSome, IfNone, IsSome};
-ghost use Rattle.std.specs.FinMap as map;
+ghost use Rattle.std.specs.Prelude.{length, map, slice_index, slice_index_or};
 ghost use Rattle.lpm.specs.Prefixes.{size_of};
 ghost use Rattle.lpm.specs.Match.{IsLongestMatch, lookup_in};
 ghost use Rattle.lpm.specs.Groups.{HasDeeper};
@@ -11,6 +12,7 @@ ghost use Rattle.lpm.specs.Shown.{group_in, hop_in};
 use crate::entry::Entry;
 use crate::levels::Levels;
 use crate::members::Members;
+use crate::next_hop::NextHop;
 use std::alloc::{AllocError, Global};
 use std::marker::Model;
 
@@ -31,7 +33,7 @@ pub struct Table {
 
 impl Model for Table {
     ghost use Rattle.std.specs.Prelude.{map};
-    ghost use Rattle.lpm.specs.Cell.{group_of};
+    ghost use Rattle.lpm.specs.TableEntry.{group_of};
     ghost use Rattle.lpm.specs.Routes.{Routes, routes_code};
     ghost use Rattle.lpm.specs.Right.{IsRight};
 
@@ -63,13 +65,35 @@ impl Table {
         })
     }
 
+    /// How many first bits of an address number an entry of the first level: 16 or 24, as the table was made with.
+    pub fn bits(&self) -> u8
+        ensures value { result ≡ self.now.bits }
+        ensures form { (result ≡ 16) ⊎ (result ≡ 24) }
+    {
+        self.levels.bits()
+    }
+
     /// The next hop of the longest route that holds the address. Takes no memory; one read of an entry, or two.
+    #[inline]
     pub fn lookup(&self, addr: u32) -> Option<u32>
         ensures longest { IsLongestMatch self.now.members addr result }
         ensures value { result ≡ lookup_in self.now.members addr }
         ensures small { IfSome result (λ hop. hop < 2 ^ 24) }
     {
-        self.levels.cell(addr).hop()
+        self.levels.entry_for(addr).hop()
+    }
+
+    /// The next hops for a burst of addresses: at each place of `hops`, which is as long, what `lookup` gives for the
+    /// address at that place, in 4 bytes. Takes no memory.
+    pub fn lookup_bulk(&self, addresses: &[u32], hops: &mut [NextHop])
+        requires { length addresses.now ≡ length hops.old }
+        ensures longest { (k : ℕ) → k < length addresses.now
+            → IsLongestMatch self.now.members (slice_index addresses.now k) (slice_index_or hops.new k None) }
+        ensures value { hops.new ≡ map (lookup_in self.now.members) addresses.now }
+        ensures small { (k : ℕ) → k < length addresses.now
+            → IfSome (slice_index_or hops.new k None) (λ hop. hop < 2 ^ 24) }
+    {
+        self.levels.hops_for(addresses, hops);
     }
 
     /// What the first level says of the addresses whose first bits are `first`: the group that they have where a route
@@ -85,11 +109,11 @@ impl Table {
         ensures hop { IfNone (group_in result) ((low : ℕ) → low < size_of self.now.bits
             → IsLongestMatch self.now.members (address_of self.now first low) (hop_in result)) }
     {
-        let slot = self.levels.first(first as usize);
-        if slot.is_group() {
-            return Entry::Group(slot.number());
+        let entry = self.levels.first(first as usize);
+        if entry.is_group() {
+            return Entry::Group(entry.number());
         }
-        match slot.hop() {
+        match entry.hop() {
             Some(hop) => Entry::Hop(hop),
             None => Entry::None,
         }

@@ -1,37 +1,23 @@
-//! The worked routes, what the entries show of them, what is left where memory is refused, and the texts of the
-//! refusals.
-
-ghost use Rattle.std.specs.Prelude.{◌≡◌, ◌<◌, ◌^◌};
-ghost use Rattle.lpm.specs.Prefixes.{size_of};
+//! The worked routes, what the entries show of them, and the texts of the refusals.
 
 use crate::example::sole_route;
-use crate::{Entry, RouteFault, Table};
+use crate::places::{first_of, low_of};
+use crate::tests::calls::{add, add_once, lookup, remove};
+use crate::{Entry, NextHop, RouteFault, Table};
 use std::process::Abort;
 use std::test::Fail;
 
 mod beside;
+mod calls;
+mod many;
 
 /// An address by its four bytes.
 fn at(a: u8, b: u8, c: u8, d: u8) -> u32 {
     u32::from_be_bytes([a, b, c, d])
 }
 
-/// Adds a route, once more where memory was refused.
-fn add(table: &mut Table, addr: u32, depth: u8, hop: u32) -> Result<(), RouteFault>
-    ensures { table.new.bits ≡ table.old.bits }
-{
-    let answer = table.add(addr, depth, hop);
-    if answer == Err(RouteFault::Memory) {
-        table.add(addr, depth, hop)
-    } else {
-        answer
-    }
-}
-
 /// Adds routes, of which none is refused.
-fn add_all(rt: &impl Abort, table: &mut Table, routes: &[(u32, u8, u32)])
-    ensures { table.new.bits ≡ table.old.bits }
-{
+fn add_all(rt: &impl Abort, table: &mut Table, routes: &[(u32, u8, u32)]) {
     for &(addr, depth, hop) in routes {
         assert_eq!(rt; add(table, addr, depth, hop), Ok(()), "{addr:08x}/{depth}");
     }
@@ -57,8 +43,19 @@ fn finds_the_longest_route(rt: HostRuntime) -> Result<(), Fail> {
         (at(11, 0, 0, 1), None),
     ];
     for (addr, hop) in expected {
-        assert_eq!(rt; table.lookup(addr), hop, "{addr:08x}");
+        assert_eq!(rt; lookup(&table, addr), hop, "{addr:08x}");
     }
+    let mut hops = [NextHop::none(); 4];
+    table.lookup_bulk(
+        &[
+            at(10, 1, 2, 3),
+            at(11, 0, 0, 1),
+            at(10, 2, 0, 1),
+            at(10, 1, 2, 3),
+        ],
+        &mut hops,
+    );
+    assert_eq!(rt; hops.map(NextHop::hop), [Some(3), None, Some(1), Some(3)]);
     let refused = [
         (at(10, 0, 0, 0), 0, 1, RouteFault::BadDepth),
         (at(10, 0, 0, 0), 33, 1, RouteFault::BadDepth),
@@ -67,39 +64,43 @@ fn finds_the_longest_route(rt: HostRuntime) -> Result<(), Fail> {
     ];
     for (addr, depth, hop, fault) in refused {
         assert_eq!(rt;
-            table.add(addr, depth, hop),
+            add_once(&mut table, addr, depth, hop),
             Err(fault),
             "{addr:08x}/{depth}"
         );
     }
     assert_eq!(rt; add(&mut table, at(10, 1, 2, 128), 25, 5), Ok(()));
-    assert_eq!(rt; table.add(at(10, 1, 3, 0), 25, 6), Err(RouteFault::NoGroup));
-    assert_eq!(rt; table.remove(at(10, 1, 0, 0), 16), Ok(()));
-    assert_eq!(rt; table.lookup(at(10, 1, 2, 4)), Some(1));
-    assert_eq!(rt; table.remove(at(10, 1, 0, 0), 16), Err(RouteFault::NoRoute));
-    assert_eq!(rt; table.remove(at(10, 1, 0, 0), 0), Err(RouteFault::BadDepth));
+    let other = add_once(&mut table, at(10, 1, 3, 0), 25, 6);
+    assert_eq!(rt; other, Err(RouteFault::NoGroup));
+    assert_eq!(rt; remove(&mut table, at(10, 1, 0, 0), 16), Ok(()));
+    assert_eq!(rt; lookup(&table, at(10, 1, 2, 4)), Some(1));
+    for (depth, fault) in [(16, RouteFault::NoRoute), (0, RouteFault::BadDepth)] {
+        assert_eq!(rt; remove(&mut table, at(10, 1, 0, 0), depth), Err(fault));
+    }
     Ok(())
 }
 
 /// Removes routes, of which each is there.
-fn remove_all(rt: &impl Abort, table: &mut Table, routes: &[(u32, u8)])
-    ensures { table.new.bits ≡ table.old.bits }
-{
+fn remove_all(rt: &impl Abort, table: &mut Table, routes: &[(u32, u8)]) {
     for &(addr, depth) in routes {
-        assert_eq!(rt; table.remove(addr, depth), Ok(()), "{addr:08x}/{depth}");
+        assert_eq!(rt; remove(table, addr, depth), Ok(()), "{addr:08x}/{depth}");
     }
 }
 
-/// What an entry of the first level shows, and where that is a group, what this place of it says.
-fn shown(table: &Table, bits: u8, first: u32, low: u32) -> (Entry, Option<u32>)
-    requires level { bits ≡ table.now.bits }
-    requires first { first < 2 ^ bits }
-    requires low { low < size_of bits }
-{
-    let entry = table.entry(first);
+/// What the entry of an address shows, and where that is a group, what the address's place in it says.
+fn shown(table: &Table, addr: u32) -> (Entry, Option<u32>) {
+    let bits = table.bits();
+    let entry = table.entry(first_of(addr, bits) as u32);
     match entry {
-        Entry::Group(group) => (entry, table.group_entry(group, low)),
+        Entry::Group(group) => (entry, table.group_entry(group, low_of(addr, bits) as u32)),
         Entry::Hop(_) | Entry::None => (entry, None),
+    }
+}
+
+/// Looks at what the entries of addresses show.
+fn see_all(rt: &impl Abort, table: &Table, expected: &[(u32, Entry, Option<u32>)]) {
+    for &(addr, entry, hop) in expected {
+        assert_eq!(rt; shown(table, addr), (entry, hop), "{addr:08x}");
     }
 }
 
@@ -113,30 +114,27 @@ fn gives_a_group_back(rt: HostRuntime) -> Result<(), Fail> {
         (at(10, 1, 2, 128), 25, 5),
     ];
     add_all(&rt, &mut table, &routes);
-    assert_eq!(rt; shown(&table, 24, 0x0a_0102, 3), (Entry::Group(0), Some(3)));
-    assert_eq!(rt; shown(&table, 24, 0x0a_0102, 4), (Entry::Group(0), Some(4)));
-    assert_eq!(rt;
-        shown(&table, 24, 0x0a_0102, 128),
-        (Entry::Group(0), Some(5))
-    );
-    assert_eq!(rt; shown(&table, 24, 0x0a_0103, 0), (Entry::Hop(4), None));
-    assert_eq!(rt; shown(&table, 24, 0x0b_0000, 0), (Entry::None, None));
+    let expected = [
+        (at(10, 1, 2, 3), Entry::Group(0), Some(3)),
+        (at(10, 1, 2, 4), Entry::Group(0), Some(4)),
+        (at(10, 1, 2, 128), Entry::Group(0), Some(5)),
+        (at(10, 1, 3, 0), Entry::Hop(4), None),
+        (at(11, 0, 0, 0), Entry::None, None),
+    ];
+    see_all(&rt, &table, &expected);
 
     remove_all(
         &rt,
         &mut table,
         &[(at(10, 1, 2, 3), 32), (at(10, 1, 2, 128), 25)],
     );
-    assert_eq!(rt; shown(&table, 24, 0x0a_0102, 3), (Entry::Hop(4), None));
+    see_all(&rt, &table, &[(at(10, 1, 2, 3), Entry::Hop(4), None)]);
     add_all(&rt, &mut table, &[(at(10, 1, 3, 0), 25, 6)]);
-    assert_eq!(rt;
-        shown(&table, 24, 0x0a_0103, 127),
-        (Entry::Group(0), Some(6))
-    );
-    assert_eq!(rt;
-        shown(&table, 24, 0x0a_0103, 128),
-        (Entry::Group(0), Some(4))
-    );
+    let expected = [
+        (at(10, 1, 3, 127), Entry::Group(0), Some(6)),
+        (at(10, 1, 3, 128), Entry::Group(0), Some(4)),
+    ];
+    see_all(&rt, &table, &expected);
     Ok(())
 }
 
@@ -148,37 +146,15 @@ fn has_large_groups(rt: HostRuntime) -> Result<(), Fail> {
         &mut table,
         &[(at(10, 1, 2, 0), 24, 1), (at(10, 1, 0, 0), 16, 2)],
     );
+    let expected = [
+        (at(10, 1, 2, 0), Entry::Group(0), Some(1)),
+        (at(10, 1, 3, 0), Entry::Group(0), Some(2)),
+    ];
+    see_all(&rt, &table, &expected);
     assert_eq!(rt;
-        shown(&table, 16, 0x0a01, 0x0200),
-        (Entry::Group(0), Some(1))
+        add_once(&mut table, at(10, 2, 0, 0), 17, 3),
+        Err(RouteFault::NoGroup)
     );
-    assert_eq!(rt;
-        shown(&table, 16, 0x0a01, 0x0300),
-        (Entry::Group(0), Some(2))
-    );
-    assert_eq!(rt; table.add(at(10, 2, 0, 0), 17, 3), Err(RouteFault::NoGroup));
-    Ok(())
-}
-
-#[test]
-fn is_as_it_was_without_memory(rt: HostRuntime) -> Result<(), Fail> {
-    let mut table = Table::new(rt.alloc(), 16, 8)?;
-    let addr = at(10, 1, 2, 3);
-    let mut before = None;
-    for hop in 1..25 {
-        let depth = 8 + hop as u8;
-        if table.add(addr, depth, hop) == Err(RouteFault::Memory) {
-            assert_eq!(rt; table.lookup(addr), before, "depth {depth}");
-            assert_eq!(rt; table.remove(addr, depth), Err(RouteFault::NoRoute));
-            assert_eq!(rt;
-                table.add(addr, depth, hop),
-                Ok(()),
-                "there is memory again"
-            );
-        }
-        before = Some(hop);
-        assert_eq!(rt; table.lookup(addr), before, "depth {depth}");
-    }
     Ok(())
 }
 

@@ -1,10 +1,11 @@
 -- Bytes that are copied segment by segment.
 use Rattle.std.proofs.Common.{◌≡◌, ◌+◌, ◌-◌, ◌≤◌, ℕ, zero, suc, min, List, [], ◌∷◌, ◌++◌, length, take, drop, replicate, sym, refl, ap, ◌∙◌, arith}
 use Rattle.std.proofs.Math.Seq.{take-append-add}
-use Rattle.std.proofs.lemmas.List.{length-append, length-drop, length-take, take_min, drop_min, take-take, drop-take, drop-drop, take-replicate, drop-replicate, length-replicate, take-append-drop, nil_from_length}
+use Rattle.std.proofs.lemmas.List.{length-append, length-drop, length-take, take_min, drop_min, take-take, drop-take, drop-drop, take-replicate, drop-replicate}
+use Rattle.std.proofs.lemmas.List.{length-replicate, take-append-drop, nil_from_length}
 use Rattle.std.proofs.lemmas.List.Sums.{sum_by-cons}
-use Rattle.mbuf.specs.Buffer.{Buffer, room_of, fresh, appended}
-use Rattle.mbuf.specs.Chain.{bytes_of, space_of, filled}
+use Rattle.mbuf.specs.Buffer.{Buffer, room_of, fresh, appended, blanked, overwritten}
+use Rattle.mbuf.specs.Chain.{bytes_of, space_of, shape_of, filled}
 
 module _ {X : Type 0} where
   pub take_split : (xs ys : List X) (m : ℕ) → take m (xs ++ ys) ≡ take m xs ++ take (m - length xs) ys
@@ -14,7 +15,8 @@ module _ {X : Type 0} where
       split zero = refl
       split (suc m) = refl
   take_split (x ∷ xs) ys zero = let e : 0 ≡ 0 - suc (length xs) = omega arith in ap (λ k. take k ys) e
-  take_split (x ∷ xs) ys (suc m) = ap (λ (l : List X). x ∷ l) (take_split xs ys m ∙ (let e : m - length xs ≡ suc m - suc (length xs) = omega arith in ap (λ k. take m xs ++ take k ys) e))
+  take_split (x ∷ xs) ys (suc m) =
+      ap (λ (l : List X). x ∷ l) (take_split xs ys m ∙ (let e : m - length xs ≡ suc m - suc (length xs) = omega arith in ap (λ k. take m xs ++ take k ys) e))
 
   pub drop_split : (xs ys : List X) (m : ℕ) → drop m (xs ++ ys) ≡ drop m xs ++ drop (m - length xs) ys
   drop_split [] ys m = (let e : m ≡ m - 0 = omega arith in ap (λ k. drop k ys) e) ∙ split m
@@ -45,7 +47,49 @@ module _ {X : Type 0} where
   -- all but the last n of two lists, where the second has that many
   pub take_past : (xs ys : List X) (n : ℕ) → n ≤ length ys → take (length (xs ++ ys) - n) (xs ++ ys) ≡ xs ++ take (length ys - n) ys
   take_past xs ys n fits =
-      (let more : length (xs ++ ys) - n ≡ length xs + (length ys - n) = omega (arith, length-append xs ys) in ap (λ k. take k (xs ++ ys)) more) ∙ take-append-add xs ys (length ys - n)
+      (let more : length (xs ++ ys) - n ≡ length xs + (length ys - n) = omega (arith, length-append xs ys) in ap (λ k. take k (xs ++ ys)) more)
+      ∙ take-append-add xs ys (length ys - n)
+
+  front_written : (xs ys ws : List X) (n : ℕ) → n ≡ min (length ws) (length xs)
+      → overwritten 0 (take n ws) xs ++ overwritten 0 (drop n ws) ys ≡ overwritten 0 ws (xs ++ ys)
+  front_written [] ys ws zero e = refl
+  front_written [] ys ws (suc n) e = absurd (omega arith)
+  front_written (x ∷ xs) ys [] zero e = refl
+  front_written (x ∷ xs) ys [] (suc n) e = absurd (omega arith)
+  front_written (x ∷ xs) ys (w ∷ ws) zero e = absurd (omega arith)
+  front_written (x ∷ xs) ys (w ∷ ws) (suc n) e = ap (λ (l : List X). w ∷ l) (front_written xs ys ws n (omega arith))
+
+  -- what is written over two lists: the first n over those of the first, the others behind
+  both_written : (xs ys ws : List X) (at start n more : ℕ) → start ≡ min at (length xs) → n ≡ min (length ws) (length xs - start) → more ≡ at - start
+      → overwritten start (take n ws) xs ++ overwritten more (drop n ws) ys ≡ overwritten at ws (xs ++ ys)
+  both_written [] ys ws at zero zero more e f g = let same : more ≡ at = omega arith in ap (λ k. overwritten k ws ys) same
+  both_written [] ys ws at zero (suc n) more e f g = absurd (omega arith)
+  both_written [] ys ws at (suc start) n more e f g = absurd (omega arith)
+  both_written (x ∷ xs) ys ws zero zero n more e f g =
+      let none : more ≡ 0 = omega arith in
+      ap (λ k. overwritten 0 (take n ws) (x ∷ xs) ++ overwritten k (drop n ws) ys) none ∙ front_written (x ∷ xs) ys ws n (omega arith)
+  both_written (x ∷ xs) ys ws zero (suc start) n more e f g = absurd (omega arith)
+  both_written (x ∷ xs) ys ws (suc at) zero n more e f g = absurd (omega arith)
+  both_written (x ∷ xs) ys ws (suc at) (suc start) n more e f g =
+      ap (λ (l : List X). x ∷ l) (both_written xs ys ws at start n more (omega arith) (omega arith) (omega arith))
+
+  pub written_as : (xs ys ws front rest first others : List X) (at start n : ℕ) → start ≡ min at (length xs) → n ≡ min (length ws) (length xs - start)
+      → front ≡ take n ws → rest ≡ drop n ws → first ≡ overwritten start front xs → others ≡ overwritten (at - start) rest ys
+      → first ++ others ≡ overwritten at ws (xs ++ ys)
+  written_as xs ys ws front rest first others at start n e f is_front is_rest is_first is_others =
+      (λ k. is_first k ++ is_others k) ∙ (λ k. overwritten start (is_front k) xs ++ overwritten (at - start) (is_rest k) ys)
+      ∙ both_written xs ys ws at start n (at - start) e f refl
+
+  -- what is written behind the first of two lists
+  pub written_past : (xs ys ws : List X) (at more : ℕ) → at ≡ length xs + more → overwritten at ws (xs ++ ys) ≡ xs ++ overwritten more ws ys
+  written_past [] ys ws at more e = let same : at ≡ more = omega arith in ap (λ k. overwritten k ws ys) same
+  written_past (x ∷ xs) ys ws zero more e = absurd (omega arith)
+  written_past (x ∷ xs) ys ws (suc at) more e = ap (λ (l : List X). x ∷ l) (written_past xs ys ws at more (omega arith))
+
+  pub drop_past : (xs ys : List X) (at more : ℕ) → at ≡ length xs + more → drop at (xs ++ ys) ≡ drop more ys
+  drop_past [] ys at more e = let same : at ≡ more = omega arith in ap (λ k. drop k ys) same
+  drop_past (x ∷ xs) ys zero more e = absurd (omega arith)
+  drop_past (x ∷ xs) ys (suc at) more e = drop_past xs ys at more (omega arith)
 
 abbrev pub zeros : ℕ → List ℕ
 zeros n = replicate n 0
@@ -55,7 +99,8 @@ pub filled_zeros : (b : Buffer) (chain : List Buffer) (n here : ℕ) → here �
 filled_zeros b chain n here e = λ k. appended (front k) (fresh b) ∷ filled (rest k) chain
   where
     front : take (room_of b) (zeros n) ≡ zeros here
-    front = sym (take_min (room_of b) (zeros n)) ∙ (let less : min (room_of b) (length (zeros n)) ≡ here = omega (arith, length-replicate {A = ℕ} n 0) in ap (λ k. take k (zeros n)) less) ∙ take-replicate here n 0 (omega arith)
+    front = sym (take_min (room_of b) (zeros n)) ∙ (let less : min (room_of b) (length (zeros n)) ≡ here =
+        omega (arith, length-replicate {A = ℕ} n 0) in ap (λ k. take k (zeros n)) less) ∙ take-replicate here n 0 (omega arith)
 
     rest : drop (room_of b) (zeros n) ≡ zeros (n - here)
     rest = drop-replicate (room_of b) n 0 ∙ (let more : n - room_of b ≡ n - here = omega arith in ap (λ k. zeros k) more)
@@ -68,7 +113,9 @@ filled_part b chain bytes at n here e there = λ k. appended (front k) (fresh b)
     long = omega (arith, length-take n (drop at bytes), length-drop at bytes)
 
     front : take (room_of b) (take n (drop at bytes)) ≡ take here (drop at bytes)
-    front = sym (take_min (room_of b) (take n (drop at bytes))) ∙ (let less : min (room_of b) (length (take n (drop at bytes))) ≡ here = omega (arith, long, e) in ap (λ k. take k (take n (drop at bytes))) less) ∙ take-take here n (drop at bytes) (omega arith)
+    front = sym (take_min (room_of b) (take n (drop at bytes)))
+        ∙ (let less : min (room_of b) (length (take n (drop at bytes))) ≡ here = omega (arith, long, e) in ap (λ k. take k (take n (drop at bytes))) less)
+        ∙ take-take here n (drop at bytes) (omega arith)
 
     rest : drop (room_of b) (take n (drop at bytes)) ≡ take (n - here) (drop (at + here) bytes)
     rest = sym (drop_min (room_of b) (take n (drop at bytes)))
@@ -80,5 +127,39 @@ filled_part b chain bytes at n here e there = λ k. appended (front k) (fresh b)
 pub bytes_of-filled : (bytes : List ℕ) (chain : List Buffer) → length bytes ≤ space_of chain → bytes_of (filled bytes chain) ≡ bytes
 bytes_of-filled bytes [] fits = sym (nil_from_length bytes (omega arith))
 bytes_of-filled bytes (b ∷ chain) fits =
-    ap (λ (l : List ℕ). take (room_of b) bytes ++ l) (bytes_of-filled (drop (room_of b) bytes) chain (omega (arith, length-drop (room_of b) bytes, sum_by-cons room_of b chain)))
+    ap (λ (l : List ℕ). take (room_of b) bytes ++ l) (bytes_of-filled (drop (room_of b) bytes) chain
+    (omega (arith, length-drop (room_of b) bytes, sum_by-cons room_of b chain)))
     ∙ take-append-drop (room_of b) bytes
+
+pub filled_front : (b : Buffer) (chain : List Buffer) (bytes : List ℕ) (here : ℕ) → here ≡ min (length bytes) (room_of b)
+    → filled bytes (b ∷ chain) ≡ appended (take here bytes) (fresh b) ∷ filled (drop here bytes) chain
+filled_front b chain bytes here e = λ k. appended (front k) (fresh b) ∷ filled (rest k) chain
+  where
+    less : min (room_of b) (length bytes) ≡ here
+    less = omega (arith, e)
+
+    front : take (room_of b) bytes ≡ take here bytes
+    front = sym (take_min (room_of b) bytes) ∙ ap (λ k. take k bytes) less
+
+    rest : drop (room_of b) bytes ≡ drop here bytes
+    rest = sym (drop_min (room_of b) bytes) ∙ ap (λ k. drop k bytes) less
+
+of_shape : (chain : List Buffer) → length (bytes_of chain) ≡ length (bytes_of (shape_of chain))
+of_shape [] = refl
+of_shape (b ∷ chain) =
+    omega (
+      arith,
+      length-append b.bytes (bytes_of chain),
+      length-append (blanked b).bytes (bytes_of (shape_of chain)),
+      length-replicate {A = ℕ} (length b.bytes) 0,
+      of_shape chain,
+    )
+
+-- chains of one shape have packets of one length
+pub length_of_shape : (one other : List Buffer) → shape_of one ≡ shape_of other → length (bytes_of one) ≡ length (bytes_of other)
+length_of_shape one other e = of_shape one ∙ ap (λ (l : List Buffer). length (bytes_of l)) e ∙ sym (of_shape other)
+
+pub length_of_filled : (n : ℕ) (new old : List Buffer) → shape_of new ≡ filled (zeros n) old → n ≤ space_of old → length (bytes_of new) ≡ n
+length_of_filled n new old e fits =
+    let long : length (zeros n) ≡ n = length-replicate {A = ℕ} n 0 in
+    of_shape new ∙ ap (λ (l : List Buffer). length (bytes_of l)) e ∙ ap length (bytes_of-filled (zeros n) old (omega arith)) ∙ long

@@ -2,6 +2,9 @@ pub mod Windows
 pub mod Copies
 pub mod Rows
 pub mod Chains
-pub mod Shelves
+pub mod Entries
 pub mod Adding
+pub mod Removing
+pub mod Searching
 pub mod Ids
+pub mod Made

@@ -25,7 +25,8 @@ fresh b = record b { headroom = b.reserve; bytes = []; tailroom = room_of b }
 
 -- a fresh buffer, as it is made
 abbrev pub made : ℕ → ℕ → ℕ → Buffer
-made headroom room number = record { number = number; reserve = headroom; headroom = headroom; bytes = []; tailroom = room }
+made headroom room number =
+    record { number = number; reserve = headroom; headroom = headroom; bytes = []; tailroom = room }
 
 abbrev pub prepended : List ℕ → Buffer → Buffer
 prepended xs b = record b { headroom = b.headroom - length xs; bytes = xs ++ b.bytes }
@@ -44,6 +45,15 @@ cut_back n b = record b { bytes = take (length b.bytes - n) b.bytes; tailroom = 
 -- with byte i replaced
 abbrev pub with_byte : ℕ → ℕ → Buffer → Buffer
 with_byte i v b = record b { bytes = slice_set b.bytes i v }
+
+-- a list of bytes with others written over those from place `at` on: what lies before, what is written, what lies
+-- behind
+abbrev pub overwritten : {X : Type 0} → ℕ → List X → List X → List X
+overwritten at ws bytes = take at bytes ++ (ws ++ drop (length ws) (drop at bytes))
+
+-- with xs written over its bytes from place `at` on
+abbrev pub written : ℕ → List ℕ → Buffer → Buffer
+written at xs b = record b { bytes = overwritten at xs b.bytes }
 
 -- with xs written over its bytes, of which there stay as many
 abbrev pub rewritten : List ℕ → Buffer → Buffer

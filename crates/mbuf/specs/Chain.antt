@@ -1,7 +1,7 @@
 -- A chain as contracts see it: the list of its segments, in the order of the packet.
 use Rattle.std.specs.Prelude.{◌≡◌, ◌<◌, ◌≤◌, ℕ, zero, suc, ◌-◌, List, [], ◌∷◌, length, map, take, drop, All}
 use Rattle.std.specs.List.{flat_map, sum_by, range_with_len}
-use Rattle.fabric.specs.Numbers.{AreDistinct}
+use Rattle.burst.specs.Numbers.{AreDistinct}
 use Rattle.mbuf.specs.Buffer.{Buffer, size_of, room_of, made, fresh, appended, blanked}
 
 -- the numbers of its buffers
@@ -12,9 +12,13 @@ numbers_of chain = map (λ b. b.number) chain
 abbrev pub bytes_of : List Buffer → List ℕ
 bytes_of chain = flat_map (λ b. b.bytes) chain
 
--- the chain without bytes: what every call but `chain` and `take_first` keeps
+-- the chain without bytes, each segment with the headroom that it was made with
 abbrev pub fresh_of : List Buffer → List Buffer
 fresh_of chain = map fresh chain
+
+-- a chain has the segments that another has, as they were made: their numbers, headroom, sizes and links
+abbrev pub HasSameSegments : List Buffer → List Buffer → Type 0
+HasSameSegments chain other = fresh_of chain ≡ fresh_of other
 
 -- how many bytes it takes when fresh
 abbrev pub space_of : List Buffer → ℕ
@@ -25,6 +29,10 @@ abbrev pub part_of : List Buffer → ℕ → List ℕ
 part_of [] i = []
 part_of (b ∷ chain) zero = b.bytes
 part_of (b ∷ chain) (suc i) = part_of chain i
+
+-- where in the packet the bytes of segment i begin
+abbrev pub place_of_part : List Buffer → ℕ → ℕ
+place_of_part chain i = length (bytes_of (take i chain))
 
 -- the headroom is that of the first segment
 abbrev pub headroom_of : List Buffer → ℕ
@@ -70,6 +78,14 @@ shape_of chain = map blanked chain
 abbrev pub filled : List ℕ → List Buffer → List Buffer
 filled bytes [] = []
 filled bytes (b ∷ chain) = appended (take (room_of b) bytes) (fresh b) ∷ filled (drop (room_of b) bytes) chain
+
+-- each a chain of its own
+abbrev pub singles : List Buffer → List (List Buffer)
+singles buffers = map (λ b. b ∷ []) buffers
+
+-- the numbers of several chains, one after the other
+abbrev pub all_numbers : List (List Buffer) → List ℕ
+all_numbers chains = flat_map numbers_of chains
 
 -- fresh segments, numbered from 0, each a chain of its own
 abbrev pub made_all : ℕ → ℕ → ℕ → List (List Buffer)

@@ -1,10 +1,12 @@
 -- A deck as contracts see it: its live shares, and the reference counts of their segments (DPDK Programmer's Guide,
 -- "Mbuf Library", indirect buffers: a buffer goes back when its reference count reaches 0).
-use Rattle.std.specs.Prelude.{◌≡◌, ◌+◌, ◌<◌, All, None, nat_lt, length, ◌==◌, ℕ, not, if◌then◌else◌, List, [], ◌∷◌, ◌++◌, map, take, drop, filter, find, Option, Some, IfSome, slice_index_or}
+use Rattle.std.specs.Prelude.{◌≡◌, ◌+◌, ◌<◌, All, None, nat_lt, length, ◌==◌, ℕ, not, if◌then◌else◌, List, [], ◌∷◌}
+use Rattle.std.specs.Prelude.{◌++◌, map, take, drop, filter, find, Option, Some, IfSome, slice_index_or}
 use Rattle.std.specs.List.{sum_by}
-use Rattle.fabric.specs.Numbers.{times, AreDistinct}
+use Rattle.std.specs.List.Sorted.{IsNonDecreasing}
+use Rattle.burst.specs.Numbers.{times, AreDistinct}
 use Rattle.mbuf.specs.Buffer.{Buffer}
-use Rattle.mbuf.specs.Chain.{numbers_of, bytes_of, fresh_of, space_of}
+use Rattle.mbuf.specs.Chain.{numbers_of, bytes_of, fresh_of, space_of, singles}
 use Rattle.mbuf.specs.declared.fault.DeckFault.{DeckFault}
 use Rattle.mbuf.specs.declared.fault.DeckFault.TheVariants.{NoTailroom, TooShort, NoSuchShare, NoId}
 
@@ -64,10 +66,6 @@ without id live = filter (λ share. not (share.id == id)) live
 abbrev pub unmentioned : List Share → List Buffer → List Buffer
 unmentioned live buffers = filter (λ b. mentions_of b.number live == 0) buffers
 
--- each a chain of its own
-abbrev pub singles : List Buffer → List (List Buffer)
-singles buffers = map (λ b. b ∷ []) buffers
-
 -- the segments that a share gave back, with the shares that are still live
 abbrev pub freed_by : Option Share → List Share → List (List Buffer)
 freed_by None live = []
@@ -85,9 +83,10 @@ added share deck = record { next = deck.next + 1; live = deck.live ++ share ∷ 
 abbrev pub on_live : (List Share → List Share) → Shares → Shares
 on_live f deck = record deck { live = f deck.live }
 
--- ids are given once, each below the next
+-- ids are given once and in order, each below the next
 pub record HasIds (next : ℕ) (live : List Share) : Type 0 where
   pub distinct : AreDistinct (map (λ share. share.id) live)
+  pub rising : IsNonDecreasing (map (λ share. share.id) live)
   pub below : All (λ share. share.id < next) live
 
 -- what is refused for a share that isn't there, before anything else is
@@ -111,4 +110,5 @@ release_refusal id deck = of_share (share_of id deck.live) (λ share. None)
 
 abbrev pub copy_refusal : ℕ → List Buffer → Shares → Option DeckFault
 copy_refusal id chain deck =
-    of_share (share_of id deck.live) (λ share. if nat_lt (space_of chain) (length share.bytes) then Some NoTailroom else None)
+    of_share (share_of id deck.live) (λ share. if nat_lt (space_of chain) (length share.bytes) then Some NoTailroom
+    else None)

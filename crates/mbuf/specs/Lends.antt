@@ -1,5 +1,5 @@
--- What the bytes of a segment, the links of a row and a chain are once a part of them was lent for writing.
-use Rattle.std.specs.Prelude.{ℕ, List, ◌++◌, take}
+-- What the bytes of a segment and the links of a row are once a part of them was lent for writing.
+use Rattle.std.specs.Prelude.{ℕ, zero, suc, List, ◌++◌, take}
 use Rattle.std.specs.Borrow.{Lends, MutBor, Fml, u8, Array}
 use Rattle.std.specs.Global.{Box}
 use Rattle.std.specs.contracts.alloc.Global.{the_row as global_row}
@@ -11,7 +11,6 @@ use Rattle.mbuf.specs.Chain.{at_segment}
 use Rattle.mbuf.specs.Links.{row}
 use Rattle.mbuf.specs.contracts.segment.Segment.{the_row as segment_row}
 use Rattle.mbuf.specs.contracts.link.Link.{the_row as link_row}
-use Rattle.mbuf.specs.contracts.row.Row.{the_row as row_row}
 
 abbrev pub LendsBytes : MutBor Buffer → MutBor (List ℕ) → Fml
 LendsBytes s r = Lends segment_row (Array u8 0) s r (λ w. rewritten w s.now)
@@ -27,10 +26,11 @@ box_row = boxed link_row global_row ghosts
 abbrev pub LendsBehind : MutBor (Buffer × List Buffer) → ℕ → MutBor (Box (Buffer × List Buffer)) → Fml
 LendsBehind s n r = Lends link_row box_row s r (λ w. (s.now.0, take n s.now.1 ++ row w.value))
 
--- behind n segments of a row stands what was written
-abbrev pub LendsFrom : MutBor (List Buffer) → ℕ → MutBor (Buffer × List Buffer) → Fml
-LendsFrom s n r = Lends row_row link_row s r (λ w. take n s.now ++ row w)
+-- a link with f at the segment i further on
+abbrev pub at_link : ℕ → (Buffer → Buffer) → Buffer × List Buffer → Buffer × List Buffer
+at_link zero f link = (f link.0, link.1)
+at_link (suc i) f link = (link.0, at_segment i f link.1)
 
--- the bytes of segment i are what was written
-abbrev pub LendsPart : MutBor (List Buffer) → ℕ → MutBor (List ℕ) → Fml
-LendsPart s i r = Lends row_row (Array u8 0) s r (λ w. at_segment i (rewritten w) s.now)
+-- the bytes of the segment i further on are what was written
+abbrev pub LendsPart : MutBor (Buffer × List Buffer) → ℕ → MutBor (List ℕ) → Fml
+LendsPart s i r = Lends link_row (Array u8 0) s r (λ w. at_link i (rewritten w) s.now)

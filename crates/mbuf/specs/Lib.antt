@@ -4,5 +4,5 @@ pub mod Links
 pub mod Lends
 pub mod ChainLends
 pub mod Deck
-pub mod Slots
+pub mod Entries
 pub mod Fault

@@ -1,6 +1,8 @@
 //! Where segments come from. There is no other way to make one, so that a number names one buffer for ever.
 ghost use Rattle.std.specs.Prelude.{◌≡◌, ◌≤◌, IfOk};
-ghost use Rattle.mbuf.specs.Chain.{made_all};
+ghost use Rattle.std.specs.List.{range_with_len};
+ghost use Rattle.burst.specs.Numbers.{AreDistinct};
+ghost use Rattle.mbuf.specs.Chain.{made_all, all_numbers};
 
 use crate::chain::Chain;
 use std::alloc::{AllocError, Global};
@@ -19,7 +21,9 @@ pub fn make(
     requires count { count ≤ 65536 }
     requires headroom { headroom ≤ 65536 }
     requires room { room ≤ 65536 }
-    ensures { IfOk result (λ chains. chains.items ≡ made_all headroom room count) }
+    ensures made { IfOk result (λ chains. chains.items ≡ made_all headroom room count) }
+    ensures numbers { IfOk result (λ chains. all_numbers chains.items ≡ range_with_len 0 count) }
+    ensures distinct { IfOk result (λ chains. AreDistinct (all_numbers chains.items)) }
 {
     let mut chains = Vec::with_capacity(alloc, count as usize)?;
     for number in 0..count {

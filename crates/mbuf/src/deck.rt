@@ -1,25 +1,26 @@
 //! Shares of packets. A share mentions every segment of a chain and shows some of its bytes; a segment goes back when
 //! the last share that mentions it goes (DPDK Programmer's Guide, "Mbuf Library", indirect buffers). A deck belongs to
-//! one worker: it has no lock, and its counts are plain numbers.
+//! one worker: it has no lock, and its counts are plain numbers. As they are written, `share` and `again` alone ask for
+//! memory, of the allocator that `new` was given. No clause says so of the other calls, and no test refuses it to them.
 ghost use Rattle.std.specs.Prelude.{◌≡◌, ◌+◌, ◌<◌, ◌≤◌, ◌++◌, ℕ, [], ◌∷◌, Some, None, IsNone, IfSome, IfOk, IfErr};
 ghost use Rattle.std.specs.Prelude.{OnOk, OnErr};
 ghost use Rattle.std.specs.Result.{result_err};
-ghost use Rattle.mbuf.specs.Chain.{numbers_of, bytes_of, fresh_of, filled};
+ghost use Rattle.mbuf.specs.Chain.{numbers_of, bytes_of, HasSameSegments, filled};
 ghost use Rattle.mbuf.specs.Deck.{AreUnmentioned, IfShare, share_of, shared, again, narrowed, added, on_live, at_id};
 ghost use Rattle.mbuf.specs.Deck.{without, freed_by};
 ghost use Rattle.mbuf.specs.Deck.{share_refusal, again_refusal, cut_refusal, release_refusal, copy_refusal};
 
 use crate::chain::Chain;
 use crate::fault::DeckFault;
-use crate::shelf::Shelf;
-use fabric::Burst;
+use crate::share_table::ShareTable;
+use burst::Burst;
 use std::alloc::Global;
 use std::marker::Model;
 
 /// The live shares of one worker.
 #[derive(Drop)]
 pub struct Deck {
-    shelf: Shelf,
+    table: ShareTable,
     next: u32,
 }
 
@@ -28,18 +29,18 @@ impl Model for Deck {
 
     ghost Value = { Shares };
 
-    ghost view = { λ deck. record { next = deck.next; live = deck.shelf } };
+    ghost view = { λ deck. record { next = deck.next; live = deck.table } };
 
-    ghost invariant = { λ deck. HasIds deck.next deck.shelf };
+    ghost invariant = { λ deck. HasIds deck.next deck.table };
 }
 
 impl Deck {
-    /// A deck without shares. It takes no memory yet.
+    /// A deck without shares.
     pub fn new(alloc: Global) -> Deck
         ensures { result ≡ record { next = 0; live = [] } }
     {
         Deck {
-            shelf: Shelf::new(alloc),
+            table: ShareTable::new(alloc),
             next: 0,
         }
     }
@@ -48,7 +49,7 @@ impl Deck {
     /// aren't used again. Asked: no live share mentions any of its segments.
     ///
     /// Refused with 7 `NoId` after 2^32 - 1 ids, 6 `Memory`, tested in this order. The chain then comes back, and the
-    /// deck is unchanged. It takes memory.
+    /// deck is unchanged.
     pub fn share(&mut self, chain: Chain) -> Result<u32, (Chain, DeckFault)>
         requires unmentioned { AreUnmentioned (numbers_of chain) self.old.live }
         ensures id { IfOk result (λ id. id ≡ self.old.next) }
@@ -61,7 +62,7 @@ impl Deck {
             return Err((chain, DeckFault::NoId));
         }
         let id = self.next;
-        if let Err(chain) = self.shelf.add(id, chain) {
+        if let Err(chain) = self.table.add(id, chain) {
             return Err((chain, DeckFault::Memory));
         }
         self.next = id + 1;
@@ -71,7 +72,7 @@ impl Deck {
     /// Makes another share with the mentions and the bytes that share `id` has now.
     ///
     /// Refused with 5 `NoSuchShare` where no live share has this id, 7 `NoId` after 2^32 - 1 ids, 6 `Memory`, tested in
-    /// this order. The deck is then unchanged. It takes memory.
+    /// this order. The deck is then unchanged.
     pub fn again(&mut self, id: u32) -> Result<u32, DeckFault>
         ensures id { IfOk result (λ new. new ≡ self.old.next) }
         ensures done { OnOk result (IfShare id self.old (λ old. self.new ≡ added (again self.old.next old) self.old)) }
@@ -79,14 +80,14 @@ impl Deck {
         ensures memory { IsNone (again_refusal id self.old) → IfErr result (λ fault. fault ≡ DeckFault.Memory) }
         ensures unchanged { OnErr result (self.new ≡ self.old) }
     {
-        let Some(place) = self.shelf.place(id) else {
+        let Some(place) = self.table.place(id) else {
             return Err(DeckFault::NoSuchShare);
         };
         if self.next == u32::MAX {
             return Err(DeckFault::NoId);
         }
         let new = self.next;
-        if self.shelf.again(place, new).is_err() {
+        if self.table.again(place, new).is_err() {
             return Err(DeckFault::Memory);
         }
         self.next = new + 1;
@@ -96,28 +97,27 @@ impl Deck {
     /// Narrows share `id` to `n` of its bytes, from its byte `from` on. It keeps its mentions.
     ///
     /// Refused with 5 `NoSuchShare` where no live share has this id, 3 `TooShort` where it shows too few bytes, tested
-    /// in this order. The deck is then unchanged. It takes no memory.
+    /// in this order. The deck is then unchanged.
     pub fn cut(&mut self, id: u32, from: usize, n: usize) -> Result<(), DeckFault>
         ensures done { OnOk result (self.new ≡ on_live (at_id id (narrowed from n)) self.old) }
         ensures refused { result_err result ≡ cut_refusal id from n self.old }
         ensures unchanged { OnErr result (self.new ≡ self.old) }
     {
-        let Some(place) = self.shelf.place(id) else {
+        let Some(place) = self.table.place(id) else {
             return Err(DeckFault::NoSuchShare);
         };
-        let len = self.shelf.len(place);
+        let len = self.table.len(place);
         if from > len || n > len - from {
             return Err(DeckFault::TooShort);
         }
-        self.shelf.narrow(place, from, n);
+        self.table.narrow(place, from, n);
         Ok(())
     }
 
     /// Ends share `id`, and puts into `into` the segments whose last mention went, in the order of the chain: each a
     /// fresh chain of its own. Asked: `into` is empty.
     ///
-    /// Refused with 5 `NoSuchShare` where no live share has this id; the deck is then unchanged, and `into` empty. It
-    /// takes no memory.
+    /// Refused with 5 `NoSuchShare` where no live share has this id; the deck is then unchanged, and `into` empty.
     pub fn release_into(&mut self, id: u32, into: &mut Burst<Chain, 64>) -> Result<(), DeckFault>
         requires empty { into.old ≡ [] }
         ensures done { OnOk result (self.new ≡ on_live (without id) self.old) }
@@ -125,10 +125,10 @@ impl Deck {
         ensures refused { result_err result ≡ release_refusal id self.old }
         ensures unchanged { OnErr result ((self.new ≡ self.old) × (into.new ≡ [])) }
     {
-        let Some(place) = self.shelf.place(id) else {
+        let Some(place) = self.table.place(id) else {
             return Err(DeckFault::NoSuchShare);
         };
-        self.shelf.release(place, into);
+        self.table.release(place, into);
         Ok(())
     }
 
@@ -147,21 +147,21 @@ impl Deck {
     /// Fills `chain` with the bytes of share `id`, from its first segment on. What was in the chain is overwritten.
     ///
     /// Refused with 5 `NoSuchShare` where no live share has this id, 2 `NoTailroom` where the bytes are more than the
-    /// chain's `space`, tested in this order. The chain is then unchanged. It takes no memory.
+    /// chain's `space`, tested in this order. The chain is then unchanged.
     pub fn copy_into(&self, id: u32, chain: &mut Chain) -> Result<(), DeckFault>
         ensures done { OnOk result (IfShare id self.now (λ share. chain.new ≡ filled share.bytes chain.old)) }
         ensures packet { OnOk result (IfShare id self.now (λ share. bytes_of chain.new ≡ share.bytes)) }
-        ensures kept { fresh_of chain.new ≡ fresh_of chain.old }
+        ensures kept { HasSameSegments chain.new chain.old }
         ensures refused { result_err result ≡ copy_refusal id chain.old self.now }
         ensures unchanged { OnErr result (chain.new ≡ chain.old) }
     {
-        let Some(place) = self.shelf.place(id) else {
+        let Some(place) = self.table.place(id) else {
             return Err(DeckFault::NoSuchShare);
         };
-        if self.shelf.len(place) > chain.space() {
+        if self.table.len(place) > chain.space() {
             return Err(DeckFault::NoTailroom);
         }
-        self.shelf.copy(place, chain);
+        self.table.copy(place, chain);
         Ok(())
     }
 }

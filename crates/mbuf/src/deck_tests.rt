@@ -1,13 +1,17 @@
 //! Worked rows of shares, each call of a deck, and what is left where memory is refused.
 ghost use Rattle.std.specs.Prelude.{◌≡◌, []};
 
-use crate::example::{deck_of, numbers, pair, segment};
+use crate::fixtures::{deck_of, deck_of_pairs, numbers, pair, segment};
 use crate::{Chain, Deck, DeckFault};
-use fabric::Burst;
+use arrayvec::ArrayVec;
+use burst::Burst;
 use std::test::Fail;
 
 /// More shares than a deck first has memory for.
 const MANY: u32 = 20;
+
+/// More packets than any small room that a deck could have kept.
+const PACKETS: u32 = 150;
 
 #[test]
 fn gives_segments_with_their_last_mention(rt: HostRuntime) -> Result<(), Fail> {
@@ -95,6 +99,59 @@ fn is_as_it_was_without_memory(rt: HostRuntime) -> Result<(), Fail> {
     let mut burst = Burst::new();
     assert_eq!(rt; deck.release_into(0, &mut burst), Ok(()));
     assert_eq!(rt; burst.len(), 1);
+    Ok(())
+}
+
+/// Releases share `id`, and tells the numbers of the segments that come back.
+fn released(deck: &mut Deck, id: u32) -> Result<ArrayVec<u32, 64>, Fail> {
+    let mut all = ArrayVec::new();
+    let freed = deck.release(id)?;
+    for i in 0..freed.len().min(2) {
+        let Some(chain) = freed.get(i) else {
+            return Err(Fail::new("fewer segments than the list is long"));
+        };
+        for number in numbers(chain).as_slice() {
+            if all.is_full() {
+                return Err(Fail::new("more than 64 segments"));
+            }
+            all.push(*number);
+        }
+    }
+    Ok(all)
+}
+
+/// Hundreds of shares of many packets at once, each shared once more: a segment comes back with the last mention of its
+/// packet and not before, in whatever order the shares are released.
+#[test]
+fn keeps_hundreds_of_shares(rt: HostRuntime) -> Result<(), Fail> {
+    let mut deck = deck_of_pairs(rt.alloc(), PACKETS)?;
+    for id in 0..PACKETS {
+        assert_eq!(rt; deck.again(id), Ok(PACKETS + id), "at {id}");
+    }
+    for id in 0..PACKETS {
+        let id = PACKETS - 1 - id;
+        assert!(rt; released(&mut deck, id)?.is_empty(), "at {id}");
+        let last = released(&mut deck, PACKETS + id)?;
+        assert_eq!(rt; last.as_slice(), [2 * id, 2 * id + 1].as_slice(), "at {id}");
+    }
+    Ok(())
+}
+
+/// Two packets in one deck, released in either order.
+#[test]
+fn releases_two_packets_in_both_orders(rt: HostRuntime) -> Result<(), Fail> {
+    for first in [0, 1] {
+        let mut deck = deck_of_pairs(rt.alloc(), 2)?;
+        for id in [first, 1 - first] {
+            let freed = released(&mut deck, id)?;
+            assert_eq!(rt;
+                freed.as_slice(),
+                [2 * id, 2 * id + 1].as_slice(),
+                "at {id}"
+            );
+        }
+        assert_eq!(rt; deck.release(first).err(), Some(DeckFault::NoSuchShare));
+    }
     Ok(())
 }
 

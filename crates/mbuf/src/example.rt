@@ -1,64 +1,24 @@
-//! Chains for the tests: each segment with 128 bytes of headroom and room for 64.
-ghost use Rattle.std.specs.Prelude.{◌≡◌, ◌<◌, ◌≤◌, ◌++◌, [], ◌∷◌, IfOk};
-ghost use Rattle.fabric.specs.Numbers.{AreDistinct};
-ghost use Rattle.mbuf.specs.Buffer.{made};
-ghost use Rattle.mbuf.specs.Chain.{numbers_of};
+//! Short callers, and what they know of a packet by the clauses of its calls alone.
+ghost use Rattle.std.specs.Prelude.{◌≡◌, length, replicate, OnOk};
+ghost use Rattle.mbuf.specs.Buffer.{overwritten};
+ghost use Rattle.mbuf.specs.Chain.{bytes_of, HasSameSegments, part_of};
 
-use crate::{Chain, Deck};
-use arrayvec::ArrayVec;
-use fabric::Tagged;
-use std::alloc::{AllocError, Global};
-use std::test::Fail;
+use crate::{Chain, ChainFault};
 
-/// A chain of one fresh segment.
-pub fn segment(alloc: Global, number: u32) -> Result<Chain, AllocError>
-    ensures { IfOk result (λ chain. chain ≡ made 128 64 number ∷ []) }
+/// Puts a header before a packet and takes it off again: the packet is as it was.
+pub fn with_header(packet: &mut Chain, header: &[u8]) -> Result<(), ChainFault>
+    ensures { OnOk result (bytes_of packet.new ≡ bytes_of packet.old) }
 {
-    Chain::make(alloc, number, 128, 64)
+    packet.prepend(header)?;
+    packet.adj(header.len())
 }
 
-/// The chain of both, one behind the other.
-pub fn both(one: Chain, other: Chain) -> Result<Chain, Fail>
-    requires apart { AreDistinct (numbers_of one ++ numbers_of other) }
-    ensures { IfOk result (λ whole. whole ≡ one ++ other) }
+/// Blanks the bytes of the first segment: the others stay, and so do all segments.
+pub fn blank_front(packet: &mut Chain)
+    ensures written { let zeros = replicate (length (part_of packet.old 0)) 0 in
+        bytes_of packet.new ≡ overwritten 0 zeros (bytes_of packet.old) }
+    ensures kept { HasSameSegments packet.new packet.old }
 {
-    match one.chain(other) {
-        Ok(whole) => Ok(whole),
-        Err((_, _, fault)) => Err(Fail::from(fault)),
-    }
-}
-
-/// Segments `first` and `second` as one chain.
-pub fn pair(alloc: Global, first: u32, second: u32) -> Result<Chain, Fail>
-    requires { first < second }
-{
-    both(segment(alloc, first)?, segment(alloc, second)?)
-}
-
-/// Segments 0 to 63 as one chain.
-pub fn longest(alloc: Global) -> Result<Chain, Fail>
-    ensures { IfOk result (λ chain. AreDistinct (numbers_of chain ++ 64 ∷ [])) }
-{
-    let mut whole = segment(alloc, 0)?;
-    for number in 1..64 {
-        whole = both(whole, segment(alloc, number)?)?;
-    }
-    Ok(whole)
-}
-
-/// A deck with `chain` as share 0.
-pub fn deck_of(alloc: Global, chain: Chain) -> Result<Deck, Fail> {
-    let mut deck = Deck::new(alloc);
-    match deck.share(chain) {
-        Ok(0) => Ok(deck),
-        Ok(_) => Err(Fail::new("the first id isn't 0")),
-        Err((_, fault)) => Err(Fail::from(fault)),
-    }
-}
-
-/// The numbers of a chain's segments, in order.
-pub fn numbers(chain: &Chain) -> ArrayVec<u32, 64> {
-    let mut numbers = ArrayVec::new();
-    chain.tags(&mut numbers);
-    numbers
+    let _some = packet.segments();
+    packet.part_mut(0).fill(0);
 }

@@ -1,16 +1,32 @@
 //! Packet buffers (DPDK Programmer's Guide, "Mbuf Library"): segments with headroom and tailroom, packets as chains of
 //! them, and shares of packets whose segments go back with their last mention.
+//!
+//! A caller, as it stands proved in `example`:
+//!
+//! ```text
+//! fn with_header(packet: &mut Chain, header: &[u8]) -> Result<(), ChainFault>
+//!     ensures { OnOk result (bytes_of packet.new ≡ bytes_of packet.old) }
+//! {
+//!     packet.prepend(header)?;
+//!     packet.adj(header.len())
+//! }
+//! ```
 #![tactic(auto)]
 
 mod buffers;
+mod bytes;
 mod chain;
 mod deck;
+mod ends;
+mod entry;
 mod fault;
+mod fill;
+mod joins;
 mod link;
-mod row;
+mod link_bytes;
+mod parts;
 mod segment;
-mod shelf;
-mod slot;
+mod share_table;
 mod walk;
 
 pub use buffers::make;
@@ -22,5 +38,7 @@ pub use fault::{ChainFault, DeckFault};
 mod deck_tests;
 #[cfg(test)]
 mod example;
+#[cfg(test)]
+mod fixtures;
 #[cfg(test)]
 mod tests;

@@ -3,7 +3,7 @@
 ghost use Rattle.std.specs.Prelude.{◌≡◌, ◌+◌, ◌-◌, ◌<◌, ◌≤◌, ◌^◌, ◌++◌, ◌↔◌, length, replicate, slice_index, IfOk};
 ghost use Rattle.std.specs.Prelude.{IsErrOf, OnOk, OnErr};
 ghost use Rattle.mbuf.specs.Buffer.{size_of, room_of, fresh, made, prepended, appended, cut_front, cut_back};
-ghost use Rattle.mbuf.specs.Buffer.{with_byte, blanked};
+ghost use Rattle.mbuf.specs.Buffer.{with_byte, written, blanked};
 
 use crate::fault::ChainFault;
 use std::alloc::{AllocError, Global};
@@ -92,30 +92,22 @@ impl Segment {
         self.store.len() - self.reserve
     }
 
-    #[inline]
-    pub fn append(&mut self, bytes: &[u8])
-        requires { length bytes.now ≤ self.old.tailroom }
-        ensures { self.new ≡ appended bytes.now self.old }
-    {
-        let end = self.start + self.len;
-        let added = bytes.len();
-        self.store
-            .slice_mut(end..end + added)
-            .copy_from_slice(bytes);
-        self.len += added;
-    }
-
     /// Appends `bytes` where there is tailroom for them.
     #[inline]
-    pub fn append_fitting(&mut self, bytes: &[u8]) -> Result<(), ChainFault>
+    pub fn append(&mut self, bytes: &[u8]) -> Result<(), ChainFault>
         ensures done { OnOk result (self.new ≡ appended bytes.now self.old) }
         ensures refused { IsErrOf result ChainFault.NoTailroom ↔ (self.old.tailroom < length bytes.now) }
         ensures unchanged { OnErr result ((result ≡ Err ChainFault.NoTailroom) × (self.new ≡ self.old)) }
     {
-        if bytes.len() > self.tailroom() {
+        let added = bytes.len();
+        if added > self.tailroom() {
             return Err(ChainFault::NoTailroom);
         }
-        self.append(bytes);
+        let end = self.start + self.len;
+        self.store
+            .slice_mut(end..end + added)
+            .copy_from_slice(bytes);
+        self.len += added;
         Ok(())
     }
 
@@ -141,17 +133,9 @@ impl Segment {
         self.len -= n;
     }
 
-    #[inline]
-    pub fn cut_back(&mut self, n: usize)
-        requires { n ≤ length self.old.bytes }
-        ensures { self.new ≡ cut_back n self.old }
-    {
-        self.len -= n;
-    }
-
     /// Cuts `n` bytes off the end where there are as many.
     #[inline]
-    pub fn cut_back_within(&mut self, n: usize) -> Result<(), ChainFault>
+    pub fn cut_back(&mut self, n: usize) -> Result<(), ChainFault>
         ensures done { OnOk result (self.new ≡ cut_back n self.old) }
         ensures refused { IsErrOf result ChainFault.TooShort ↔ (length self.old.bytes < n) }
         ensures unchanged { OnErr result ((result ≡ Err ChainFault.TooShort) × (self.new ≡ self.old)) }
@@ -159,7 +143,7 @@ impl Segment {
         if n > self.len {
             return Err(ChainFault::TooShort);
         }
-        self.cut_back(n);
+        self.len -= n;
         Ok(())
     }
 
@@ -175,7 +159,8 @@ impl Segment {
     #[inline]
     pub fn resize(&mut self, n: usize)
         requires { n ≤ room_of self.old }
-        ensures { blanked self.new ≡ appended (replicate n 0) (fresh self.old) }
+        ensures shape { blanked self.new ≡ appended (replicate n 0) (fresh self.old) }
+        ensures len { length self.new.bytes ≡ n }
     {
         self.start = self.reserve;
         self.len = n;
@@ -196,6 +181,29 @@ impl Segment {
     {
         let at = self.start + i;
         self.store[at] = v;
+    }
+
+    /// Writes `bytes` over those from byte `at` on.
+    #[inline]
+    pub fn write(&mut self, at: usize, bytes: &[u8])
+        requires { at + length bytes.now ≤ length self.old.bytes }
+        ensures done { self.new ≡ written at bytes.now self.old }
+        ensures len { length self.new.bytes ≡ length self.old.bytes }
+    {
+        let from = self.start + at;
+        self.store
+            .slice_mut(from..from + bytes.len())
+            .copy_from_slice(bytes);
+    }
+
+    /// Makes the segment hold `bytes` alone, from where its bytes begin when it is fresh.
+    #[inline]
+    pub fn fill(&mut self, bytes: &[u8])
+        requires { length bytes.now ≤ room_of self.old }
+        ensures { self.new ≡ appended bytes.now (fresh self.old) }
+    {
+        self.resize(bytes.len());
+        self.write(0, bytes);
     }
 
     #[inline]

@@ -1,6 +1,8 @@
 //! Worked rows of chains, and each call of a chain.
-use crate::example::{longest, numbers, pair, segment};
+use crate::example::{blank_front, with_header};
+use crate::fixtures::{longest, numbers, pair, segment};
 use crate::{Chain, ChainFault, make};
+use burst::Burst;
 use std::alloc::Global;
 use std::test::Fail;
 
@@ -15,17 +17,22 @@ fn four_bytes(alloc: Global) -> Result<Chain, Fail> {
     Ok(chain)
 }
 
+/// More segments than any small room that a call could have kept.
+const HUNDREDS: u32 = 300;
+
 #[test]
 fn makes_numbered_segments(rt: HostRuntime) -> Result<(), Fail> {
-    let mut number = 0;
-    for chain in make(rt.alloc(), 3, 128, 64)? {
-        assert_eq!(rt; numbers(&chain).as_slice(), [number].as_slice());
-        assert_eq!(rt; chain.headroom(), 128);
-        assert_eq!(rt; chain.tailroom(), 64);
-        assert!(rt; chain.is_empty());
-        number = if number < 9 { number + 1 } else { 9 };
+    for count in [0, 3, 112, HUNDREDS] {
+        let mut number = 0u32;
+        for chain in make(rt.alloc(), count, 128, 64)? {
+            assert_eq!(rt; numbers(&chain).as_slice(), [number].as_slice());
+            assert_eq!(rt; chain.headroom(), 128);
+            assert_eq!(rt; chain.tailroom(), 64);
+            assert!(rt; chain.is_empty());
+            number = number.saturating_add(1);
+        }
+        assert_eq!(rt; number, count);
     }
-    assert_eq!(rt; number, 3);
     Ok(())
 }
 
@@ -66,6 +73,52 @@ fn reads_and_writes_bytes(rt: HostRuntime) -> Result<(), Fail> {
     let mut six = [9; 6];
     assert_eq!(rt; chain.linear_copy(&mut six), Ok(4));
     assert_eq!(rt; six, [1, 2, 3, 4, 9, 9]);
+    Ok(())
+}
+
+#[test]
+fn writes_and_fills_bytes(rt: HostRuntime) -> Result<(), Fail> {
+    let mut chain = four_bytes(rt.alloc())?;
+    assert_eq!(rt; chain.write(1, &[7, 8, 9]), Ok(()));
+    assert_eq!(rt; chain.write(2, &[5, 5, 5]), Err(ChainFault::TooShort));
+    assert_eq!(rt; chain.write(4, &[]), Ok(()));
+    assert_eq!(rt; chain.write(5, &[]), Err(ChainFault::TooShort));
+    let mut four = [0; 4];
+    assert_eq!(rt; chain.linear_copy(&mut four), Ok(4));
+    assert_eq!(rt; four, [1, 7, 8, 9]);
+    let bytes = [6; 65];
+    assert_eq!(rt; chain.fill(&bytes), Ok(()));
+    assert_eq!(rt; chain.len(), 65);
+    assert_eq!(rt; chain.byte(64), Some(6));
+    assert_eq!(rt; chain.resize(129), Err(ChainFault::NoTailroom));
+    assert_eq!(rt; chain.resize(66), Ok(()));
+    assert_eq!(rt; chain.len(), 66);
+    Ok(())
+}
+
+/// Into a burst that has just the room.
+#[test]
+fn comes_apart(rt: HostRuntime) -> Result<(), Fail> {
+    let chain = four_bytes(rt.alloc())?;
+    assert!(rt; chain.segments() == 2);
+    let mut apart = Burst::<Chain, 2>::new();
+    chain.take_apart(&mut apart);
+    assert_eq!(rt; apart.len(), 2);
+    let last = apart.pop().ok_or("last")?;
+    assert_eq!(rt; numbers(&last).as_slice(), [7].as_slice());
+    assert_eq!(rt; last.len(), 0);
+    Ok(())
+}
+
+#[test]
+fn keeps_what_a_caller_leaves(rt: HostRuntime) -> Result<(), Fail> {
+    let mut chain = four_bytes(rt.alloc())?;
+    assert_eq!(rt; with_header(&mut chain, &[9; 14]), Ok(()));
+    assert_eq!(rt; chain.len(), 4);
+    blank_front(&mut chain);
+    let mut four = [9; 4];
+    assert_eq!(rt; chain.linear_copy(&mut four), Ok(4));
+    assert_eq!(rt; four, [0, 0, 3, 4]);
     Ok(())
 }
 

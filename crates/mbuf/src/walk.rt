@@ -1,18 +1,48 @@
 //! The way to one segment of a row, which is then lent for writing.
 //!
-//! It is found by halving: a way over at most 32 links is two over at most 16, and so on down to single steps. A loop
-//! or a recursion would take the same steps, but there a proof wouldn't know, once the loan is over, that every other
-//! segment stayed as it was.
+//! It takes one step a segment, as a loop would: a way over at most 64 links is two over at most 32, and so on down to
+//! single steps. After a loop or a recursion a proof wouldn't know, once the loan is over, that every other segment
+//! stayed as it was.
 ghost use Rattle.std.specs.Prelude.{◌≡◌, ◌+◌, ◌-◌, ◌<◌, ◌≤◌, length, drop};
 ghost use Rattle.mbuf.specs.Chain.{part_of};
 ghost use Rattle.mbuf.specs.Links.{row};
 ghost use Rattle.std.specs.Borrow.{sem};
 
 use crate::link::Link;
-use crate::row::Row;
+use crate::segment::Segment;
+
+/// A way over `$i` links by two ways over half of them.
+macro_rules! halved {
+    ($link:expr, $i:expr, $half:ident) => {{
+        if $i == 1 {
+            return $link.skip_1();
+        }
+        let half = $i / 2;
+        $link.$half(half).as_mut().$half($i - half)
+    }};
+}
 
 impl Link {
-    ghost use Rattle.mbuf.specs.Lends.{LendsBehind};
+    ghost use Rattle.mbuf.specs.Lends.{LendsBehind, LendsSegment, LendsPart};
+
+    /// The first segment, for writing.
+    #[inline]
+    fn segment_mut(&mut self) -> &mut Segment
+        ensures* writes_back { sem 𝓛 (LendsSegment self.entry result) }
+        ensures value { result.now ≡ self.old.0 }
+    {
+        &mut self.segment
+    }
+
+    /// The next link, for writing. There must be one.
+    #[inline]
+    fn skip_1(&mut self) -> &mut Box<Link>
+        requires { 1 < length (row self.old) }
+        ensures* writes_back { sem 𝓛 (LendsBehind self.entry 0 result) }
+        ensures value { row result.now.value ≡ drop 1 (row self.old) }
+    {
+        self.next.as_mut().unwrap()
+    }
 
     /// The link `i` further on, from 1 to 2. There must be one.
     fn within_2(&mut self, i: usize) -> &mut Box<Link>
@@ -36,11 +66,7 @@ impl Link {
         ensures* writes_back { sem 𝓛 (LendsBehind self.entry (i - 1) result) }
         ensures value { row result.now.value ≡ drop i (row self.old) }
     {
-        if i == 1 {
-            return self.skip_1();
-        }
-        let half = i / 2;
-        self.within_2(half).as_mut().within_2(i - half)
+        halved!(self, i, within_2)
     }
 
     /// The link `i` further on, from 1 to 8. There must be one.
@@ -51,11 +77,7 @@ impl Link {
         ensures* writes_back { sem 𝓛 (LendsBehind self.entry (i - 1) result) }
         ensures value { row result.now.value ≡ drop i (row self.old) }
     {
-        if i == 1 {
-            return self.skip_1();
-        }
-        let half = i / 2;
-        self.within_4(half).as_mut().within_4(i - half)
+        halved!(self, i, within_4)
     }
 
     /// The link `i` further on, from 1 to 16. There must be one.
@@ -66,11 +88,7 @@ impl Link {
         ensures* writes_back { sem 𝓛 (LendsBehind self.entry (i - 1) result) }
         ensures value { row result.now.value ≡ drop i (row self.old) }
     {
-        if i == 1 {
-            return self.skip_1();
-        }
-        let half = i / 2;
-        self.within_8(half).as_mut().within_8(i - half)
+        halved!(self, i, within_8)
     }
 
     /// The link `i` further on, from 1 to 32. There must be one.
@@ -81,11 +99,7 @@ impl Link {
         ensures* writes_back { sem 𝓛 (LendsBehind self.entry (i - 1) result) }
         ensures value { row result.now.value ≡ drop i (row self.old) }
     {
-        if i == 1 {
-            return self.skip_1();
-        }
-        let half = i / 2;
-        self.within_16(half).as_mut().within_16(i - half)
+        halved!(self, i, within_16)
     }
 
     /// The link `i` further on, from 1 to 64. There must be one.
@@ -96,37 +110,20 @@ impl Link {
         ensures* writes_back { sem 𝓛 (LendsBehind self.entry (i - 1) result) }
         ensures value { row result.now.value ≡ drop i (row self.old) }
     {
-        if i == 1 {
-            return self.skip_1();
-        }
-        let half = i / 2;
-        self.within_32(half).as_mut().within_32(i - half)
-    }
-}
-
-impl Row {
-    ghost use Rattle.mbuf.specs.Lends.{LendsFrom, LendsPart};
-
-    /// Link `i`, counted from 0.
-    fn link_mut(&mut self, i: usize) -> &mut Link
-        requires few { i ≤ 64 }
-        requires there { i < length self.old }
-        ensures* writes_back { sem 𝓛 (LendsFrom self.entry i result) }
-        ensures value { row result.now ≡ drop i self.old }
-    {
-        if i == 0 {
-            return self.first.as_mut();
-        }
-        self.first.as_mut().within_64(i).as_mut()
+        halved!(self, i, within_32)
     }
 
     /// The bytes of segment `i`, for writing.
+    #[inline]
     pub(crate) fn part_mut(&mut self, i: usize) -> &mut [u8]
         requires few { i ≤ 64 }
-        requires there { i < length self.old }
+        requires there { i < length (row self.old) }
         ensures* writes_back { sem 𝓛 (LendsPart self.entry i result) }
-        ensures value { result.now ≡ part_of self.old i }
+        ensures value { result.now ≡ part_of (row self.old) i }
     {
-        self.link_mut(i).segment_mut().bytes_mut()
+        if i == 0 {
+            return self.segment.bytes_mut();
+        }
+        self.within_64(i).as_mut().segment_mut().bytes_mut()
     }
 }

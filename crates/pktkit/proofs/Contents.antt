@@ -4,8 +4,8 @@ use Rattle.std.proofs.lemmas.List.{length-map, map-append, take-map, drop-map}
 use Rattle.geom.specs.Plan.{granted}
 use Rattle.geom.specs.declared.plan.How.{How}
 use Rattle.ringcore.specs.Fifo.{Fifo}
-use Rattle.pktkit.specs.Text.{Bytes, texts}
-use Rattle.pktkit.specs.RingReplies.{ring_contents, put_count, take_count, after_put, after_take, take_text, items_text}
+use Rattle.lines.specs.Text.{Bytes, texts}
+use Rattle.pktkit.specs.RingReplies.{ring_contents, put_count, take_count, after_put, after_take, take_text, words_text}
 
 put_count-texts : (ring : Fifo (Bor Bytes)) (how : How) (items : List (Bor Bytes))
     → put_count (ring_contents ring) how (texts items) ≡ granted how (length items) (ring.capacity - length ring.items)
@@ -39,13 +39,13 @@ take_contents ring how n count granted_is =
 -- the reply to a take, from what was moved
 pub take_text-texts : (ring : Fifo (Bor Bytes)) (how : How) (n count left : ℕ) (given : List (Bor Bytes))
     → count ≡ granted how n (length ring.items) → left ≡ length (drop count ring.items) → given ≡ take count ring.items
-    → (codes "take " ++ decimal count ++ codes " left " ++ decimal left) ++ items_text (texts given) ≡ take_text (ring_contents ring) how n
+    → (codes "take " ++ decimal count ++ codes " left " ++ decimal left) ++ words_text (texts given) ≡ take_text (ring_contents ring) how n
 take_text-texts ring how n count left given granted_is left_is given_is =
     let moved = granted_is ∙ sym (take_count-texts ring how n) in
     let rest = left_is ∙ sym (length-map (drop count ring.items) (λ item. item.now)) ∙ ap length (sym (drop-map (λ item. item.now) count ring.items)) in
     let out = ap texts given_is ∙ sym (take-map (λ item. item.now) count ring.items) in
-    ap₂ (λ m xs. (codes "take " ++ decimal count ++ codes " left " ++ decimal m) ++ items_text xs) rest out
-    ∙ ap (λ k. (codes "take " ++ decimal k ++ codes " left " ++ decimal (length (drop k (texts ring.items)))) ++ items_text (take k (texts ring.items))) moved
+    ap₂ (λ m xs. (codes "take " ++ decimal count ++ codes " left " ++ decimal m) ++ words_text xs) rest out
+    ∙ ap (λ k. (codes "take " ++ decimal k ++ codes " left " ++ decimal (length (drop k (texts ring.items)))) ++ words_text (take k (texts ring.items))) moved
 
 -- what holds whatever the result holds at `Ok`
 pub on_ok_always : {T E : Type 0} (r : Result T E) {P : Type 0} → P → OnOk r P

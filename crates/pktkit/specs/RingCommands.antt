@@ -4,8 +4,8 @@ use Rattle.std.specs.Option.{option_map}
 use Rattle.std.specs.List.{list_all}
 use Rattle.std.specs.Str.{bytes_eq}
 use Rattle.geom.specs.declared.plan.How.{How}
-use Rattle.geom.specs.declared.plan.How.TheVariants.{Bulk, Burst}
-use Rattle.pktkit.specs.Text.{Bytes, has_up_to, number_of}
+use Rattle.lines.specs.Text.{Bytes, has_up_to, number_of}
+use Rattle.lines.specs.Hows.{how_of}
 use Rattle.pktkit.specs.declared.ring_command.Command.{Command}
 use Rattle.pktkit.specs.declared.ring_command.Command.TheVariants.{Power, Exact, Put, Take, Count}
 
@@ -16,10 +16,6 @@ is_graphic b = nat_le 33 b && nat_le b 126
 -- an item: a word of 1 to 32 bytes, each from 0x21 to 0x7e
 abbrev pub is_item : Bytes → Bool
 is_item word = has_up_to 32 word && list_all is_graphic word
-
--- `bulk` or `burst`
-abbrev pub how_of : Bytes → Option How
-how_of word = if bytes_eq word (codes "bulk") then Some Bulk else (if bytes_eq word (codes "burst") then Some Burst else None)
 
 -- `ring power N` or `ring exact N`, by the words after `ring`
 abbrev pub sized_of : Bytes → List Bytes → Option Command
@@ -56,5 +52,5 @@ command_of (verb ∷ []) = if bytes_eq verb (codes "count") then Some Count else
 command_of (verb ∷ second ∷ rest) = longer_of verb second rest
 
 -- the items that a `put` names: the words after the first two
-abbrev pub items_of : List Bytes → List Bytes
-items_of words = drop 2 words
+abbrev pub items_named : List Bytes → List Bytes
+items_named words = drop 2 words

@@ -4,25 +4,19 @@
 
 mod command_line;
 mod program;
-mod reply;
 mod ring_answer;
 mod ring_command;
 mod ring_text;
-mod steps_answer;
-mod steps_command;
-mod steps_item;
-mod steps_plan;
-mod steps_stage;
-mod steps_text;
 #[cfg(test)]
 mod tests;
-mod text;
 
 use program::program;
+pub use ring_text::ring_text;
 use std::alloc::AllocError;
 use std::env;
 use std::io::ErrorKind;
 use std::process::ExitCode;
+pub use steps::steps_text;
 
 /// What a refused command line ends with.
 const REFUSED: u8 = 2;

@@ -4,13 +4,13 @@ ghost use Rattle.std.specs.Prelude.{◌≤◌};
 
 use crate::command_line::{Asked, read_words};
 use crate::ring_text::ring_text;
-use crate::steps_text::steps_text;
-use crate::text::TextFault;
 use clap::Error;
+use lines::TextFault;
 use std::alloc::AllocError;
 use std::fs;
 use std::io::{self, ErrorKind, Read, Write};
 use std::rt::Files;
+use steps::steps_text;
 use thiserror::Error as Fails;
 
 /// The name that stands for the input where no file is named.
@@ -42,8 +42,8 @@ pub fn program<R: Files + AllocGlobal, I: Read + Drop, O: Write, E: Write>(
     ensures { result ≤ 2 }
 {
     let done = match read_words(rt.alloc(), words) {
-        Ok(Asked::Ring(file)) => ring(rt, file, input, out),
-        Ok(Asked::Steps(file)) => steps(rt, file, input, out),
+        Ok(Asked::Ring(file)) => answer_ring(rt, file, input, out),
+        Ok(Asked::Steps(file)) => answer_steps(rt, file, input, out),
         Err(refusal) => return refuse(&refusal, out, err),
     };
     match done {
@@ -85,7 +85,7 @@ fn refuse<O: Write, E: Write>(refusal: &Error, out: &mut O, err: &mut E) -> u8
 }
 
 /// Prints the replies to the ring commands of a file, or of the input.
-fn ring<'a, R: Files + AllocGlobal, I: Read + Drop, O: Write>(
+fn answer_ring<'a, R: Files + AllocGlobal, I: Read + Drop, O: Write>(
     rt: &R,
     file: Option<&'a str>,
     input: I,
@@ -99,7 +99,7 @@ fn ring<'a, R: Files + AllocGlobal, I: Read + Drop, O: Write>(
 }
 
 /// Prints the replies to the steps of a file.
-fn steps<'a, R: Files + AllocGlobal, I: Read + Drop, O: Write>(
+fn answer_steps<'a, R: Files + AllocGlobal, I: Read + Drop, O: Write>(
     rt: &R,
     file: Option<&'a str>,
     input: I,

@@ -1,12 +1,12 @@
 //! The answer to one command of a ring file: what it does to the ring, and the text of its reply.
 
 ghost use Rattle.std.specs.Prelude.{◌≡◌, ◌++◌, OnOk};
-ghost use Rattle.pktkit.specs.Text.{texts};
-ghost use Rattle.pktkit.specs.RingReplies.{state_after, text_of, contents, ring_contents, made, made_text, after_put, after_take, put_text, take_text, items_text};
+ghost use Rattle.lines.specs.Text.{texts};
+ghost use Rattle.pktkit.specs.RingReplies.{ring_past, command_text, contents, ring_contents, made, made_text, after_put, after_take, put_text, take_text, words_text};
 
-use crate::reply::two_numbers;
 use crate::ring_command::Command;
 use geom::{GeomFault, Geometry, How};
+use lines::write_two_numbers;
 use ringcore::OneRing;
 use std::alloc::{AllocError, Global};
 use std::collections::VecDeque;
@@ -23,9 +23,9 @@ pub fn answer<'a>(
     items: &[&'a [u8]],
     reply: &mut Vec<u8>,
 ) -> Result<(), AllocError>
-    ensures ring { OnOk result (contents ring.new ≡ state_after (contents ring.old) command (texts items.now)) }
+    ensures ring { OnOk result (contents ring.new ≡ ring_past (contents ring.old) command (texts items.now)) }
     ensures text { OnOk result (reply.new.items
-        ≡ reply.old.items ++ text_of (contents ring.old) command (texts items.now)) }
+        ≡ reply.old.items ++ command_text (contents ring.old) command (texts items.now)) }
 {
     match command {
         Command::Power(count) => make(alloc, ring, Geometry::power(count), reply),
@@ -39,7 +39,7 @@ pub fn answer<'a>(
             None => reply.extend_from_slice(b"no ring"),
         },
         Command::Count => match ring {
-            Some(ring) => two_numbers(reply, b"count ", ring.count(), b" free ", ring.free()),
+            Some(ring) => write_two_numbers(reply, b"count ", ring.count(), b" free ", ring.free()),
             None => reply.extend_from_slice(b"no ring"),
         },
     }
@@ -58,7 +58,7 @@ fn make<'a>(
     match geometry {
         Ok(geometry) => {
             *ring = Some(OneRing::new(alloc, geometry)?);
-            two_numbers(
+            write_two_numbers(
                 reply,
                 b"ring size ",
                 geometry.size(),
@@ -86,7 +86,7 @@ fn put<'a>(
 {
     let mut queue: VecDeque<&[u8]> = items.iter().copied().collect(alloc)?;
     let moved = ring.put(how, &mut queue);
-    two_numbers(reply, b"put ", moved.count, b" left ", moved.left)
+    write_two_numbers(reply, b"put ", moved.count, b" left ", moved.left)
 }
 
 /// Answers `take`.
@@ -102,13 +102,13 @@ fn take<'a>(
 {
     let mut taken = Vec::new(alloc);
     let moved = ring.take(how, n, &mut taken)?;
-    two_numbers(reply, b"take ", moved.count, b" left ", moved.left)?;
+    write_two_numbers(reply, b"take ", moved.count, b" left ", moved.left)?;
     list(reply, taken.as_slice())
 }
 
 /// Writes items, each after a space.
 fn list(reply: &mut Vec<u8>, items: &[&[u8]]) -> Result<(), AllocError>
-    ensures { OnOk result (reply.new.items ≡ reply.old.items ++ items_text (texts items.now)) }
+    ensures { OnOk result (reply.new.items ≡ reply.old.items ++ words_text (texts items.now)) }
 {
     for item in items {
         reply.push(b' ')?;

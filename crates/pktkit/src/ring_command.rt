@@ -2,11 +2,11 @@
 
 ghost use Rattle.std.specs.Prelude.{◌≡◌};
 ghost use Rattle.std.specs.List.{list_all};
-ghost use Rattle.pktkit.specs.Text.{texts};
-ghost use Rattle.pktkit.specs.RingCommands.{command_of, longer_of, sized_of, put_of, take_of, is_item, how_of};
+ghost use Rattle.lines.specs.Text.{texts};
+ghost use Rattle.pktkit.specs.RingCommands.{command_of, longer_of, sized_of, put_of, take_of, is_item};
 
-use crate::text::{has_up_to, number};
 use geom::How;
+use lines::{has_up_to, how_of, number_of};
 
 /// How many bytes an item has at most.
 const MAX_ITEM: usize = 32;
@@ -58,8 +58,8 @@ impl Command {
             return None;
         };
         match word {
-            b"power" => number(n).map(Command::Power),
-            b"exact" => number(n).map(Command::Exact),
+            b"power" => number_of(n).map(Command::Power),
+            b"exact" => number_of(n).map(Command::Exact),
             _ => None,
         }
     }
@@ -83,7 +83,7 @@ impl Command {
             return None;
         };
         let how = how_of(word)?;
-        let n = number(n)?;
+        let n = number_of(n)?;
         Some(Command::Take(how, n))
     }
 }
@@ -102,15 +102,4 @@ fn are_items(words: &[&[u8]]) -> bool
     ensures { result ≡ list_all is_item (texts words.now) }
 {
     words.iter().all(|word| is_item(word))
-}
-
-/// `bulk` or `burst`.
-pub fn how_of(word: &[u8]) -> Option<How>
-    ensures { result ≡ how_of word.now }
-{
-    match word {
-        b"bulk" => Some(How::Bulk),
-        b"burst" => Some(How::Burst),
-        _ => None,
-    }
 }

@@ -1,14 +1,14 @@
 //! The replies to a file of ring commands.
 
 ghost use Rattle.std.specs.Prelude.{◌≡◌, ℕ, ◌-◌, ◌++◌, [], true, false, length, OnOk, Some, Err};
-ghost use Rattle.std.specs.Str.Lines.{strip_carriage_return};
-ghost use Rattle.pktkit.specs.Text.{lines_of, texts, words_of};
-ghost use Rattle.pktkit.specs.RingCommands.{items_of};
-ghost use Rattle.pktkit.specs.RingReplies.{contents, done, told, reply_to, state_of, is_lawful, IsAnsweredTo, IsFirstBad};
+ghost use Rattle.lines.specs.Text.{lines_of, texts, words_of};
+ghost use Rattle.lines.specs.Files.{is_admitted, reply_at, state_past, IsAnsweredTo, IsFirstBad};
+ghost use Rattle.pktkit.specs.RingCommands.{items_named};
+ghost use Rattle.pktkit.specs.RingReplies.{contents, done, told, ring_file};
 
 use crate::ring_answer::{Ring, answer};
 use crate::ring_command::Command;
-use crate::text::{TextFault, is_skipped, split_words, without_return};
+use lines::{TextFault, is_skipped, split_words, without_return};
 use std::alloc::{AllocError, Global};
 
 /// Appends the replies to a file of ring commands to `out`.
@@ -17,12 +17,12 @@ use std::alloc::{AllocError, Global};
 /// lines before; 2 `Memory`: `out` has then gained the replies to some of the first lines.
 pub fn ring_text(alloc: Global, bytes: &[u8], out: &mut Vec<u8>) -> Result<(), TextFault>
     ensures ok { let lines = lines_of bytes.now in
-        OnOk result (IsAnsweredTo (length lines) lines out.old.items out.new.items) }
-    ensures first_bad { (n : ℕ) → result ≡ Err (TextFault.BadLine n) → IsFirstBad n (lines_of bytes.now) }
+        OnOk result (IsAnsweredTo ring_file (length lines) lines out.old.items out.new.items) }
+    ensures first_bad { (n : ℕ) → result ≡ Err (TextFault.BadLine n) → IsFirstBad ring_file n (lines_of bytes.now) }
     ensures before_bad { (n : ℕ) → result ≡ Err (TextFault.BadLine n)
-        → IsAnsweredTo (n - 1) (lines_of bytes.now) out.old.items out.new.items }
+        → IsAnsweredTo ring_file (n - 1) (lines_of bytes.now) out.old.items out.new.items }
     ensures memory { result ≡ Err TextFault.Memory
-        → (k : ℕ) × IsAnsweredTo k (lines_of bytes.now) out.old.items out.new.items }
+        → (k : ℕ) × IsAnsweredTo ring_file k (lines_of bytes.now) out.old.items out.new.items }
     ensures no_plan { result ≡ Err TextFault.BadPlan → ⊥ }
 {
     let mut ring = None;
@@ -57,10 +57,11 @@ fn answer_line<'a>(
     reply: &mut Vec<u8>,
 ) -> Result<(), TextFault>
     requires { reply.old.items ≡ [] }
-    ensures lawful { OnOk result (is_lawful (words_of line.now) ≡ true) }
-    ensures ring { OnOk result (contents ring.new ≡ state_of (contents ring.old) (words_of line.now)) }
-    ensures reply { OnOk result (reply.new.items ≡ reply_to (contents ring.old) (words_of line.now)) }
-    ensures bad { (n : ℕ) → result ≡ Err (TextFault.BadLine n) → is_lawful (words_of line.now) ≡ false }
+    ensures admitted { OnOk result (is_admitted ring_file (contents ring.old) (words_of line.now) ≡ true) }
+    ensures ring { OnOk result (contents ring.new ≡ state_past ring_file (contents ring.old) (words_of line.now)) }
+    ensures reply { OnOk result (reply.new.items ≡ reply_at ring_file (contents ring.old) (words_of line.now)) }
+    ensures bad { (n : ℕ) → result ≡ Err (TextFault.BadLine n)
+        → is_admitted ring_file (contents ring.old) (words_of line.now) ≡ false }
     ensures number { (n : ℕ) → result ≡ Err (TextFault.BadLine n) → n ≡ number }
     ensures no_plan { result ≡ Err TextFault.BadPlan → ⊥ }
 {
@@ -93,7 +94,7 @@ fn answer_command<'a>(
 
 /// The items that a `put` names: the words after the first two.
 fn items<'w, 'a>(words: &'w [&'a [u8]]) -> &'w [&'a [u8]]
-    ensures { texts result.now ≡ items_of (texts words.now) }
+    ensures { texts result.now ≡ items_named (texts words.now) }
 {
     &words[words.len().min(2)..]
 }

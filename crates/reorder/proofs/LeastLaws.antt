@@ -1,5 +1,6 @@
 -- The least number held, and where a slide ends.
-use Rattle.std.proofs.Common.{◌≡◌, ℕ, ◌<◌, ◌≤◌, inl, inr, Bool, true, false, cond, Ordering, Less, Equal, Greater, refl, T, ◌&&◌, min, List, [], ◌∷◌, map, get_or, Some, is_some, is_lt, true≢false, sym, ap, ◌∙◌, arith}
+use Rattle.std.proofs.Common.{◌≡◌, ℕ, ◌<◌, ◌≤◌, inl, inr, Bool, true, false, cond, Ordering, Less, Equal, Greater, refl, T, ◌&&◌, min, List, [], ◌∷◌, map}
+use Rattle.std.proofs.Common.{get_or, Some, is_some, is_lt, true≢false, sym, ap, ◌∙◌, arith}
 use Rattle.std.specs.Ordering.{nat_cmp, MatchOrdering}
 use Rattle.std.specs.Cmp.{ranked}
 use Rattle.std.specs.FinMap.{find, get, entries, entries_sorted, get-entries, is_sorted}

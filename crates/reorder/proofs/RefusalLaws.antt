@@ -1,5 +1,6 @@
 -- Which answer `insert` gives when: each of its answers against the clauses on what is accepted and on doubles.
-use Rattle.std.proofs.Common.{◌≡◌, ℕ, ◌<◌, ◌≤◌, ◌↔◌, true, false, Option, Some, None, Ok, Err, Result, IsErrOf, IsOk, IsTrue, is_some, true≢false, refl, sym, ap, ◌∙◌, arith}
+use Rattle.std.proofs.Common.{◌≡◌, ℕ, ◌<◌, ◌≤◌, ◌↔◌, true, false, Option, Some, None, Ok, Err, Result, IsErrOf, IsOk, IsTrue, is_some, true≢false, refl, sym}
+use Rattle.std.proofs.Common.{ap, ◌∙◌, arith}
 use Rattle.std.specs.FinMap.{get, contains_key}
 use Rattle.reorder.specs.declared.fault.InsertFault.{InsertFault}
 use Rattle.reorder.specs.declared.fault.InsertFault.TheVariants.{Late, Early, Double}

@@ -1,5 +1,6 @@
 -- Which places numbers have.
-use Rattle.std.proofs.Common.{◌≡◌, ◌≢◌, ℕ, ◌+◌, ◌-◌, ◌%◌, ◌<◌, ◌≤◌, ◌⊎◌, inl, inr, List, length, set, Option, None, sym, ap, ◌∙◌, mod-lt, mod-eq_of_lt, arith, length-set, get_or-set_same, get_or-set_other}
+use Rattle.std.proofs.Common.{◌≡◌, ◌≢◌, ℕ, ◌+◌, ◌-◌, ◌%◌, ◌<◌, ◌≤◌, ◌⊎◌, inl, inr, List, length, set, Option, None, sym, ap, ◌∙◌, mod-lt, mod-eq_of_lt, arith}
+use Rattle.std.proofs.Common.{length-set, get_or-set_same, get_or-set_other}
 use native.Mathlib.Nat.{mod-eq-sub-mod, mod-add-mod, mod-le, add-mod-mod}
 use Rattle.std.proofs.lemmas.Bool.{cases_lt, cases_order}
 use Rattle.reorder.specs.Places.{at_number}

@@ -1,19 +1,20 @@
 -- What each call does to the window that its places stand for.
-use Rattle.std.proofs.Common.{◌≡◌, ◌≢◌, ℕ, ◌+◌, ◌-◌, ◌%◌, ◌^◌, ◌<◌, ◌≤◌, inl, inr, Bool, true, false, cond, List, length, get_or, set, replicate, Option, Some, None, is_some, true≢false, refl, sym, ap, ap₂, subst, ◌∙◌, arith, length-set, mod-lt}
+use Rattle.std.proofs.Common.{◌≡◌, ◌≢◌, ℕ, ◌+◌, ◌-◌, ◌%◌, ◌^◌, ◌<◌, ◌≤◌, inl, inr, Bool, true, false, cond, List, length, get_or, set, replicate, Option, Some}
+use Rattle.std.proofs.Common.{None, is_some, true≢false, refl, sym, ap, ap₂, subst, ◌∙◌, arith, length-set, mod-lt}
 use native.Mathlib.Nat.{mod-add-mod, zero-mod}
 use Rattle.std.specs.Ordering.{nat_cmp}
 use Rattle.std.specs.Cmp.{nat_cmp_total}
 use Rattle.std.specs.FinMap.{get, len, len-remove, empty_of_len, remove, get-remove, get-empty, same_map, nat_cmp-IsAntisymmetric, empty}
 use Rattle.std.proofs.lemmas.Bool.{cases_lt, cond-false, cond-true}
 use Rattle.std.proofs.lemmas.List.{get_or-replicate, length-replicate, get_or_default}
-use Rattle.reorder.specs.Places.{at_number, held_in, waiting_in, IsLaid, IsFirstHeld}
-use Rattle.reorder.specs.Waiting.{Waiting, end_of, IsWindow, empty_window, with_item, after_next, slid_to}
+use Rattle.reorder.specs.Places.{at_number, held_in, waiting_in, IsRowOf, IsFirstHeld}
+use Rattle.reorder.specs.Waiting.{Waiting, end_of, IsWindow, empty_window, with_number, after_next, slid_to}
 use Rattle.reorder.proofs.HeldLaws.{held_inside, held_outside, held_within, held-put, held-taken, held_later, held_written, untied}
 use Rattle.reorder.proofs.Rows.{at_written}
 use Rattle.reorder.proofs.LeastLaws.{slides}
 
 module _ {T : Type 0} where
-  pub is_window : (places : List (Option T)) (head next : ℕ) → IsLaid places head next
+  pub is_window : (places : List (Option T)) (head next : ℕ) → IsRowOf places head next
       → IsWindow (waiting_in places next)
   is_window places head next laid = record {
     some = laid.some;
@@ -50,7 +51,7 @@ module _ {T : Type 0} where
       ]
 
   -- a new row of places stands for an empty window
-  pub laid_new : (size : ℕ) → 0 < size → size ≤ 65536 → IsLaid (replicate {A = Option T} size None) 0 0
+  pub laid_new : (size : ℕ) → 0 < size → size ≤ 65536 → IsRowOf (replicate {A = Option T} size None) 0 0
   laid_new size some small = record {
     some = rw length-replicate some;
     small = rw length-replicate small;
@@ -69,7 +70,7 @@ module _ {T : Type 0} where
   none_either true o none = refl
   none_either false o none = none
 
-  module _ (places : List (Option T)) (head next : ℕ) (laid : IsLaid places head next) where
+  module _ (places : List (Option T)) (head next : ℕ) (laid : IsRowOf places head next) where
     -- the place that the code computes for a number of the window
     pub placed : (n place size : ℕ) → next ≤ n → place ≡ (head + (n - next)) % size → size ≡ length places
         → place ≡ n % length places
@@ -109,7 +110,7 @@ module _ {T : Type 0} where
 
     -- an item put into the place of a number of the window
     pub laid_put : (n : ℕ) (x : T) → next ≤ n → n < end_of (waiting_in places next)
-        → IsLaid (set places (n % length places) (Some x)) head next
+        → IsRowOf (set places (n % length places) (Some x)) head next
     laid_put n x low high = record {
       some = rw length-set laid.some;
       small = rw length-set laid.small;
@@ -121,7 +122,7 @@ module _ {T : Type 0} where
     }
 
     pub waiting_put : (n : ℕ) (x : T) → next ≤ n → n < end_of (waiting_in places next)
-        → waiting_in (set places (n % length places) (Some x)) next ≡ with_item (waiting_in places next) n x
+        → waiting_in (set places (n % length places) (Some x)) next ≡ with_number (waiting_in places next) n x
     waiting_put n x low high = λ i. record {
       held = held-put places next n x laid.some low (omega arith) i;
       next = next;
@@ -142,7 +143,7 @@ module _ {T : Type 0} where
         (sym laid.at_head) held_on
 
     -- the item of `next` taken from its place
-    pub laid_after : IsLaid (set places head None) ((head + 1) % length places) (next + 1)
+    pub laid_after : IsRowOf (set places head None) ((head + 1) % length places) (next + 1)
     laid_after = record {
       some = rw length-set laid.some;
       small = rw length-set laid.small;
@@ -160,7 +161,7 @@ module _ {T : Type 0} where
       held_still = held_later places next later laid.some first.from first.passed
 
       -- `next` moved on to the first item, or to n
-      pub laid_later : IsLaid places (later % length places) later
+      pub laid_later : IsRowOf places (later % length places) later
       laid_later = record {
         some = laid.some;
         small = laid.small;

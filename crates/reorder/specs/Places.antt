@@ -1,5 +1,6 @@
 -- How a row of places stands for a window: number n has its place at `n mod size`.
-use Rattle.std.specs.Prelude.{◌≡◌, ℕ, zero, suc, ◌+◌, ◌-◌, ◌%◌, ◌^◌, ◌<◌, ◌≤◌, List, [], ◌∷◌, length, slice_index_or, Option, Some, None, IsTrue, is_some}
+use Rattle.std.specs.Prelude.{◌≡◌, ℕ, zero, suc, ◌+◌, ◌-◌, ◌%◌, ◌^◌, ◌<◌, ◌≤◌, List, [], ◌∷◌, length, slice_index_or}
+use Rattle.std.specs.Prelude.{Option, Some, None, IsTrue, is_some}
 use Rattle.std.specs.Ordering.{nat_cmp}
 use Rattle.std.specs.FinMap as map
 use Rattle.reorder.specs.Waiting.{Waiting}
@@ -35,7 +36,7 @@ pub record IsFirstHeld {T : Type 0} (places : List (Option T)) (next n r : ℕ) 
   pub found : r < n → IsTrue (is_some (at_number places r))
 
 -- `head` is the place of `next`, and the last number of 64 bits has no item
-pub record IsLaid {T : Type 0} (places : List (Option T)) (head next : ℕ) : Type 0 where
+pub record IsRowOf {T : Type 0} (places : List (Option T)) (head next : ℕ) : Type 0 where
   pub some : 0 < length places
   pub small : length places ≤ 65536
   pub at_head : head ≡ next % length places

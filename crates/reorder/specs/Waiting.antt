@@ -29,8 +29,8 @@ module _ {T : Type 0} where
     pub vacant : map.get w.held n ≡ None
 
   -- the pair (n, x) joins those that wait
-  abbrev pub with_item : Waiting T → ℕ → T → Waiting T
-  with_item w n x = record w { held = map.insert w.held n x }
+  abbrev pub with_number : Waiting T → ℕ → T → Waiting T
+  with_number w n x = record w { held = map.insert w.held n x }
 
   -- the item of `next` has gone
   abbrev pub after_next : Waiting T → Waiting T

@@ -2,7 +2,7 @@
 ghost use Rattle.std.specs.Prelude.{◌≡◌, ◌+◌, ◌<◌, ◌≤◌, ◌↔◌, IsTrue, IfOk, IsOk, OnOk, IfErr, OnErr, IsErrOf, OnSome, IfNone};
 ghost use Rattle.std.specs.Ordering.{nat_cmp};
 ghost use Rattle.std.specs.FinMap as map;
-ghost use Rattle.reorder.specs.Waiting.{empty_window, end_of, with_item, after_next, slid_to, IsFree, IsWindow};
+ghost use Rattle.reorder.specs.Waiting.{empty_window, end_of, with_number, after_next, slid_to, IsFree, IsWindow};
 
 use crate::fault::InsertFault;
 use crate::places::{empty_row, first_held, place_of, put};
@@ -26,7 +26,7 @@ pub struct Window<T> {
 
 impl<T> Model for Window<T> {
     ghost use Rattle.reorder.specs.Waiting.{Waiting, waiting_code};
-    ghost use Rattle.reorder.specs.Places.{waiting_in, IsLaid};
+    ghost use Rattle.reorder.specs.Places.{waiting_in, IsRowOf};
 
     ghost Value = { Waiting T };
 
@@ -34,7 +34,7 @@ impl<T> Model for Window<T> {
 
     ghost view = { λ w. waiting_in w.places.items w.next };
 
-    ghost invariant = { λ w. IsLaid w.places.items w.head w.next };
+    ghost invariant = { λ w. IsRowOf w.places.items w.head w.next };
 }
 
 impl<T> Window<T> {
@@ -69,7 +69,7 @@ impl<T> Window<T> {
         ensures early { IsErrOf result (item, InsertFault.Early) ↔ (end_of self.old ≤ seq) }
         ensures double { IsErrOf result (item, InsertFault.Double) ↔ IsTrue (map.contains_key self.old.held seq) }
 
-        ensures inserted { OnOk result (self.new ≡ with_item self.old seq item) }
+        ensures inserted { OnOk result (self.new ≡ with_number self.old seq item) }
         ensures returned { IfErr result (λ refusal. refusal.0 ≡ item) }
         ensures unchanged { OnErr result (self.new ≡ self.old) }
     {

@@ -4,10 +4,10 @@ use Rattle.std.specs.Prelude.{slice_index_or, not, ◌&&◌, ◌||◌, ◌==◌}
 use Rattle.std.specs.List.{list_any, filter, sum_by, range_with_len}
 use Rattle.std.proofs.lemmas.Bool.Decides.{nat_tests}
 use Rattle.geom.specs.declared.plan.RingPlan.{RingPlan}
-use Rattle.ringcore_laws.specs.Sound.{holds, places, occurrences}
+use Rattle.ringcore_laws.specs.Sound.{holds, place_count, occurrences}
 use Rattle.ringcore_laws.specs.Invariant.{Invariant}
-use Rattle.ringcore_laws.specs.History.{Actor, tags, parties_of, buffer_count, is_cached}
-use Rattle.ringcore_laws.specs.FreeRings.{buffers_of}
+use Rattle.ringcore_laws.specs.History.{Actor, tags, parties_of, buffers_of_actor, is_cached}
+use Rattle.ringcore_laws.specs.FreeRings.{buffers_had}
 use Rattle.ringcore_laws.proofs.FreeRoom.{count_all}
 use Rattle.ringcore_laws.proofs.HeadTailLaws.{sum_by_part}
 use Rattle.ringcore_laws.proofs.HistoryLaws.{parties_at, parties_length}
@@ -15,8 +15,9 @@ use Rattle.ringcore.specs.declared.member.Member.{Member}
 use Rattle.ringcore.specs.Agree.{MemberAgrees}
 
 -- a member has as many buffers as its actor
-pub buffers_counted : (plans : List RingPlan) (pool : ℕ) (actors : List Actor) (i : ℕ) (a : Actor) (m : Member) → i < length actors → ((d : Actor) → slice_index_or actors i d ≡ a) → Invariant plans pool actors → MemberAgrees a m → length m.buffers.items ≡ buffer_count pool a
-unfolding buffers_of places
+pub buffers_counted : (plans : List RingPlan) (pool : ℕ) (actors : List Actor) (i : ℕ) (a : Actor) (m : Member) → i < length actors
+    → ((d : Actor) → slice_index_or actors i d ≡ a) → Invariant plans pool actors → MemberAgrees a m → length m.buffers.items ≡ buffers_of_actor pool a
+unfolding buffers_had place_count
 buffers_counted plans pool actors i a m lt at k h =
     sym (count_all pool m.buffers.items outside) ∙ ap (λ (f : ℕ → ℕ). sum_by f (range_with_len 0 pool)) (λ j b. h.buffers b j)
   where
@@ -47,7 +48,8 @@ or_comm false true = refl
 or_comm false false = refl
 
 -- one more mark, wherever it stands
-pub marked_more : (a : Actor) (xs : List ℕ) (y b : ℕ) → list_any (λ c. c == b) xs ≡ is_cached a b → list_any (λ c. c == b) (xs ++ y ∷ []) ≡ list_any (λ c. c == b) (y ∷ a.cached)
+pub marked_more : (a : Actor) (xs : List ℕ) (y b : ℕ) → list_any (λ c. c == b) xs ≡ is_cached a b
+    → list_any (λ c. c == b) (xs ++ y ∷ []) ≡ list_any (λ c. c == b) (y ∷ a.cached)
 marked_more a xs y b h = any-append b xs y ∙ (ap (λ v. v || (y == b)) h ∙ or_comm (is_cached a b) (y == b))
 
 any-filter : (b y : ℕ) (xs : List ℕ) → list_any (λ c. c == b) (filter (λ c. not (c == y)) xs) ≡ (not (b == y) && list_any (λ c. c == b) xs)
@@ -76,10 +78,12 @@ any-filter b y (x ∷ xs) = by_tests (x == y) refl (any-filter b y xs)
     keeps false u v w e h = h
 
     by_tests : (s : Bool) → (x == y) ≡ s → list_any (λ c. c == b) (filter (λ c. not (c == y)) xs) ≡ (not (b == y) && list_any (λ c. c == b) xs)
-        → list_any (λ c. c == b) (cond (not s) (x ∷ filter (λ c. not (c == y)) xs) (filter (λ c. not (c == y)) xs)) ≡ (not (b == y) && ((x == b) || list_any (λ c. c == b) xs))
+        → list_any (λ c. c == b) (cond (not s) (x ∷ filter (λ c. not (c == y)) xs) (filter (λ c. not (c == y)) xs))
+        ≡ (not (b == y) && ((x == b) || list_any (λ c. c == b) xs))
     by_tests true e ih = drops (x == b) (b == y) (list_any (λ c. c == b) xs) (list_any (λ c. c == b) (filter (λ c. not (c == y)) xs)) (same e) ih
     by_tests false e ih = keeps (x == b) (b == y) (list_any (λ c. c == b) xs) (list_any (λ c. c == b) (filter (λ c. not (c == y)) xs)) (differ e) ih
 
 -- one mark less, wherever it stood
-pub marked_less : (a : Actor) (xs : List ℕ) (y b : ℕ) → list_any (λ c. c == b) xs ≡ is_cached a b → list_any (λ c. c == b) (filter (λ c. not (c == y)) xs) ≡ list_any (λ c. c == b) (filter (λ c. not (c == y)) a.cached)
+pub marked_less : (a : Actor) (xs : List ℕ) (y b : ℕ) → list_any (λ c. c == b) xs ≡ is_cached a b
+    → list_any (λ c. c == b) (filter (λ c. not (c == y)) xs) ≡ list_any (λ c. c == b) (filter (λ c. not (c == y)) a.cached)
 marked_less a xs y b h = any-filter b y xs ∙ (ap (λ v. not (b == y) && v) h ∙ sym (any-filter b y a.cached))

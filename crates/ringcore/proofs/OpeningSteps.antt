@@ -1,5 +1,6 @@
 -- What stands right after the opening
-use Rattle.std.proofs.Common.{ℕ, zero, suc, ◌+◌, ◌<◌, ◌≤◌, ◌≡◌, ◌≢◌, ◌∙◌, ◌⊎◌, inl, inr, List, [], ◌∷◌, ◌++◌, length, arith, true, false, Bool, ◌&&◌, refl, ap, sym, subst}
+use Rattle.std.proofs.Common.{ℕ, zero, suc, ◌+◌, ◌<◌, ◌≤◌, ◌≡◌, ◌≢◌, ◌∙◌, ◌⊎◌, inl, inr, List, [], ◌∷◌, ◌++◌, length, arith, true, false, Bool, ◌&&◌, refl, ap}
+use Rattle.std.proofs.Common.{sym, subst}
 use Rattle.std.specs.Prelude.{slice_index, slice_index_or, None, nat_lt, ◌==◌, ◌-◌, if◌then◌else◌}
 use Rattle.std.specs.List.{All, filter, list_all, list_any, range_with_len}
 use Rattle.std.proofs.lemmas.List.{append-nil, length-append}
@@ -15,11 +16,10 @@ use Rattle.ringcore_laws.specs.declared.contents.Item.{Item}
 use Rattle.ringcore_laws.specs.Party.{newcomer}
 use Rattle.ringcore_laws.specs.RingSide.{RingSide, side_of}
 use Rattle.ringcore_laws.specs.Sound.{holds, moved, occurrences}
-use Rattle.ringcore_laws.specs.History.{Actor, gifts_to, opening, parties_of}
+use Rattle.ringcore_laws.specs.History.{Actor, buffers_given, opening, parties_of}
 use Rattle.ringcore_laws.specs.Runs.{IsPlan}
 use Rattle.ringcore_laws.proofs.HistoryLaws.{and_true}
 use Rattle.ringcore_laws.proofs.OpeningLaws.{from_opening, queue_of_opening, side_of_opening}
-use Rattle.ringcore_laws.proofs.RunLaws.{plan_lawful}
 use Rattle.ringcore_laws.proofs.RingLaws.{below_or_not}
 use Rattle.ringcore.specs.declared.member.Member.{Member}
 use Rattle.ringcore.specs.declared.plan.WorldPlan.{WorldPlan}
@@ -36,7 +36,9 @@ below_all n (x ∷ xs) all (suc b) lt = below_all n xs (and_true (nat_lt x n) (l
 
 pub all_below : (n : ℕ) (xs : List ℕ) → ((b : ℕ) → b < length xs → slice_index xs b < n) → list_all (λ g. nat_lt g n) xs ≡ true
 all_below n [] each = refl
-all_below n (x ∷ xs) each = both (nat_lt x n) (list_all (λ g. nat_lt g n) xs) (let here : x < n = each zero (omega arith) in grind (arith, nat_tests)) (all_below n xs (λ b lt. each (suc b) (omega arith)))
+all_below n (x ∷ xs) each =
+    both (nat_lt x n) (list_all (λ g. nat_lt g n) xs) (let here : x < n = each zero (omega arith) in grind (arith, nat_tests))
+    (all_below n xs (λ b lt. each (suc b) (omega arith)))
   where
     both : (a b : Bool) → a ≡ true → b ≡ true → (a && b) ≡ true
     both true b one two = two
@@ -83,7 +85,8 @@ given_more gifts members m all new = record { each = λ i d lt. at i d lt (below
     behind [] d = refl
     behind (x ∷ xs) d = behind xs d
 
-    at : (i : ℕ) (d : Member) → i < length (members ++ m ∷ []) → (i < length members) ⊎ (length members ≤ i) → IsGiven gifts i (slice_index_or (members ++ m ∷ []) i d)
+    at : (i : ℕ) (d : Member) → i < length (members ++ m ∷ []) → (i < length members) ⊎ (length members ≤ i)
+        → IsGiven gifts i (slice_index_or (members ++ m ∷ []) i d)
     at i d lt (inl old) = subst (λ (v : Member). IsGiven gifts i v) (sym (before members i d old)) (all.each i d old)
     at i d lt (inr last) =
         let same : length members ≡ i = omega (arith, lt, length-append members (m ∷ [])) in
@@ -106,7 +109,7 @@ opening_agrees plans actors gifts rings members some_rings fresh some_members gi
       subst (λ (v : Actor). MemberAgrees v m) (sym a) record {
         span = mine.span;
         observed = mine.observed;
-        buffers = λ b. ap (occurrences b) mine.buffers ∙ none_moved (occurrences b (gifts_to gifts i));
+        buffers = λ b. ap (occurrences b) mine.buffers ∙ none_moved (occurrences b (buffers_given gifts i));
         cached = λ b. ap (list_any (λ c. c == b)) mine.cached;
       };
   each_ring = λ r plan ring hp hr.
@@ -119,7 +122,7 @@ opening_agrees plans actors gifts rings members some_rings fresh some_members gi
 }
   where
     given_actor : ℕ → Actor
-    given_actor i = record { party = newcomer (gifts_to gifts i); observed = None; cached = [] }
+    given_actor i = record { party = newcomer (buffers_given gifts i); observed = None; cached = [] }
 
     none_moved : (n : ℕ) → n ≡ n + 0 - 0
     none_moved n = omega arith
@@ -133,6 +136,7 @@ pub plan_right : (plan : WorldPlan) → IsPlan plan.rings.items plan.actors plan
 plan_right plan is = record {
   plan = is;
   run = tt;
-  sound = from_opening plan.rings.items plan.actors plan.gifts.items [] (plan_lawful plan.rings.items plan.actors plan.gifts.items is) is.to_actors tt;
+  sound = from_opening plan.rings.items plan.actors plan.gifts.items [] is.rings is.to_actors tt;
+  one_span = tt;
   room = tt;
 }

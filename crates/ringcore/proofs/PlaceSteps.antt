@@ -22,7 +22,7 @@ use Rattle.ringcore.specs.declared.ring.Ring.{Ring}
 use Rattle.ringcore.specs.declared.member.Member.{Member}
 use Rattle.ringcore.specs.declared.world.World.{World}
 use Rattle.ringcore.specs.Agree.{MemberAgrees, RingAgrees}
-use Rattle.ringcore.specs.Histories.{AgreesWith, History, IsRight, actors_of, pool_of}
+use Rattle.ringcore.specs.Histories.{AgreesWith, History, IsRight, actors_of, pool_size}
 use Rattle.ringcore.specs.Places.{AreBounded, first, member_place, members_places, rings_places}
 use Rattle.ringcore.proofs.Rightness.{right_kept}
 
@@ -72,7 +72,8 @@ members_are b n (m ∷ members) (a ∷ actors) same each =
     ap (λ v. v ++ members_places b (n + 1) members) (one own)
     ∙ ap (λ v. place_with b n a ++ v) (members_are b (n + 1) members actors (omega arith) (λ k d e lt. each (suc k) d e (omega arith)))
   where
-    shape : (t u : Bool) → option_to_list (if t then (if u then Some (Cached n) else Some (Held n)) else None) ≡ (if t then (if u then Cached n else Held n) ∷ [] else [])
+    shape : (t u : Bool) → option_to_list (if t then (if u then Some (Cached n) else Some (Held n)) else None)
+        ≡ (if t then (if u then Cached n else Held n) ∷ [] else [])
     shape true true = refl
     shape true false = refl
     shape false u = refl
@@ -84,7 +85,7 @@ members_are b n (m ∷ members) (a ∷ actors) same each =
         ∙ ap (λ u. if holds tags b a.party == 1 then (if u then Cached n else Held n) ∷ [] else []) (own.cached b))
 
 module _ (w : World) (h : History) (agree : AgreesWith w h) (right : IsRight h) where
-  kept : Invariant h.plans (pool_of h) (actors_of h)
+  kept : Invariant h.plans (pool_size h) (actors_of h)
   kept = right_kept h right
 
   abbrev parties : List (Party Item)
@@ -115,7 +116,8 @@ module _ (w : World) (h : History) (agree : AgreesWith w h) (right : IsRight h) 
       )
 
   pub place_is : (b : ℕ)
-      → unwrap_or (first (rings_places b 0 w.rings.items)) (unwrap_or (first (members_places b 0 w.members.items)) Nowhere) ≡ place (length h.plans) (actors_of h) b
+      → unwrap_or (first (rings_places b 0 w.rings.items)) (unwrap_or (first (members_places b 0 w.members.items)) Nowhere)
+      ≡ place (length h.plans) (actors_of h) b
   place_is b =
       ap (λ v. unwrap_or (first v) (unwrap_or (first (members_places b 0 w.members.items)) Nowhere)) rings
       ∙ (ap (λ v. unwrap_or (first (flat_map (places_on b parties) (range_with_len 0 (length h.plans)))) (unwrap_or (first v) Nowhere)) members
@@ -124,7 +126,8 @@ module _ (w : World) (h : History) (agree : AgreesWith w h) (right : IsRight h) 
       rings : rings_places b 0 w.rings.items ≡ flat_map (places_on b parties) (range_with_len 0 (length h.plans))
       rings =
           rings_are b parties 0 w.rings.items
-          (λ k ring is. subst (λ (j : ℕ). IsQueueOf b parties j ring) (let e : k ≡ 0 + k = omega arith in e) ((agrees_at k ring is).take.tail, (agrees_at k ring is).queue))
+          (λ k ring is. subst (λ (j : ℕ). IsQueueOf b parties j ring) (let e : k ≡ 0 + k = omega arith in e)
+          ((agrees_at k ring is).take.tail, (agrees_at k ring is).queue))
           ∙ ap (λ n. flat_map (places_on b parties) (range_with_len 0 n)) agree.lists.ring_count
 
       members : members_places b 0 w.members.items ≡ places_with b 0 (actors_of h)

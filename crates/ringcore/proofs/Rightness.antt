@@ -5,17 +5,19 @@ use Rattle.std.proofs.lemmas.List.{length-set}
 use Rattle.std.proofs.lemmas.List.FromFn.{length-map-range_with_len}
 use Rattle.geom.specs.declared.plan.RingPlan.{RingPlan}
 use Rattle.std.proofs.lemmas.List.{append-nil}
+use Rattle.geom.specs.Fit.{AllFit}
 use Rattle.ringcore_laws.specs.declared.protocol.Step.{Step}
 use Rattle.ringcore_laws.specs.declared.protocol.Reply.{Reply}
-use Rattle.ringcore_laws.specs.History.{Actor, Event, IsRun, IsLawful, reply_to, after, after_all, after_step, one_stepped}
+use Rattle.ringcore_laws.specs.History.{Actor, Event, IsRun, reply_to, after, after_all, after_step, one_stepped}
 use Rattle.ringcore.specs.declared.world.World.{World}
-use Rattle.ringcore.specs.Agree.{IsOnRing, ListsAgree}
+use Rattle.ringcore.specs.Agree.{ListsAgree}
+use Rattle.ringcore.specs.Runs.{IsOnRing}
 use Rattle.ringcore.specs.Runs.{RunsTo, events_of}
 use Rattle.ringcore_laws.specs.Invariant.{Invariant}
 use Rattle.ringcore_laws.proofs.OpeningLaws.{opening_kept, from_opening}
-use Rattle.ringcore_laws.proofs.RunLaws.{plan_lawful, run_kept}
+use Rattle.ringcore_laws.proofs.RunLaws.{one_span_each, run_kept}
 use Rattle.ringcore_laws.proofs.RefusalLaws.{puts_find_room}
-use Rattle.ringcore.specs.Histories.{History, IsPlanned, IsRight, AgreesWith, StepExists, actors_of, opening_of, pool_of, followed_by}
+use Rattle.ringcore.specs.Histories.{History, IsPlanned, IsRight, AgreesWith, StepExists, actors_of, opening_of, pool_size, followed_by}
 
 pub after_all-append : (actors : List Actor) (xs ys : List Event) → after_all actors (xs ++ ys) ≡ after_all (after_all actors xs) ys
 after_all-append actors [] ys = refl
@@ -26,44 +28,42 @@ run_append : (plans : List RingPlan) (pool : ℕ) (actors : List Actor) (xs ys :
 run_append plans pool actors [] ys first then = then
 run_append plans pool actors (e ∷ xs) ys first then = (first.0, run_append plans pool (after actors e) xs ys first.1 then)
 
-pub right_lawful : (h : History) → IsRight h → IsLawful h.plans (pool_of h)
-right_lawful h right = plan_lawful h.plans h.actors h.gifts right.plan
-
 -- what a right history keeps
-pub right_kept : (h : History) → IsRight h → Invariant h.plans (pool_of h) (actors_of h)
+pub right_kept : (h : History) → IsRight h → Invariant h.plans (pool_size h) (actors_of h)
 right_kept h right =
-    run_kept h.plans (pool_of h) (opening_of h) h.events (right_lawful h right)
+    run_kept h.plans (pool_size h) (opening_of h) h.events right.plan.rings
     (opening_kept h.plans h.actors h.gifts right.plan.to_actors) right.run
 
 -- a run behind a right history makes a right history
-pub right_followed : (h : History) (events : List Event) → IsRight h → IsRun h.plans (pool_of h) (actors_of h) events → IsRight (followed_by h events)
+pub right_followed : (h : History) (events : List Event) → IsRight h → IsRun h.plans (pool_size h) (actors_of h) events → IsRight (followed_by h events)
 right_followed h events right more =
-    let run = run_append h.plans (pool_of h) (opening_of h) h.events events right.run more in
+    let run = run_append h.plans (pool_size h) (opening_of h) h.events events right.run more in
     record {
       plan = right.plan;
       run = run;
-      sound = from_opening h.plans h.actors h.gifts (h.events ++ events) (right_lawful h right) right.plan.to_actors run;
+      sound = from_opening h.plans h.actors h.gifts (h.events ++ events) right.plan.rings right.plan.to_actors run;
+      one_span = one_span_each h.plans (pool_size h) (opening_of h) (h.events ++ events) run;
       room = puts_find_room h.plans h.actors h.gifts (h.events ++ events) right.plan run;
     }
 
 -- one step of a world that is what a right history leaves
 pub step_followed : (old new : World) (h : History) (actor : ℕ) (step : Step) (reply : Reply)
     → new.plans.items ≡ old.plans.items
-    → ((pool : ℕ) (actors : List Actor) → IsLawful old.plans.items pool → Invariant old.plans.items pool actors
+    → ((pool : ℕ) (actors : List Actor) → AllFit old.plans.items pool → Invariant old.plans.items pool actors
     → ListsAgree old.plans.items old.rings.items old.members.items actors
     → (reply ≡ reply_to old.plans.items pool actors actor step)
     × ListsAgree old.plans.items new.rings.items new.members.items (after actors record { actor = actor; step = step; reply = reply }))
     → AgreesWith old h → IsRight h
-    → (reply ≡ reply_to h.plans (pool_of h) (actors_of h) actor step)
+    → (reply ≡ reply_to h.plans (pool_size h) (actors_of h) actor step)
     × AgreesWith new (followed_by h (record { actor = actor; step = step; reply = reply } ∷ []))
     × IsRight (followed_by h (record { actor = actor; step = step; reply = reply } ∷ []))
 step_followed old new h actor step reply same goes agree right =
     let e : Event = record { actor = actor; step = step; reply = reply } in
-    let there = subst (λ (ps : List RingPlan). (pool : ℕ) (actors : List Actor) → IsLawful ps pool → Invariant ps pool actors
+    let there = subst (λ (ps : List RingPlan). (pool : ℕ) (actors : List Actor) → AllFit ps pool → Invariant ps pool actors
     → ListsAgree ps old.rings.items old.members.items actors
     → (reply ≡ reply_to ps pool actors actor step)
     × ListsAgree ps new.rings.items new.members.items (after actors record { actor = actor; step = step; reply = reply })) agree.plans goes in
-    let now = there (pool_of h) (actors_of h) (right_lawful h right) (right_kept h right) agree.lists in (
+    let now = there (pool_size h) (actors_of h) right.plan.rings (right_kept h right) agree.lists in (
       now.0,
       record {
         plans = same ∙ agree.plans;
@@ -76,19 +76,20 @@ step_followed old new h actor step reply same goes agree right =
 -- a list of steps of a world that is what a right history leaves
 pub run_followed : (old new : World) (h : History) (entries : List (ℕ × Step)) (replies : List Reply)
     → new.plans.items ≡ old.plans.items
-    → ((pool : ℕ) (actors : List Actor) → IsLawful old.plans.items pool → Invariant old.plans.items pool actors
+    → ((pool : ℕ) (actors : List Actor) → AllFit old.plans.items pool → Invariant old.plans.items pool actors
     → ListsAgree old.plans.items old.rings.items old.members.items actors
     → RunsTo old.plans.items pool actors entries replies [] new.rings.items new.members.items)
     → AgreesWith old h → IsRight h
     → (length replies ≡ length entries) × AgreesWith new (followed_by h (events_of entries replies)) × IsRight (followed_by h (events_of entries replies))
 run_followed old new h entries replies same goes agree right =
-    let there = subst (λ (ps : List RingPlan). (pool : ℕ) (actors : List Actor) → IsLawful ps pool → Invariant ps pool actors
+    let there = subst (λ (ps : List RingPlan). (pool : ℕ) (actors : List Actor) → AllFit ps pool → Invariant ps pool actors
     → ListsAgree ps old.rings.items old.members.items actors
     → RunsTo ps pool actors entries replies [] new.rings.items new.members.items) agree.plans goes in
-    let run = there (pool_of h) (actors_of h) (right_lawful h right) (right_kept h right) agree.lists in
+    let run = there (pool_size h) (actors_of h) right.plan.rings (right_kept h right) agree.lists in
     let whole : run.done ≡ entries = sym (append-nil run.done) ∙ run.split in
-    let ran = subst (λ (d : List (ℕ × Step)). IsRun h.plans (pool_of h) (actors_of h) (events_of d replies)) whole run.right in
-    let left = subst (λ (d : List (ℕ × Step)). ListsAgree h.plans new.rings.items new.members.items (after_all (actors_of h) (events_of d replies))) whole run.agree in (
+    let ran = subst (λ (d : List (ℕ × Step)). IsRun h.plans (pool_size h) (actors_of h) (events_of d replies)) whole run.right in
+    let left =
+    subst (λ (d : List (ℕ × Step)). ListsAgree h.plans new.rings.items new.members.items (after_all (actors_of h) (events_of d replies))) whole run.agree in (
       run.count ∙ ap length whole,
       record {
         plans = same ∙ agree.plans;

@@ -1,5 +1,6 @@
 -- A settle: its answer by the tail is the reply, and the machine's lists agree after it
-use Rattle.std.proofs.Common.{ℕ, suc, ◌+◌, ◌-◌, ◌<◌, ◌≤◌, ◌≢◌, ◌≡◌, ◌⊎◌, inl, inr, List, [], ◌∷◌, ◌++◌, length, take, drop, refl, ap, sym, subst, ◌∙◌, arith, true, false, Bool, cond}
+use Rattle.std.proofs.Common.{ℕ, suc, ◌+◌, ◌-◌, ◌<◌, ◌≤◌, ◌≢◌, ◌≡◌, ◌⊎◌, inl, inr, List, [], ◌∷◌, ◌++◌, length, take, drop, refl, ap, sym, subst, ◌∙◌, arith}
+use Rattle.std.proofs.Common.{true, false, Bool, cond}
 use Rattle.std.specs.Prelude.{slice_get, slice_set, slice_index_or, Option, Some, None, not, ◌&&◌, ◌||◌, ◌==◌, nat_lt, if◌then◌else◌}
 use Rattle.std.specs.List.{list_any, list_all, flat_map, filter}
 use Rattle.std.proofs.lemmas.List.{length-set, length-take, length-drop}
@@ -22,7 +23,8 @@ use Rattle.ringcore_laws.specs.RingSide.{RingSide, side_of, listed, IsGapless}
 use Rattle.ringcore_laws.specs.Sound.{SoundRing, holds, moved, settled_times, queue, occurrences, occurrences_in}
 use Rattle.ringcore_laws.specs.HeadTailRule.{HeadTailRule}
 use Rattle.ringcore_laws.specs.Invariant.{Invariant}
-use Rattle.ringcore_laws.specs.History.{Actor, tags, parties_of, starts_below, earlier_open, is_held, is_cached, may_put, is_bad_settle, put_reply, take_reply, after_put, after_take, settled_span}
+use Rattle.ringcore_laws.specs.History.{Actor, tags, parties_of, starts_below, earlier_open, is_held, is_cached, may_put, is_bad_settle, put_reply, take_reply}
+use Rattle.ringcore_laws.specs.History.{after_settle_put, after_settle_take, settled_span}
 use Rattle.ringcore_laws.proofs.SideLaws.{settles_side_of}
 use Rattle.ringcore_laws.proofs.RingLaws.{open_count, held_cases, unsettled_above, length-listed}
 use Rattle.ringcore_laws.proofs.Laws.{off_ring, off_put, off_take, same_or_not, same_plan, settled_other, times_in_is}
@@ -35,29 +37,37 @@ use Rattle.ringcore.proofs.Steps.{lift}
 use Rattle.ringcore.specs.declared.ring.Words.{Words}
 use Rattle.ringcore.specs.declared.ring.Ring.{Ring}
 use Rattle.ringcore.specs.declared.member.Member.{Member}
-use Rattle.ringcore.specs.Agree.{WordsAgree, MemberAgrees, RingAgrees, ListsAgree, holds_free, may_put_all, put_answer, take_answer, words_at, is_done, MemberSettled, IsSame, PutResult, TakeResult, end_at}
+use Rattle.ringcore.specs.Agree.{WordsAgree, MemberAgrees, RingAgrees, ListsAgree}
+use Rattle.ringcore.specs.Changes.{words_moved_to, MemberSettled, PutResult, TakeResult, end_at}
+use Rattle.ringcore.specs.Replies.{holds_uncached, may_put_all, put_answer, take_answer}
+use Rattle.ringcore.specs.Same.{IsSame}
+use Rattle.ringcore_laws.specs.Runs.{is_done}
 
 -- what may be put, by the lists of a member
-pub free_is : (a : Actor) (m : Member) → MemberAgrees a m → (b : ℕ) → holds_free m.buffers.items m.cached.items b ≡ is_held a b
+pub free_is : (a : Actor) (m : Member) → MemberAgrees a m → (b : ℕ) → holds_uncached m.buffers.items m.cached.items b ≡ is_held a b
 free_is a m h b = ap (λ n. (n == 1) && not (list_any (λ c. c == b) m.cached.items)) (h.buffers b) ∙ ap (λ v. (holds tags b a.party == 1) && not v) (h.cached b)
 
-pub may_put_is : (free : Bool) (a : Actor) (m : Member) (items : List Item) → MemberAgrees a m → may_put_all free m.buffers.items m.cached.items items (flat_map tags items) ≡ may_put free a items
+pub may_put_is : (free : Bool) (a : Actor) (m : Member) (items : List Item) → MemberAgrees a m
+    → may_put_all free m.buffers.items m.cached.items items (flat_map tags items) ≡ may_put free a items
 may_put_is free a m items h =
-    ap (λ f. list_all f (flat_map tags items) && list_all (λ b. occurrences b (flat_map tags items) == 1) (flat_map tags items) && (not free || list_all (λ x. length (tags x) == 1) items)) (λ i b. free_is a m h b i)
+    ap (λ f. list_all f (flat_map tags items) && list_all (λ b. occurrences b (flat_map tags items) == 1) (flat_map tags items)
+    && (not free || list_all (λ x. length (tags x) == 1) items)) (λ i b. free_is a m h b i)
 
 or_true : (a b : Bool) → (a || b) ≡ true → (a ≡ true) ⊎ (b ≡ true)
 or_true true b h = inl refl
 or_true false b h = inr h
 
 -- a party that passes stands somewhere
-found : (f : Party Item → Bool) (xs : List (Party Item)) → list_any f xs ≡ true → (j : ℕ) × (j < length xs) × ((d : Party Item) → f (slice_index_or xs j d) ≡ true)
+found : (f : Party Item → Bool) (xs : List (Party Item)) → list_any f xs ≡ true → (j : ℕ) × (j < length xs)
+    × ((d : Party Item) → f (slice_index_or xs j d) ≡ true)
 found f [] h = absurd (let u : false ≡ true = h in cc)
 found f (x ∷ xs) h = elim (or_true (f x) (list_any f xs) h) [
   | inl here ↦ (0, omega arith, λ d. here)
   | inr later ↦ let r = found f xs later in (suc r.0, omega (arith, r.1), λ d. r.2 d)
 ]
 
-below_tells : (ring : ℕ) (side : Side) (start : ℕ) (o : Option Span) → starts_below ring side start o ≡ true → (s : Span) × (o ≡ Some s) × (is_on s.ring s.side ring side ≡ true) × (s.start < start)
+below_tells : (ring : ℕ) (side : Side) (start : ℕ) (o : Option Span) → starts_below ring side start o ≡ true → (s : Span) × (o ≡ Some s)
+    × (is_on s.ring s.side ring side ≡ true) × (s.start < start)
 below_tells ring side start None h = absurd (let u : false ≡ true = h in cc)
 below_tells ring side start (Some s) h = let both = and_true (is_on s.ring s.side ring side) (nat_lt s.start start) h in (s, refl, both.0, less both.1)
   where
@@ -65,7 +75,8 @@ below_tells ring side start (Some s) h = let both = and_true (is_on s.ring s.sid
     less e = grind (arith, nat_tests)
 
 -- a span is the first exactly where it starts at the tail
-pub earlier_is : (plans : List RingPlan) (parties : List (Party Item)) (k : ℕ) (d : Party Item) (s : Span) (plan : RingPlan) → HeadTailRule plans parties → IsGapless (side_of parties s.ring s.side)
+pub earlier_is : (plans : List RingPlan) (parties : List (Party Item)) (k : ℕ) (d : Party Item) (s : Span) (plan : RingPlan) → HeadTailRule plans parties
+    → IsGapless (side_of parties s.ring s.side)
     → ((p : ℕ) → 0 < (side_of parties s.ring s.side).openers p → (side_of parties s.ring s.side).items_at p ≡ [])
     → k < length parties → (slice_index_or parties k d).span ≡ Some s → slice_get plans s.ring ≡ Some plan
     → earlier_open s.ring s.side s.start parties ≡ not ((side_of parties s.ring s.side).len == s.start)
@@ -82,15 +93,23 @@ earlier_is plans parties k d s plan o g unsettled lt busy there = by_test (earli
         let place = on_true t.0.ring s.ring t.0.side s.side t.2 in
         let own = own_span parties f.0 d t.0 f.1 t.1 in
         let positive = (o.spans f.0 d t.0 f.1 t.1).positive in
-        let at : 0 < (side_of parties t.0.ring t.0.side).openers t.0.start = elim (held_cases t.0 t.0.start) [ inl inside ↦ omega (arith, own.2 t.0.start, inside.2) | inr out ↦ elim out.0 [ inl x ↦ absurd (omega arith) | inr y ↦ absurd (omega (arith, positive)) ] ] in
-        let same : (side_of parties t.0.ring t.0.side).openers t.0.start ≡ l.openers t.0.start = ap (λ (v : ℕ). (side_of parties v t.0.side).openers t.0.start) (sym place.0) ∙ ap (λ (v : Side). (side_of parties s.ring v).openers t.0.start) (sym place.1) in
+        let at : 0 < (side_of parties t.0.ring t.0.side).openers t.0.start =
+        elim (held_cases t.0 t.0.start) [
+          | inl inside ↦ omega (arith, own.2 t.0.start, inside.2)
+          | inr out ↦
+              elim out.0 [ inl x ↦ absurd (omega arith) | inr y ↦ absurd (omega (arith, positive)) ]
+        ] in
+        let same : (side_of parties t.0.ring t.0.side).openers t.0.start ≡ l.openers t.0.start =
+        ap (λ (v : ℕ). (side_of parties v t.0.side).openers t.0.start) (sym place.0)
+        ∙ ap (λ (v : Side). (side_of parties s.ring v).openers t.0.start) (sym place.1) in
         let above = unsettled_above l g t.0.start (unsettled t.0.start (omega arith)) in
         differ (omega (arith, above, t.3))
       where
         differ : l.len < s.start → true ≡ not (l.len == s.start)
         differ less = grind (arith, nat_tests)
 
-module _ (plans : List RingPlan) (pool : ℕ) (actors : List Actor) (i : ℕ) (a : Actor) (lt : i < length actors) (at : (d : Actor) → slice_index_or actors i d ≡ a) (k : Invariant plans pool actors) (m : Member) (h : MemberAgrees a m) where
+module _ (plans : List RingPlan) (pool : ℕ) (actors : List Actor) (i : ℕ) (a : Actor) (lt : i < length actors)
+    (at : (d : Actor) → slice_index_or actors i d ≡ a) (k : Invariant plans pool actors) (m : Member) (h : MemberAgrees a m) where
   here : slice_index_or (parties_of actors) i a.party ≡ a.party
   here = parties_at actors i a lt ∙ ap (λ (v : Actor). v.party) (at a)
 
@@ -98,24 +117,30 @@ module _ (plans : List RingPlan) (pool : ℕ) (actors : List Actor) (i : ℕ) (a
   in_parties = omega (arith, parties_length actors)
 
   -- the answer to a settle of a put is the reply
-  pub put_answer_is : (ring tail : ℕ) (plan : RingPlan) (items : List Item) → slice_get plans ring ≡ Some plan → tail ≡ (side_of (parties_of actors) ring Put).len
+  pub put_answer_is : (ring tail : ℕ) (plan : RingPlan) (items : List Item) → slice_get plans ring ≡ Some plan
+      → tail ≡ (side_of (parties_of actors) ring Put).len
       → put_answer plan ring tail m.buffers.items m.cached.items items m.span ≡ put_reply plan ring (parties_of actors) a items a.party.span
   put_answer_is ring tail plan items there e = ap (put_answer plan ring tail m.buffers.items m.cached.items items) h.span ∙ by_span a.party.span refl
     where
       answer : Bool → Bool → Bool → ℕ → Span → Reply
-      answer on may earlier tail s = if not on then NoSpan else if is_bad_settle plan.put (length items) s.count then BadCount else if not may then NotYours else if earlier then NotYet tail else Done (length items) []
+      answer on may earlier tail s =
+          if not on then NoSpan else if is_bad_settle plan.put (length items) s.count then BadCount else if not may then NotYours
+          else if earlier then NotYet tail else Done (length items) []
 
       may : may_put_all plan.free m.buffers.items m.cached.items items (flat_map tags items) ≡ may_put plan.free a items
       may = may_put_is plan.free a m items h
 
-      by_span : (o : Option Span) → a.party.span ≡ o → put_answer plan ring tail m.buffers.items m.cached.items items o ≡ put_reply plan ring (parties_of actors) a items o
+      by_span : (o : Option Span) → a.party.span ≡ o → put_answer plan ring tail m.buffers.items m.cached.items items o
+          ≡ put_reply plan ring (parties_of actors) a items o
       by_span None busy = refl
       by_span (Some s) busy = by_on (is_on s.ring s.side ring Put) refl
         where
-          by_on : (t : Bool) → is_on s.ring s.side ring Put ≡ t → put_answer plan ring tail m.buffers.items m.cached.items items (Some s) ≡ put_reply plan ring (parties_of actors) a items (Some s)
+          by_on : (t : Bool) → is_on s.ring s.side ring Put ≡ t
+              → put_answer plan ring tail m.buffers.items m.cached.items items (Some s) ≡ put_reply plan ring (parties_of actors) a items (Some s)
           by_on false off =
               ap (λ v. answer v (may_put_all plan.free m.buffers.items m.cached.items items (flat_map tags items)) (not (tail == s.start)) tail s) off
-              ∙ sym (ap (λ v. answer v (may_put plan.free a items) (earlier_open ring Put s.start (parties_of actors)) (side_of (parties_of actors) ring Put).len s) off)
+              ∙ sym (ap (λ v. answer v (may_put plan.free a items) (earlier_open ring Put s.start (parties_of actors))
+              (side_of (parties_of actors) ring Put).len s) off)
           by_on true on =
               ap (λ v. answer (is_on s.ring s.side ring Put) v (not (tail == s.start)) tail s) may
               ∙ (ap (λ v. answer (is_on s.ring s.side ring Put) (may_put plan.free a items) (not (v == s.start)) v s) e
@@ -128,7 +153,8 @@ module _ (plans : List RingPlan) (pool : ℕ) (actors : List Actor) (i : ℕ) (a
               span = record { ring = ring; side = Put; start = s.start; count = s.count }
 
               busy' : (slice_index_or (parties_of actors) i a.party).span ≡ Some span
-              busy' = ap (λ (v : Party Item). v.span) here ∙ (busy ∙ ap (λ (v : Span). Some v) (λ j. record { ring = sym place.0 j; side = sym place.1 j; start = s.start; count = s.count }))
+              busy' = ap (λ (v : Party Item). v.span) here ∙ (busy
+                  ∙ ap (λ (v : Span). Some v) (λ j. record { ring = sym place.0 j; side = sym place.1 j; start = s.start; count = s.count }))
 
               sound : SoundRing plan.geometry (side_of (parties_of actors) ring Put) (side_of (parties_of actors) ring Take)
               sound = k.sound.rings ring plan there
@@ -137,7 +163,8 @@ module _ (plans : List RingPlan) (pool : ℕ) (actors : List Actor) (i : ℕ) (a
               first = earlier_is plans (parties_of actors) i a.party span plan k.ruled sound.published sound.puts_unsettled in_parties busy' there
 
   -- the answer to a settle of a take is the reply
-  pub take_answer_is : (ring tail count : ℕ) (plan : RingPlan) (queued : List Item) → slice_get plans ring ≡ Some plan → tail ≡ (side_of (parties_of actors) ring Take).len → queued ≡ queue (parties_of actors) ring
+  pub take_answer_is : (ring tail count : ℕ) (plan : RingPlan) (queued : List Item) → slice_get plans ring ≡ Some plan
+      → tail ≡ (side_of (parties_of actors) ring Take).len → queued ≡ queue (parties_of actors) ring
       → take_answer plan ring tail queued count m.span ≡ take_reply plan ring (parties_of actors) count a.party.span
   take_answer_is ring tail count plan queued there e q = ap (take_answer plan ring tail queued count) h.span ∙ by_span a.party.span refl
     where
@@ -145,7 +172,8 @@ module _ (plans : List RingPlan) (pool : ℕ) (actors : List Actor) (i : ℕ) (a
       parties = parties_of actors
 
       answer : Bool → Bool → ℕ → List Item → Span → Reply
-      answer on earlier tail items s = if not on then NoSpan else if is_bad_settle plan.take count s.count then BadCount else if earlier then NotYet tail else Done count items
+      answer on earlier tail items s =
+          if not on then NoSpan else if is_bad_settle plan.take count s.count then BadCount else if earlier then NotYet tail else Done count items
 
       by_span : (o : Option Span) → a.party.span ≡ o → take_answer plan ring tail queued count o ≡ take_reply plan ring parties count o
       by_span None busy = refl
@@ -154,7 +182,8 @@ module _ (plans : List RingPlan) (pool : ℕ) (actors : List Actor) (i : ℕ) (a
           theirs : List Item
           theirs = take count (drop s.start (listed (side_of parties ring Put)))
 
-          by_on : (t : Bool) → is_on s.ring s.side ring Take ≡ t → take_answer plan ring tail queued count (Some s) ≡ take_reply plan ring parties count (Some s)
+          by_on : (t : Bool) → is_on s.ring s.side ring Take ≡ t
+              → take_answer plan ring tail queued count (Some s) ≡ take_reply plan ring parties count (Some s)
           by_on false off =
               ap (λ v. answer v (not (tail == s.start)) tail (take count queued) s) off
               ∙ sym (ap (λ v. answer v (earlier_open ring Take s.start parties) (side_of parties ring Take).len theirs s) off)
@@ -167,7 +196,8 @@ module _ (plans : List RingPlan) (pool : ℕ) (actors : List Actor) (i : ℕ) (a
               span = record { ring = ring; side = Take; start = s.start; count = s.count }
 
               busy' : (slice_index_or parties i a.party).span ≡ Some span
-              busy' = ap (λ (v : Party Item). v.span) here ∙ (busy ∙ ap (λ (v : Span). Some v) (λ j. record { ring = sym place.0 j; side = sym place.1 j; start = s.start; count = s.count }))
+              busy' = ap (λ (v : Party Item). v.span) here ∙ (busy
+                  ∙ ap (λ (v : Span). Some v) (λ j. record { ring = sym place.0 j; side = sym place.1 j; start = s.start; count = s.count }))
 
               sound : SoundRing plan.geometry (side_of parties ring Put) (side_of parties ring Take)
               sound = k.sound.rings ring plan there
@@ -178,20 +208,24 @@ module _ (plans : List RingPlan) (pool : ℕ) (actors : List Actor) (i : ℕ) (a
               mine : not (tail == s.start) ≡ earlier_open ring Take s.start parties
               mine = ap (λ v. not (v == s.start)) e ∙ sym first
 
-              by_first : (t : Bool) → earlier_open ring Take s.start parties ≡ t → take_answer plan ring tail queued count (Some s) ≡ take_reply plan ring parties count (Some s)
+              by_first : (t : Bool) → earlier_open ring Take s.start parties ≡ t
+                  → take_answer plan ring tail queued count (Some s) ≡ take_reply plan ring parties count (Some s)
               by_first true late =
                   ap (λ v. answer (is_on s.ring s.side ring Take) v tail (take count queued) s) (mine ∙ late)
                   ∙ (ap (λ v. answer (is_on s.ring s.side ring Take) true v (take count queued) s) e
                   ∙ sym (ap (λ v. answer (is_on s.ring s.side ring Take) v (side_of parties ring Take).len theirs s) late))
               by_first false now =
-                  let starts : s.start ≡ (side_of parties ring Take).len = first_in_line plans parties i a.party span plan k.ruled sound.dequeued sound.takes_unsettled in_parties busy' there now in
+                  let starts : s.start ≡ (side_of parties ring Take).len =
+                  first_in_line plans parties i a.party span plan k.ruled sound.dequeued sound.takes_unsettled in_parties busy' there now in
                   ap (λ v. answer (is_on s.ring s.side ring Take) v tail (take count queued) s) (mine ∙ now)
-                  ∙ (ap (λ v. answer (is_on s.ring s.side ring Take) false (side_of parties ring Take).len (take count v) s) (q ∙ ap (λ v. drop v (listed (side_of parties ring Put))) (sym starts))
+                  ∙ (ap (λ v. answer (is_on s.ring s.side ring Take) false (side_of parties ring Take).len (take count v) s)
+                  (q ∙ ap (λ v. drop v (listed (side_of parties ring Put))) (sym starts))
                   ∙ sym (ap (λ v. answer (is_on s.ring s.side ring Take) v (side_of parties ring Take).len theirs s) now))
 
 -- the own words after the first span of a side is settled
-words_settled_agree : (mode : Mode) (before after : RingSide Item) (span : Span) (n : ℕ) (w : Words) → OwnSettled before after span n → span.start ≡ before.len → (mode ≡ Multi → n ≡ span.count) → (mode ≡ Hts → span.count ≡ before.open_count)
-    → WordsAgree mode before w → WordsAgree mode after (words_at mode w (span.start + n))
+words_settled_agree : (mode : Mode) (before after : RingSide Item) (span : Span) (n : ℕ) (w : Words) → OwnSettled before after span n → span.start ≡ before.len
+    → (mode ≡ Multi → n ≡ span.count) → (mode ≡ Hts → span.count ≡ before.open_count)
+    → WordsAgree mode before w → WordsAgree mode after (words_moved_to mode w (span.start + n))
 words_settled_agree Multi before after span n w o first whole alone h = record {
   tail = omega (arith, o.len);
   multi = λ e. h.multi e ∙ sym (o.whole (whole refl));
@@ -223,7 +257,8 @@ occurrences-filter b p (x ∷ xs) = step (p x) refl (x == b) refl (occurrences-f
     apart : (x == b) ≡ false → occurrences b (x ∷ xs) ≡ occurrences b xs
     apart e = let z : one_if (x == b) ≡ 0 = ap one_if e in omega (arith, more xs)
 
-    step : (t : Bool) → p x ≡ t → (u : Bool) → (x == b) ≡ u → occurrences b (filter p xs) ≡ n_if (p b) (occurrences b xs) → occurrences b (cond t (x ∷ filter p xs) (filter p xs)) ≡ n_if (p b) (occurrences b (x ∷ xs))
+    step : (t : Bool) → p x ≡ t → (u : Bool) → (x == b) ≡ u → occurrences b (filter p xs) ≡ n_if (p b) (occurrences b xs)
+        → occurrences b (cond t (x ∷ filter p xs) (filter p xs)) ≡ n_if (p b) (occurrences b (x ∷ xs))
     step true px true e ih =
         let same : x ≡ b = grind (arith, nat_tests) in
         let pb : p b ≡ true = ap p (sym same) ∙ px in
@@ -241,7 +276,8 @@ occurrences-filter b p (x ∷ xs) = step (p x) refl (x == b) refl (occurrences-f
     step false px false e ih = ih ∙ ap (n_if (p b)) (sym (apart e))
 
 -- the buffers that are left
-pub left_after_put : (a : Actor) (span : Span) (items : List Item) (b : ℕ) → span.side ≡ Put → holds tags b (with_settled a.party span items) ≡ holds tags b a.party - occurrences_in tags b items
+pub left_after_put : (a : Actor) (span : Span) (items : List Item) (b : ℕ) → span.side ≡ Put
+    → holds tags b (with_settled a.party span items) ≡ holds tags b a.party - occurrences_in tags b items
 unfolding holds moved
 left_after_put a span items b put =
     let e1 = sum_by-cons (settled_times tags Put b) done a.party.settled in
@@ -253,7 +289,8 @@ left_after_put a span items b put =
     done : Settled Item
     done = record { ring = span.ring; side = span.side; start = span.start; items = items }
 
-pub left_after_take : (a : Actor) (span : Span) (items : List Item) (b : ℕ) → span.side ≡ Take → moved tags Put b a.party ≤ occurrences b a.party.given + moved tags Take b a.party
+pub left_after_take : (a : Actor) (span : Span) (items : List Item) (b : ℕ) → span.side ≡ Take
+    → moved tags Put b a.party ≤ occurrences b a.party.given + moved tags Take b a.party
     → holds tags b (with_settled a.party span items) ≡ holds tags b a.party + occurrences_in tags b items
 unfolding holds moved
 left_after_take a span items b took had =
@@ -267,43 +304,57 @@ left_after_take a span items b took had =
     done = record { ring = span.ring; side = span.side; start = span.start; items = items }
 
 -- the rings after the first span of a side is settled: the own ring, and any other
-pub other_ring_settled : (plan : RingPlan) (parties : List (Party Item)) (i : ℕ) (d : Party Item) (span : Span) (items : List Item) (r : ℕ) (x : Ring) → i < length parties → (slice_index_or parties i d).span ≡ Some span → r ≢ span.ring
+pub other_ring_settled : (plan : RingPlan) (parties : List (Party Item)) (i : ℕ) (d : Party Item) (span : Span) (items : List Item) (r : ℕ) (x : Ring)
+    → i < length parties → (slice_index_or parties i d).span ≡ Some span → r ≢ span.ring
     → RingAgrees plan parties r x → RingAgrees plan (settled_by parties i d span items) r x
 other_ring_settled plan parties i d span items r x lt busy apart h =
     record {
       put = subst (λ (v : RingSide Item). WordsAgree plan.put v x.put) (sym put) h.put;
       take = subst (λ (v : RingSide Item). WordsAgree plan.take v x.take) (sym taking) h.take;
-      queue = h.queue ∙ sym (ap (λ (v : RingSide Item). drop v.len (listed (side_of (settled_by parties i d span items) r Put))) taking ∙ ap (λ (v : RingSide Item). drop (side_of parties r Take).len (listed v)) put);
+      queue = h.queue ∙ sym (ap (λ (v : RingSide Item). drop v.len (listed (side_of (settled_by parties i d span items) r Put))) taking
+          ∙ ap (λ (v : RingSide Item). drop (side_of parties r Take).len (listed v)) put);
     }
   where
     put : side_of (settled_by parties i d span items) r Put ≡ side_of parties r Put
-    put = settled_other (side_of parties r Put) (side_of (settled_by parties i d span items) r Put) r Put span items (settles_side_of parties i d span record { ring = span.ring; side = span.side; start = span.start; items = items } r Put lt busy) (off_ring span.ring r span.side Put apart)
+    put = settled_other (side_of parties r Put) (side_of (settled_by parties i d span items) r Put) r Put span items
+        (settles_side_of parties i d span record { ring = span.ring; side = span.side; start = span.start; items = items } r Put lt busy)
+        (off_ring span.ring r span.side Put apart)
 
     taking : side_of (settled_by parties i d span items) r Take ≡ side_of parties r Take
-    taking = settled_other (side_of parties r Take) (side_of (settled_by parties i d span items) r Take) r Take span items (settles_side_of parties i d span record { ring = span.ring; side = span.side; start = span.start; items = items } r Take lt busy) (off_ring span.ring r span.side Take apart)
+    taking = settled_other (side_of parties r Take) (side_of (settled_by parties i d span items) r Take) r Take span items
+        (settles_side_of parties i d span record { ring = span.ring; side = span.side; start = span.start; items = items } r Take lt busy)
+        (off_ring span.ring r span.side Take apart)
 
-other_side_of : (parties : List (Party Item)) (i : ℕ) (d : Party Item) (span : Span) (items : List Item) (side : Side) → i < length parties → (slice_index_or parties i d).span ≡ Some span → is_on span.ring span.side span.ring side ≡ false
+other_side_of : (parties : List (Party Item)) (i : ℕ) (d : Party Item) (span : Span) (items : List Item) (side : Side) → i < length parties
+    → (slice_index_or parties i d).span ≡ Some span → is_on span.ring span.side span.ring side ≡ false
     → side_of (settled_by parties i d span items) span.ring side ≡ side_of parties span.ring side
 other_side_of parties i d span items side lt busy off =
-    settled_other (side_of parties span.ring side) (side_of (settled_by parties i d span items) span.ring side) span.ring side span items (settles_side_of parties i d span record { ring = span.ring; side = span.side; start = span.start; items = items } span.ring side lt busy) off
+    settled_other (side_of parties span.ring side) (side_of (settled_by parties i d span items) span.ring side) span.ring side span items
+    (settles_side_of parties i d span record { ring = span.ring; side = span.side; start = span.start; items = items } span.ring side lt busy) off
 
-pub own_ring_put : (plan : RingPlan) (parties : List (Party Item)) (i : ℕ) (d : Party Item) (ring start count : ℕ) (items : List Item) (x y : Ring) → i < length parties → (slice_index_or parties i d).span ≡ Some record { ring = ring; side = Put; start = start; count = count }
-    → SoundRing plan.geometry (side_of parties ring Put) (side_of parties ring Take) → start ≡ (side_of parties ring Put).len → (plan.put ≡ Multi → length items ≡ count) → (plan.put ≡ Hts → count ≡ (side_of parties ring Put).open_count)
-    → RingAgrees plan parties ring x → y.put ≡ words_at plan.put x.put (start + length items) → y.take ≡ x.take → y.queue.items ≡ x.queue.items ++ items
+pub own_ring_put : (plan : RingPlan) (parties : List (Party Item)) (i : ℕ) (d : Party Item) (ring start count : ℕ) (items : List Item) (x y : Ring)
+    → i < length parties → (slice_index_or parties i d).span ≡ Some record { ring = ring; side = Put; start = start; count = count }
+    → SoundRing plan.geometry (side_of parties ring Put) (side_of parties ring Take) → start ≡ (side_of parties ring Put).len
+    → (plan.put ≡ Multi → length items ≡ count) → (plan.put ≡ Hts → count ≡ (side_of parties ring Put).open_count)
+    → RingAgrees plan parties ring x → y.put ≡ words_moved_to plan.put x.put (start + length items) → y.take ≡ x.take → y.queue.items ≡ x.queue.items ++ items
     → RingAgrees plan (settled_by parties i d record { ring = ring; side = Put; start = start; count = count } items) ring y
 own_ring_put plan parties i d ring start count items x y lt busy sound first whole alone h put taking queued =
     let span : Span = record { ring = ring; side = Put; start = start; count = count } in
     record {
       put = subst (λ (v : Words). WordsAgree plan.put (side_of (settled_by parties i d span items) ring Put) v) (sym put)
-          (words_settled_agree plan.put (side_of parties ring Put) (side_of (settled_by parties i d span items) ring Put) span (length items) x.put (own_settled parties i d span items lt busy) first whole alone h.put);
+          (words_settled_agree plan.put (side_of parties ring Put) (side_of (settled_by parties i d span items) ring Put) span (length items) x.put
+          (own_settled parties i d span items lt busy) first whole alone h.put);
       take = subst (λ (v : Words). WordsAgree plan.take (side_of (settled_by parties i d span items) ring Take) v) (sym taking)
           (subst (λ (v : RingSide Item). WordsAgree plan.take v x.take) (sym (other_side_of parties i d span items Take lt busy (off_take ring ring))) h.take);
       queue = queued ∙ (ap (λ v. v ++ items) h.queue ∙ sym (put_queue plan.geometry parties i d ring start count items sound lt busy first));
     }
 
-pub own_ring_take : (plan : RingPlan) (parties : List (Party Item)) (i : ℕ) (d : Party Item) (ring start count : ℕ) (items : List Item) (x y : Ring) → i < length parties → (slice_index_or parties i d).span ≡ Some record { ring = ring; side = Take; start = start; count = count }
-    → SoundRing plan.geometry (side_of parties ring Put) (side_of parties ring Take) → start ≡ (side_of parties ring Take).len → (plan.take ≡ Multi → length items ≡ count) → (plan.take ≡ Hts → count ≡ (side_of parties ring Take).open_count)
-    → RingAgrees plan parties ring x → y.take ≡ words_at plan.take x.take (start + length items) → y.put ≡ x.put → y.queue.items ≡ drop (length items) x.queue.items
+pub own_ring_take : (plan : RingPlan) (parties : List (Party Item)) (i : ℕ) (d : Party Item) (ring start count : ℕ) (items : List Item) (x y : Ring)
+    → i < length parties → (slice_index_or parties i d).span ≡ Some record { ring = ring; side = Take; start = start; count = count }
+    → SoundRing plan.geometry (side_of parties ring Put) (side_of parties ring Take) → start ≡ (side_of parties ring Take).len
+    → (plan.take ≡ Multi → length items ≡ count) → (plan.take ≡ Hts → count ≡ (side_of parties ring Take).open_count)
+    → RingAgrees plan parties ring x → y.take ≡ words_moved_to plan.take x.take (start + length items) → y.put ≡ x.put
+    → y.queue.items ≡ drop (length items) x.queue.items
     → RingAgrees plan (settled_by parties i d record { ring = ring; side = Take; start = start; count = count } items) ring y
 own_ring_take plan parties i d ring start count items x y lt busy sound first whole alone h taking put queued =
     let span : Span = record { ring = ring; side = Take; start = start; count = count } in
@@ -311,7 +362,8 @@ own_ring_take plan parties i d ring start count items x y lt busy sound first wh
       put = subst (λ (v : Words). WordsAgree plan.put (side_of (settled_by parties i d span items) ring Put) v) (sym put)
           (subst (λ (v : RingSide Item). WordsAgree plan.put v x.put) (sym (other_side_of parties i d span items Put lt busy (off_put ring ring))) h.put);
       take = subst (λ (v : Words). WordsAgree plan.take (side_of (settled_by parties i d span items) ring Take) v) (sym taking)
-          (words_settled_agree plan.take (side_of parties ring Take) (side_of (settled_by parties i d span items) ring Take) span (length items) x.take (own_settled parties i d span items lt busy) first whole alone h.take);
+          (words_settled_agree plan.take (side_of parties ring Take) (side_of (settled_by parties i d span items) ring Take) span (length items) x.take
+          (own_settled parties i d span items lt busy) first whole alone h.take);
       queue = queued ∙ (ap (drop (length items)) h.queue ∙ sym (take_queue plan.geometry parties i d ring start count items sound lt busy first));
     }
 
@@ -345,7 +397,8 @@ ever b (x ∷ xs) h =
     ]
 
 -- a member that put these items
-pub member_put : (a : Actor) (m n : Member) (span : Span) (items : List Item) (free : Bool) (reply : Reply) → MemberAgrees a m → span.side ≡ Put → may_put free a items ≡ true → is_done reply ≡ true → MemberSettled m n reply
+pub member_put : (a : Actor) (m n : Member) (span : Span) (items : List Item) (free : Bool) (reply : Reply) → MemberAgrees a m → span.side ≡ Put
+    → may_put free a items ≡ true → is_done reply ≡ true → MemberSettled m n reply
     → n.buffers.items ≡ filter (λ b. not (list_any (λ c. c == b) (flat_map tags items))) m.buffers.items
     → MemberAgrees record { party = with_settled a.party span items; observed = a.observed; cached = a.cached } n
 member_put a m n span items free reply h put may done s left = record {
@@ -353,7 +406,8 @@ member_put a m n span items free reply h put may done s left = record {
   observed = s.observed ∙ h.observed;
   buffers = λ b.
       ap (occurrences b) left ∙ (occurrences-filter b (λ c. not (list_any (λ e. e == c) (flat_map tags items))) m.buffers.items
-      ∙ (ap (n_if (not (list_any (λ e. e == b) (flat_map tags items)))) (h.buffers b) ∙ (by_there b (list_any (λ e. e == b) (flat_map tags items)) refl ∙ sym (left_after_put a span items b put))));
+      ∙ (ap (n_if (not (list_any (λ e. e == b) (flat_map tags items)))) (h.buffers b)
+      ∙ (by_there b (list_any (λ e. e == b) (flat_map tags items)) refl ∙ sym (left_after_put a span items b put))));
   cached = λ b. ap (λ v. list_any (λ c. c == b) v) s.cached ∙ h.cached b;
 }
   where
@@ -363,19 +417,25 @@ member_put a m n span items free reply h put may done s left = record {
     is_one : (n : ℕ) → (n == 1) ≡ true → n ≡ 1
     is_one n h = grind (arith, nat_tests)
 
-    by_there : (b : ℕ) (t : Bool) → list_any (λ e. e == b) numbers ≡ t → n_if (not (list_any (λ e. e == b) numbers)) (holds tags b a.party) ≡ holds tags b a.party - occurrences_in tags b items
+    by_there : (b : ℕ) (t : Bool) → list_any (λ e. e == b) numbers ≡ t
+        → n_if (not (list_any (λ e. e == b) numbers)) (holds tags b a.party) ≡ holds tags b a.party - occurrences_in tags b items
     by_there b false e =
         let none : occurrences b numbers ≡ 0 = never b numbers e in
-        ap (λ v. n_if (not v) (holds tags b a.party)) e ∙ (let r : holds tags b a.party ≡ holds tags b a.party - occurrences_in tags b items = omega (arith, times_in_is tags b items) in r)
+        ap (λ v. n_if (not v) (holds tags b a.party)) e ∙ (let r : holds tags b a.party ≡ holds tags b a.party - occurrences_in tags b items =
+        omega (arith, times_in_is tags b items) in r)
     by_there b true e =
         let some : 0 < occurrences b numbers = ever b numbers e in
-        let parts = and_true (list_all (is_held a) numbers && list_all (λ n. occurrences n numbers == 1) numbers) (not free || list_all (λ x. length (tags x) == 1) items) may in
+        let parts =
+        and_true (list_all (is_held a) numbers && list_all (λ n. occurrences n numbers == 1) numbers)
+        (not free || list_all (λ x. length (tags x) == 1) items) may in
         let both = and_true (list_all (is_held a) numbers) (list_all (λ n. occurrences n numbers == 1) numbers) parts.0 in
         let mine = and_true (holds tags b a.party == 1) (not (is_cached a b)) (passes (is_held a) numbers b both.0 some) in
         let one : holds tags b a.party ≡ 1 = is_one (holds tags b a.party) mine.0 in
-        ap (λ v. n_if (not v) (holds tags b a.party)) e ∙ (let r : 0 ≡ holds tags b a.party - occurrences_in tags b items = omega (arith, times_in_is tags b items) in r)
+        ap (λ v. n_if (not v) (holds tags b a.party)) e ∙ (let r : 0 ≡ holds tags b a.party - occurrences_in tags b items =
+        omega (arith, times_in_is tags b items) in r)
 
-pub member_take : (a : Actor) (m n : Member) (span : Span) (items : List Item) (reply : Reply) → MemberAgrees a m → span.side ≡ Take → is_done reply ≡ true → MemberSettled m n reply → n.buffers.items ≡ m.buffers.items ++ flat_map tags items
+pub member_take : (a : Actor) (m n : Member) (span : Span) (items : List Item) (reply : Reply) → MemberAgrees a m → span.side ≡ Take → is_done reply ≡ true
+    → MemberSettled m n reply → n.buffers.items ≡ m.buffers.items ++ flat_map tags items
     → ((b : ℕ) → moved tags Put b a.party ≤ occurrences b a.party.given + moved tags Take b a.party)
     → MemberAgrees record { party = with_settled a.party span items; observed = a.observed; cached = a.cached } n
 member_take a m n span items reply h took done s got had = record {
@@ -383,31 +443,37 @@ member_take a m n span items reply h took done s got had = record {
   observed = s.observed ∙ h.observed;
   buffers = λ b.
       let split = sum_by-append (λ n. if n == b then 1 else 0) m.buffers.items (flat_map tags items) in
-      ap (occurrences b) got ∙ (let r : occurrences b (m.buffers.items ++ flat_map tags items) ≡ holds tags b (with_settled a.party span items) = omega (arith, h.buffers b, times_in_is tags b items, left_after_take a span items b took (had b)) in r);
+      ap (occurrences b) got ∙ (let r : occurrences b (m.buffers.items ++ flat_map tags items) ≡ holds tags b (with_settled a.party span items) =
+      omega (arith, h.buffers b, times_in_is tags b items, left_after_take a span items b took (had b)) in r);
   cached = λ b. ap (λ v. list_any (λ c. c == b) v) s.cached ∙ h.cached b;
 }
 
 -- each ring after one changed
-each_after : (plans : List RingPlan) (rings : List Ring) (before after : List (Party Item)) (ring : ℕ) (plan : RingPlan) (y : Ring) → slice_get plans ring ≡ Some plan → RingAgrees plan after ring y
+each_after : (plans : List RingPlan) (rings : List Ring) (before after : List (Party Item)) (ring : ℕ) (plan : RingPlan) (y : Ring)
+    → slice_get plans ring ≡ Some plan → RingAgrees plan after ring y
     → ((r : ℕ) (p : RingPlan) (z : Ring) → r ≢ ring → slice_get plans r ≡ Some p → slice_get rings r ≡ Some z → RingAgrees p after r z)
     → (r : ℕ) (p : RingPlan) (z : Ring) → slice_get plans r ≡ Some p → slice_get (slice_set rings ring y) r ≡ Some z → RingAgrees p after r z
 each_after plans rings before after ring plan y there own others r p z hp hz = elim (same_or_not r ring) [
   | inl same ↦
       let ep : plan ≡ p = same_plan (sym there ∙ (ap (slice_get plans) (sym same) ∙ hp)) in
       let ez : y ≡ z = get_set rings ring y z (ap (slice_get (slice_set rings ring y)) (sym same) ∙ hz) in
-      subst (λ (v : ℕ). RingAgrees p after v z) (sym same) (subst (λ (v : RingPlan). RingAgrees v after ring z) ep (subst (λ (v : Ring). RingAgrees plan after ring v) ez own))
+      subst (λ (v : ℕ). RingAgrees p after v z) (sym same) (subst (λ (v : RingPlan). RingAgrees v after ring z) ep
+      (subst (λ (v : Ring). RingAgrees plan after ring v) ez own))
   | inr apart ↦ others r p z apart hp (sym (get_set_other rings ring r y apart) ∙ hz)
 ]
 
-pub same_ring : (plan : RingPlan) (parties : List (Party Item)) (r : ℕ) (x y : Ring) → RingAgrees plan parties r x → y.put ≡ x.put → y.take ≡ x.take → y.queue.items ≡ x.queue.items → RingAgrees plan parties r y
+pub same_ring : (plan : RingPlan) (parties : List (Party Item)) (r : ℕ) (x y : Ring) → RingAgrees plan parties r x → y.put ≡ x.put → y.take ≡ x.take
+    → y.queue.items ≡ x.queue.items → RingAgrees plan parties r y
 same_ring plan parties r x y h put taking queue = record {
   put = subst (λ (v : Words). WordsAgree plan.put (side_of parties r Put) v) (sym put) h.put;
   take = subst (λ (v : Words). WordsAgree plan.take (side_of parties r Take) v) (sym taking) h.take;
   queue = queue ∙ h.queue;
 }
 
-module _ (plans : List RingPlan) (pool : ℕ) (rings : List Ring) (members : List Member) (actors : List Actor) (i : ℕ) (a : Actor) (m n : Member) (ring : ℕ) (plan : RingPlan) (x y : Ring)
-    (agree : ListsAgree plans rings members actors) (lt : i < length actors) (at : (d : Actor) → slice_index_or actors i d ≡ a) (k : Invariant plans pool actors) (h : MemberAgrees a m)
+module _ (plans : List RingPlan) (pool : ℕ) (rings : List Ring) (members : List Member) (actors : List Actor) (i : ℕ) (a : Actor) (m n : Member) (ring : ℕ)
+    (plan : RingPlan) (x y : Ring)
+    (agree : ListsAgree plans rings members actors) (lt : i < length actors) (at : (d : Actor) → slice_index_or actors i d ≡ a)
+    (k : Invariant plans pool actors) (h : MemberAgrees a m)
     (hp : slice_get plans ring ≡ Some plan) (hr : slice_get rings ring ≡ Some x) where
   abbrev parties_now : List (Party Item)
   parties_now = parties_of actors
@@ -419,24 +485,31 @@ module _ (plans : List RingPlan) (pool : ℕ) (rings : List Ring) (members : Lis
   within = omega (arith, parties_length actors)
 
   -- nothing changed
-  unchanged : IsSame m n → y.put ≡ x.put → y.take ≡ x.take → y.queue.items ≡ x.queue.items → ListsAgree plans (slice_set rings ring y) (slice_set members i n) (slice_set actors i a)
+  unchanged : IsSame m n → y.put ≡ x.put → y.take ≡ x.take → y.queue.items ≡ x.queue.items
+      → ListsAgree plans (slice_set rings ring y) (slice_set members i n) (slice_set actors i a)
   unchanged same put taking queued =
       lift plans rings (slice_set rings ring y) members actors i a n agree lt (same_member a m n h same) (length-set rings ring y ∙ agree.ring_count)
-      (subst (λ (v : List (Party Item)). (r : ℕ) (p : RingPlan) (z : Ring) → slice_get plans r ≡ Some p → slice_get (slice_set rings ring y) r ≡ Some z → RingAgrees p v r z) (sym (parties_unchanged actors i a a lt (sym (ap (λ (v : Actor). v.party) (at a)))))
-      (each_after plans rings parties_now parties_now ring plan y hp (same_ring plan parties_now ring x y (agree.each_ring ring plan x hp hr) put taking queued) (λ r p z apart hp' hz. agree.each_ring r p z hp' hz)))
+      (subst (λ (v : List (Party Item)). (r : ℕ) (p : RingPlan) (z : Ring) → slice_get plans r ≡ Some p → slice_get (slice_set rings ring y) r ≡ Some z
+      → RingAgrees p v r z) (sym (parties_unchanged actors i a a lt (sym (ap (λ (v : Actor). v.party) (at a)))))
+      (each_after plans rings parties_now parties_now ring plan y hp (same_ring plan parties_now ring x y (agree.each_ring ring plan x hp hr) put taking queued)
+      (λ r p z apart hp' hz. agree.each_ring r p z hp' hz)))
 
   pub put_agrees : (items : List Item) (reply : Reply) → reply ≡ put_reply plan ring parties_now a items a.party.span → PutResult plan m n x y items reply
-      → ListsAgree plans (slice_set rings ring y) (slice_set members i n) (slice_set actors i (after_put a items reply))
+      → ListsAgree plans (slice_set rings ring y) (slice_set members i n) (slice_set actors i (after_settle_put a items reply))
   put_agrees items (Done c its) e r =
-      subst (λ (v : Option Span). ListsAgree plans (slice_set rings ring y) (slice_set members i n) (slice_set actors i record { party = settled_span a.party v items; observed = a.observed; cached = a.cached })) (sym is_busy)
+      subst (λ (v : Option Span). ListsAgree plans (slice_set rings ring y) (slice_set members i n)
+      (slice_set actors i record { party = settled_span a.party v items; observed = a.observed; cached = a.cached })) (sym is_busy)
       (lift plans rings (slice_set rings ring y) members actors i b n agree lt
       (member_put a m n span items plan.free (Done c its) h refl tells.4 refl r.member r.buffers) (length-set rings ring y ∙ agree.ring_count)
-      (subst (λ (v : List (Party Item)). (r : ℕ) (p : RingPlan) (z : Ring) → slice_get plans r ≡ Some p → slice_get (slice_set rings ring y) r ≡ Some z → RingAgrees p v r z) (sym is_new)
+      (subst (λ (v : List (Party Item)). (r : ℕ) (p : RingPlan) (z : Ring) → slice_get plans r ≡ Some p → slice_get (slice_set rings ring y) r ≡ Some z
+      → RingAgrees p v r z) (sym is_new)
       (each_after plans rings parties_now new ring plan y hp
-      (own_ring_put plan parties_now i a.party ring s.start s.count items x y within busy sound first fits.1 (λ hts. ((k.ruled.spans i a.party span within busy).alone plan hp hts).1) (agree.each_ring ring plan x hp hr) put r.taking r.queue)
+      (own_ring_put plan parties_now i a.party ring s.start s.count items x y within busy sound first fits.1
+      (λ hts. ((k.ruled.spans i a.party span within busy).alone plan hp hts).1) (agree.each_ring ring plan x hp hr) put r.taking r.queue)
       (λ v p z apart hp' hz. other_ring_settled p parties_now i a.party span items v z within busy apart (agree.each_ring v p z hp' hz)))))
     where
-      tells : (s : Span) × (a.party.span ≡ Some s) × (is_on s.ring s.side ring Put ≡ true) × (is_bad_settle plan.put (length items) s.count ≡ false) × (may_put plan.free a items ≡ true) × (earlier_open ring Put s.start parties_now ≡ false)
+      tells : (s : Span) × (a.party.span ≡ Some s) × (is_on s.ring s.side ring Put ≡ true) × (is_bad_settle plan.put (length items) s.count ≡ false)
+          × (may_put plan.free a items ≡ true) × (earlier_open ring Put s.start parties_now ≡ false)
       tells = put_done_tells plan ring parties_now a items a.party.span c its (sym e)
 
       s : Span
@@ -469,8 +542,8 @@ module _ (plans : List RingPlan) (pool : ℕ) (rings : List Ring) (members : Lis
       ends : end_at m.span (length items) ≡ s.start + length items
       ends = ap (λ (v : Option Span). end_at v (length items)) (h.span ∙ is_busy)
 
-      put : y.put ≡ words_at plan.put x.put (s.start + length items)
-      put = r.put (omega (arith, ends, fits.0, own, (k.ruled.sides ring Put plan hp).last)) ∙ ap (words_at plan.put x.put) ends
+      put : y.put ≡ words_moved_to plan.put x.put (s.start + length items)
+      put = r.put (omega (arith, ends, fits.0, own, (k.ruled.sides ring Put plan hp).last)) ∙ ap (words_moved_to plan.put x.put) ends
 
       b : Actor
       b = record { party = with_settled a.party span items; observed = a.observed; cached = a.cached }
@@ -480,21 +553,28 @@ module _ (plans : List RingPlan) (pool : ℕ) (rings : List Ring) (members : Lis
 
       is_new : parties_of (slice_set actors i b) ≡ new
       is_new = parties_set actors i b ∙ ap (λ (v : Party Item). slice_set parties_now i (with_settled v span items)) (sym stands)
-  put_agrees items _ e r = unchanged record { buffers = r.buffers; cached = r.member.cached; observed = r.member.observed; span = r.member.span } (r.refused refl) r.taking r.queue
+  put_agrees items _ e r =
+      unchanged record { buffers = r.buffers; cached = r.member.cached; observed = r.member.observed; span = r.member.span } (r.refused refl) r.taking r.queue
 
   pub take_agrees : (count : ℕ) (reply : Reply) → reply ≡ take_reply plan ring parties_now count a.party.span → TakeResult plan m n x y count reply
-      → ListsAgree plans (slice_set rings ring y) (slice_set members i n) (slice_set actors i (after_take a reply))
+      → ListsAgree plans (slice_set rings ring y) (slice_set members i n) (slice_set actors i (after_settle_take a reply))
   take_agrees count (Done c items) e r =
-      subst (λ (v : Option Span). ListsAgree plans (slice_set rings ring y) (slice_set members i n) (slice_set actors i record { party = settled_span a.party v items; observed = a.observed; cached = a.cached })) (sym is_busy)
+      subst (λ (v : Option Span). ListsAgree plans (slice_set rings ring y) (slice_set members i n)
+      (slice_set actors i record { party = settled_span a.party v items; observed = a.observed; cached = a.cached })) (sym is_busy)
       (lift plans rings (slice_set rings ring y) members actors i b n agree lt
-      (member_take a m n span items (Done c items) h refl refl r.member got (λ v. subst (λ (w : Party Item). moved tags Put v w ≤ occurrences v w.given + moved tags Take v w) stands (k.sound.buffers.never_below_none i a.party v within)))
+      (member_take a m n span items (Done c items) h refl refl r.member got
+      (λ v. subst (λ (w : Party Item). moved tags Put v w ≤ occurrences v w.given + moved tags Take v w) stands
+      (k.sound.buffers.never_below_none i a.party v within)))
       (length-set rings ring y ∙ agree.ring_count)
-      (subst (λ (v : List (Party Item)). (r : ℕ) (p : RingPlan) (z : Ring) → slice_get plans r ≡ Some p → slice_get (slice_set rings ring y) r ≡ Some z → RingAgrees p v r z) (sym is_new)
+      (subst (λ (v : List (Party Item)). (r : ℕ) (p : RingPlan) (z : Ring) → slice_get plans r ≡ Some p → slice_get (slice_set rings ring y) r ≡ Some z
+      → RingAgrees p v r z) (sym is_new)
       (each_after plans rings parties_now new ring plan y hp
-      (own_ring_take plan parties_now i a.party ring s.start s.count items x y within busy sound first (λ multi. many ∙ fits.1 multi) (λ hts. ((k.ruled.spans i a.party span within busy).alone plan hp hts).1) agrees taking r.put (r.queue ∙ ap (λ v. drop v x.queue.items) (sym many)))
+      (own_ring_take plan parties_now i a.party ring s.start s.count items x y within busy sound first (λ multi. many ∙ fits.1 multi)
+      (λ hts. ((k.ruled.spans i a.party span within busy).alone plan hp hts).1) agrees taking r.put (r.queue ∙ ap (λ v. drop v x.queue.items) (sym many)))
       (λ v p z apart hp' hz. other_ring_settled p parties_now i a.party span items v z within busy apart (agree.each_ring v p z hp' hz)))))
     where
-      tells : (s : Span) × (a.party.span ≡ Some s) × (is_on s.ring s.side ring Take ≡ true) × (is_bad_settle plan.take count s.count ≡ false) × (earlier_open ring Take s.start parties_now ≡ false) × (take count (drop s.start (listed (side_of parties_now ring Put))) ≡ items)
+      tells : (s : Span) × (a.party.span ≡ Some s) × (is_on s.ring s.side ring Take ≡ true) × (is_bad_settle plan.take count s.count ≡ false)
+          × (earlier_open ring Take s.start parties_now ≡ false) × (take count (drop s.start (listed (side_of parties_now ring Put))) ≡ items)
       tells = take_done_tells plan ring parties_now count a.party.span c items (sym e)
 
       s : Span
@@ -527,7 +607,8 @@ module _ (plans : List RingPlan) (pool : ℕ) (rings : List Ring) (members : Lis
       positive : 0 < s.count
       positive = (k.ruled.spans i a.party span within busy).positive
 
-      own : (s.count ≤ (side_of parties_now ring Take).open_count) × (s.start + s.count ≤ (side_of parties_now ring Take).reach) × ((p : ℕ) → open_count span p ≤ (side_of parties_now ring Take).openers p)
+      own : (s.count ≤ (side_of parties_now ring Take).open_count) × (s.start + s.count ≤ (side_of parties_now ring Take).reach)
+          × ((p : ℕ) → open_count span p ≤ (side_of parties_now ring Take).openers p)
       own = own_span parties_now i a.party span within busy
 
       last : 0 < (side_of parties_now ring Take).openers (s.start + (s.count - 1))
@@ -544,7 +625,8 @@ module _ (plans : List RingPlan) (pool : ℕ) (rings : List Ring) (members : Lis
 
       many : length items ≡ count
       many = ap length (sym tells.5) ∙ (length-take count (drop s.start (listed (side_of parties_now ring Put)))
-          ∙ (let e1 = length-drop s.start (listed (side_of parties_now ring Put)) in let e2 = length-listed (side_of parties_now ring Put) sound.published in omega (arith, there, fits.0)))
+          ∙ (let e1 = length-drop s.start (listed (side_of parties_now ring Put)) in let e2 =
+          length-listed (side_of parties_now ring Put) sound.published in omega (arith, there, fits.0)))
 
       got : n.buffers.items ≡ m.buffers.items ++ flat_map tags items
       got = r.buffers ∙ ap (λ v. m.buffers.items ++ flat_map tags v) (sym is_items)
@@ -552,8 +634,9 @@ module _ (plans : List RingPlan) (pool : ℕ) (rings : List Ring) (members : Lis
       ends : end_at m.span count ≡ s.start + count
       ends = ap (λ (v : Option Span). end_at v count) (h.span ∙ is_busy)
 
-      taking : y.take ≡ words_at plan.take x.take (s.start + length items)
-      taking = r.taking (omega (arith, ends, fits.0, own.1, (k.ruled.sides ring Take plan hp).last)) ∙ ap (words_at plan.take x.take) (ends ∙ ap (λ v. s.start + v) (sym many))
+      taking : y.take ≡ words_moved_to plan.take x.take (s.start + length items)
+      taking = r.taking (omega (arith, ends, fits.0, own.1, (k.ruled.sides ring Take plan hp).last))
+          ∙ ap (words_moved_to plan.take x.take) (ends ∙ ap (λ v. s.start + v) (sym many))
 
       b : Actor
       b = record { party = with_settled a.party span items; observed = a.observed; cached = a.cached }
@@ -563,4 +646,5 @@ module _ (plans : List RingPlan) (pool : ℕ) (rings : List Ring) (members : Lis
 
       is_new : parties_of (slice_set actors i b) ≡ new
       is_new = parties_set actors i b ∙ ap (λ (v : Party Item). slice_set parties_now i (with_settled v span items)) (sym stands)
-  take_agrees count _ e r = unchanged record { buffers = r.buffers; cached = r.member.cached; observed = r.member.observed; span = r.member.span } r.put (r.refused refl) r.queue
+  take_agrees count _ e r =
+      unchanged record { buffers = r.buffers; cached = r.member.cached; observed = r.member.observed; span = r.member.span } r.put (r.refused refl) r.queue

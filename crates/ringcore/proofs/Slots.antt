@@ -1,6 +1,8 @@
 -- A write into the slots of a ring, seen from its front
-use Rattle.std.proofs.Common.{◌≡◌, ℕ, zero, suc, ◌+◌, ◌-◌, ◌%◌, ◌<◌, ◌≤◌, ◌⊎◌, inl, inr, List, [], ◌∷◌, ◌++◌, length, take, drop, map, set, get_or, replicate, Option, Some, None, refl, sym, ap, ◌∙◌, arith, append_assoc, length-append, length-drop, length-set, drop-cons}
-use Rattle.std.proofs.lemmas.List.{length-map, length-replicate, take-set-le, set-append_left, set-append_right, drop-set-lt, drop-set-add, replicate-append-replicate, map-append, append-nil, set_split, take_more}
+use Rattle.std.proofs.Common.{◌≡◌, ℕ, zero, suc, ◌+◌, ◌-◌, ◌%◌, ◌<◌, ◌≤◌, ◌⊎◌, inl, inr, List, [], ◌∷◌, ◌++◌, length, take, drop, map, set, get_or, replicate}
+use Rattle.std.proofs.Common.{Option, Some, None, refl, sym, ap, ◌∙◌, arith, append_assoc, length-append, length-drop, length-set, drop-cons}
+use Rattle.std.proofs.lemmas.List.{length-map, length-replicate, take-set-le, set-append_left, set-append_right, drop-set-lt, drop-set-add}
+use Rattle.std.proofs.lemmas.List.{replicate-append-replicate, map-append, append-nil, set_split, take_more}
 use Rattle.std.proofs.lemmas.Grind.{take-set_at}
 use Rattle.std.proofs.Math.Seq.{set-append_seam, take-set-lt}
 use Rattle.std.proofs.Math.ListN.{drop_of_length-le}
@@ -153,7 +155,8 @@ popped_by e slots front count next item (y ∷ ys) extent sized within some boun
     let near : front < length slots = omega arith in
     let k = e.size - count in
     let row = sym (row-front slots front item near) ∙ laid in
-    let is_y : item ≡ Some y = item_is ∙ head_is (get_or slots front item) (Some y) (drop (suc front) slots ++ take front slots) (map Some ys ++ replicate k None) row in
+    let is_y : item ≡ Some y =
+    item_is ∙ head_is (get_or slots front item) (Some y) (drop (suc front) slots ++ take front slots) (map Some ys ++ replicate k None) row in
     let rest = tail_is (get_or slots front item) (Some y) (drop (suc front) slots ++ take front slots) (map Some ys ++ replicate k None) row in
     let place : next ≡ (front + 1) % length slots = at ∙ ap (λ n. (front + 1) % n) (sym sized) in
     let after : rotated next (set slots front None) ≡ map Some ys ++ replicate (e.size - (count - 1)) None =

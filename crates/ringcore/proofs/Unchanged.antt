@@ -9,7 +9,8 @@ use Rattle.ringcore_laws.proofs.Laws.{element}
 use Rattle.ringcore.specs.declared.ring.Ring.{Ring}
 use Rattle.ringcore.specs.declared.member.Member.{Member}
 use Rattle.ringcore.specs.declared.world.World.{World}
-use Rattle.ringcore.specs.Agree.{AreSame, IsSame, IsSameRing, ListsAgree}
+use Rattle.ringcore.specs.Agree.{ListsAgree}
+use Rattle.ringcore.specs.Same.{AreSame, IsSame, IsSameRing}
 use Rattle.ringcore.specs.Histories.{AgreesWith, History, IsUnchanged}
 use Rattle.ringcore.proofs.SettleSteps.{same_member, same_ring}
 
@@ -60,7 +61,8 @@ same_agree plans rings new_rings members new_members actors same agree = record 
       let x = element rings r within in
       let now : slice_index_or new_rings r z ≡ z = get_or_from_slice_get new_rings r z z hz in
       let before : slice_index_or rings r z ≡ x.0 = get_or_from_slice_get rings r x.0 z x.1 in
-      let one = subst (λ (v : Ring). IsSameRing x.0 v) now (subst (λ (v : Ring). IsSameRing v (slice_index_or new_rings r z)) before (same.each_ring r z within)) in
+      let one =
+      subst (λ (v : Ring). IsSameRing x.0 v) now (subst (λ (v : Ring). IsSameRing v (slice_index_or new_rings r z)) before (same.each_ring r z within)) in
       same_ring plan (parties_of actors) r x.0 z (agree.each_ring r plan x.0 hp x.1) one.put one.take one.queue;
 }
 

@@ -3,10 +3,12 @@ use Rattle.std.specs.Prelude.{ℕ, ◌≡◌, ◌<◌, List, [], ◌++◌, lengt
 use Rattle.geom.specs.declared.plan.RingPlan.{RingPlan}
 use Rattle.ringcore_laws.specs.History.{Actor, Event, IsRun, StaysSound, after_all, opening}
 use Rattle.ringcore_laws.specs.Refusals.{PutsFindRoom}
-use Rattle.ringcore_laws.specs.Runs.{IsPlan, history_of}
+use Rattle.ringcore_laws.specs.Runs.{IsPlan, OneSpanEach, history_of}
 use Rattle.ringcore.specs.declared.plan.WorldPlan.{WorldPlan}
 use Rattle.ringcore.specs.declared.world.World.{World}
-use Rattle.ringcore.specs.Agree.{AreSame, ListsAgree, IsOnRing}
+use Rattle.ringcore.specs.Agree.{ListsAgree}
+use Rattle.ringcore.specs.Runs.{IsOnRing}
+use Rattle.ringcore.specs.Same.{AreSame}
 use Rattle.ringcore.specs.Runs.{ExistAll}
 use Rattle.ringcore_laws.specs.declared.protocol.Step.{Step}
 
@@ -28,19 +30,20 @@ abbrev pub actors_of : History → List Actor
 actors_of h = after_all (opening_of h) h.events
 
 -- how many buffers there are
-abbrev pub pool_of : History → ℕ
-pool_of h = length h.gifts
+abbrev pub pool_size : History → ℕ
+pool_size h = length h.gifts
 
 -- a history with more events
 abbrev pub followed_by : History → List Event → History
 followed_by h events = record { plans = h.plans; actors = h.actors; gifts = h.gifts; events = h.events ++ events }
 
--- a right history: of a plan that may be opened; each reply is the one to its step; it is sound before and after each event; and no put
--- into a free ring was answered NoRoom
+-- a right history: of a plan that may be opened; each reply is the one to its step; it is sound before and after each
+-- event; and no put into a free ring was answered NoRoom
 pub record IsRight (h : History) : Type 0 where
   pub plan : IsPlan h.plans h.actors h.gifts
-  pub run : IsRun h.plans (pool_of h) (opening_of h) h.events
-  pub sound : StaysSound h.plans (pool_of h) (opening_of h) h.events
+  pub run : IsRun h.plans (pool_size h) (opening_of h) h.events
+  pub sound : StaysSound h.plans (pool_size h) (opening_of h) h.events
+  pub one_span : OneSpanEach (opening_of h) h.events
   pub room : PutsFindRoom h.plans h.events
 
 -- the world's queued items, lengths, spans, looks and buffers are those that the history gives
@@ -50,7 +53,8 @@ pub record AgreesWith (w : World) (h : History) : Type 0 where
 
 -- the world has the actor and the ring of a step
 abbrev pub StepExists : World → ℕ → Step → Type 0
-StepExists w actor step = (actor < vec_len w.members) × IsOnRing (vec_len w.rings) step × IsOnRing (vec_len w.plans) step
+StepExists w actor step =
+    (actor < vec_len w.members) × IsOnRing (vec_len w.rings) step × IsOnRing (vec_len w.plans) step
 
 abbrev pub StepsExist : World → List (ℕ × Step) → Type 0
 StepsExist w entries = ExistAll (vec_len w.members) (vec_len w.rings) (vec_len w.plans) entries
@@ -61,11 +65,12 @@ IsPlanned h actor step = (actor < h.actors) × IsOnRing (length h.plans) step
 
 -- worlds that agree with the same histories: plans and lists are the same
 abbrev pub IsUnchanged : World → World → Type 0
-IsUnchanged old new = (new.plans.items ≡ old.plans.items) × AreSame old.rings.items new.rings.items old.members.items new.members.items
+IsUnchanged old new =
+    (new.plans.items ≡ old.plans.items) × AreSame old.rings.items new.rings.items old.members.items new.members.items
 
 -- the new world is what the old one's history, followed by a beginning of the list, leaves
 abbrev pub LeavesBeginning : World → World → List (ℕ × Step) → Type 0
 LeavesBeginning old new entries = (h : History) → AgreesWith old h → IsRight h
     → (done rest : List (ℕ × Step)) × (done ++ rest ≡ entries)
-    × AgreesWith new (followed_by h (history_of h.plans (pool_of h) (actors_of h) done))
-    × IsRight (followed_by h (history_of h.plans (pool_of h) (actors_of h) done))
+    × AgreesWith new (followed_by h (history_of h.plans (pool_size h) (actors_of h) done))
+    × IsRight (followed_by h (history_of h.plans (pool_size h) (actors_of h) done))

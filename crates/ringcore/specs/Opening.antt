@@ -1,6 +1,6 @@
 -- A plan that may be opened, part by part, and what stands right after
 use Rattle.std.specs.Prelude.{ℕ, ◌≡◌, ◌<◌, ◌≤◌, List, [], length, slice_index_or, None}
-use Rattle.ringcore_laws.specs.History.{gifts_to}
+use Rattle.ringcore_laws.specs.History.{buffers_given}
 use Rattle.ringcore.specs.declared.ring.Ring.{Ring}
 use Rattle.ringcore.specs.declared.member.Member.{Member}
 
@@ -21,7 +21,7 @@ pub record IsFresh (ring : Ring) : Type 0 where
 
 -- an actor that only was given buffers
 pub record IsGiven (gifts : List ℕ) (i : ℕ) (m : Member) : Type 0 where
-  pub buffers : m.buffers.items ≡ gifts_to gifts i
+  pub buffers : m.buffers.items ≡ buffers_given gifts i
   pub cached : m.cached.items ≡ []
   pub span : m.span ≡ None
   pub observed : m.observed ≡ None

@@ -1,5 +1,6 @@
 -- The places of a buffer, as the lists of a world show them
-use Rattle.std.specs.Prelude.{ℕ, ◌+◌, ◌==◌, if◌then◌else◌, List, [], ◌∷◌, ◌++◌, length, map, slice_get, ◌≡◌, ◌<◌, ◌^◌, Option, Some, None}
+use Rattle.std.specs.Prelude.{ℕ, ◌+◌, ◌==◌, if◌then◌else◌, List, [], ◌∷◌, ◌++◌, length, map, slice_get, ◌≡◌, ◌<◌, ◌^◌}
+use Rattle.std.specs.Prelude.{Option, Some, None}
 use Rattle.std.specs.List.{list_any}
 use Rattle.std.specs.Option.{option_to_list}
 use Rattle.ringcore_laws.specs.declared.protocol.Place.{Place}
@@ -23,11 +24,13 @@ rings_places b r (ring ∷ rings) = ring_places b r ring ++ rings_places b (r + 
 
 -- each position of a queued item is a number of 64 bits
 abbrev pub AreBounded : List Ring → Type 0
-AreBounded rings = (r : ℕ) (ring : Ring) → slice_get rings r ≡ Some ring → ring.take.tail + length ring.queue.items < 2 ^ 64
+AreBounded rings =
+    (r : ℕ) (ring : Ring) → slice_get rings r ≡ Some ring → ring.take.tail + length ring.queue.items < 2 ^ 64
 
 abbrev pub member_place : ℕ → ℕ → Member → Option Place
 member_place b i m =
-    if occurrences b m.buffers.items == 1 then (if list_any (λ c. c == b) m.cached.items then Some (Cached i) else Some (Held i)) else None
+    if occurrences b m.buffers.items == 1 then (if list_any (λ c. c == b) m.cached.items then Some (Cached i)
+    else Some (Held i)) else None
 
 -- the places with actors, the first of whom has this number
 abbrev pub members_places : ℕ → ℕ → List Member → List Place

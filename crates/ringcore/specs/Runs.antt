@@ -2,12 +2,24 @@
 use Rattle.std.specs.Prelude.{ℕ, ◌≡◌, ◌<◌, List, [], ◌∷◌, ◌++◌, length}
 use Rattle.geom.specs.declared.plan.RingPlan.{RingPlan}
 use Rattle.ringcore_laws.specs.declared.protocol.Step.{Step}
+use Rattle.ringcore_laws.specs.declared.protocol.Step.TheVariants.{Look, Room, Reserve, SettlePut, SettleTake, Stash}
+use Rattle.ringcore_laws.specs.declared.protocol.Step.TheVariants.{Unstash}
 use Rattle.ringcore_laws.specs.declared.protocol.Reply.{Reply}
 use Rattle.ringcore_laws.specs.Invariant.{Invariant}
 use Rattle.ringcore_laws.specs.History.{Actor, Event, IsRun, after_all}
 use Rattle.ringcore.specs.declared.ring.Ring.{Ring}
 use Rattle.ringcore.specs.declared.member.Member.{Member}
-use Rattle.ringcore.specs.Agree.{ListsAgree, IsOnRing}
+use Rattle.ringcore.specs.Agree.{ListsAgree}
+
+-- whether the ring of a step is among so many
+abbrev pub IsOnRing : ℕ → Step → Type 0
+IsOnRing n (Look ring side) = ring < n
+IsOnRing n (Room ring side) = ring < n
+IsOnRing n (Reserve ring side how count) = ring < n
+IsOnRing n (SettlePut ring items) = ring < n
+IsOnRing n (SettleTake ring count) = ring < n
+IsOnRing n (Stash b) = Unit {0}
+IsOnRing n (Unstash b) = Unit {0}
 
 -- whether actor and ring of each entry are among so many
 abbrev pub ExistAll : ℕ → ℕ → ℕ → List (ℕ × Step) → Type 0
@@ -19,7 +31,8 @@ ExistAll members rings plans (e ∷ entries) =
 abbrev pub events_of : List (ℕ × Step) → List Reply → List Event
 events_of [] replies = []
 events_of (e ∷ entries) [] = []
-events_of (e ∷ entries) (reply ∷ replies) = record { actor = e.0; step = e.1; reply = reply } ∷ events_of entries replies
+events_of (e ∷ entries) (reply ∷ replies) =
+    record { actor = e.0; step = e.1; reply = reply } ∷ events_of entries replies
 
 -- from these actors on, the entries but for the rest were answered so, and the lists agree with what they leave
 pub record RunsTo (plans : List RingPlan) (pool : ℕ) (actors : List Actor) (entries : List (ℕ × Step))

@@ -1,10 +1,11 @@
 -- What a step finds in a world, and what it leaves there
 use Rattle.std.specs.Prelude.{ℕ, ◌≡◌, List, slice_get, slice_set, vec_len, Some}
 use Rattle.geom.specs.declared.plan.RingPlan.{RingPlan}
+use Rattle.geom.specs.Fit.{AllFit}
 use Rattle.ringcore_laws.specs.declared.protocol.Step.{Step}
 use Rattle.ringcore_laws.specs.declared.protocol.Reply.{Reply}
 use Rattle.ringcore_laws.specs.Invariant.{Invariant}
-use Rattle.ringcore_laws.specs.History.{Actor, IsLawful, after, reply_to}
+use Rattle.ringcore_laws.specs.History.{Actor, after, reply_to}
 use Rattle.ringcore.specs.declared.ring.Ring.{Ring}
 use Rattle.ringcore.specs.declared.member.Member.{Member}
 use Rattle.ringcore.specs.declared.world.World.{World}
@@ -14,7 +15,8 @@ use Rattle.ringcore.specs.Runs.{RunsTo}
 -- there are as many actors, rings and plans as before
 abbrev pub SameCounts : World → World → Type 0
 SameCounts old new =
-    (vec_len new.members ≡ vec_len old.members) × (vec_len new.rings ≡ vec_len old.rings) × (vec_len new.plans ≡ vec_len old.plans)
+    (vec_len new.members ≡ vec_len old.members) × (vec_len new.rings ≡ vec_len old.rings)
+    × (vec_len new.plans ≡ vec_len old.plans)
 
 abbrev pub SamePlans : World → World → Type 0
 SamePlans old new = new.plans.items ≡ old.plans.items
@@ -31,7 +33,8 @@ RingAt w ring P = (r : Ring) → slice_get w.rings.items ring ≡ Some r → P r
 
 abbrev pub FoundAt : World → ℕ → ℕ → (Member → RingPlan → Ring → Type 0) → Type 0
 FoundAt w actor ring P =
-    (m : Member) (plan : RingPlan) (r : Ring) → slice_get w.members.items actor ≡ Some m → slice_get w.plans.items ring ≡ Some plan
+    (m : Member) (plan : RingPlan) (r : Ring) → slice_get w.members.items actor ≡ Some m
+    → slice_get w.plans.items ring ≡ Some plan
     → slice_get w.rings.items ring ≡ Some r → P m plan r
 
 -- the actor of this number is now this one, and nobody else changed; the same of a ring
@@ -44,25 +47,27 @@ SetRing old new ring r = new.rings.items ≡ slice_set old.rings.items ring r
 abbrev pub BothSet : World → World → ℕ → ℕ → (Member → Ring → Type 0) → Type 0
 BothSet old new actor ring P = (n : Member) × (y : Ring) × SetMember old new actor n × SetRing old new ring y × P n y
 
--- where the lists agree with actors that keep soundness, the reply is the one to the step, and they agree with the actors after it
+-- where the lists agree with actors that keep soundness, the reply is the one to the step, and they agree with the
+-- actors after it
 abbrev pub Answers : World → World → ℕ → Step → Reply → Type 0
 Answers old new actor step reply =
-    (pool : ℕ) (actors : List Actor) → IsLawful old.plans.items pool → Invariant old.plans.items pool actors
+    (pool : ℕ) (actors : List Actor) → AllFit old.plans.items pool → Invariant old.plans.items pool actors
     → ListsAgree old.plans.items old.rings.items old.members.items actors
     → (reply ≡ reply_to old.plans.items pool actors actor step)
-    × ListsAgree old.plans.items new.rings.items new.members.items (after actors record { actor = actor; step = step; reply = reply })
+    × ListsAgree old.plans.items new.rings.items new.members.items
+    (after actors record { actor = actor; step = step; reply = reply })
 
 -- the same of entries that were answered so, but for the rest
 abbrev pub AnswersAll : World → World → List (ℕ × Step) → List Reply → List (ℕ × Step) → Type 0
 AnswersAll old new entries replies rest =
-    (pool : ℕ) (actors : List Actor) → IsLawful old.plans.items pool → Invariant old.plans.items pool actors
+    (pool : ℕ) (actors : List Actor) → AllFit old.plans.items pool → Invariant old.plans.items pool actors
     → ListsAgree old.plans.items old.rings.items old.members.items actors
     → RunsTo old.plans.items pool actors entries replies rest new.rings.items new.members.items
 
 -- the same of some beginning
 abbrev pub AnswersSome : World → World → List (ℕ × Step) → Type 0
 AnswersSome old new entries =
-    (pool : ℕ) (actors : List Actor) → IsLawful old.plans.items pool → Invariant old.plans.items pool actors
+    (pool : ℕ) (actors : List Actor) → AllFit old.plans.items pool → Invariant old.plans.items pool actors
     → ListsAgree old.plans.items old.rings.items old.members.items actors
     → (replies : List Reply) × (rest : List (ℕ × Step))
     × RunsTo old.plans.items pool actors entries replies rest new.rings.items new.members.items

@@ -4,8 +4,10 @@ ghost use Rattle.std.specs.Prelude.{◌≡◌};
 ghost use Rattle.geom.specs.Plan.{mode_of};
 ghost use Rattle.ringcore_laws.specs.declared.contents.Item.{Item as AnItem};
 ghost use Rattle.ringcore_laws.specs.RingSide.{RingSide};
+ghost use Rattle.ringcore_laws.specs.HeadTailRule.{RuledSide};
 ghost use Rattle.ringcore_laws.specs.History.{Actor, look_reply, room_reply, other_side};
-ghost use Rattle.ringcore.specs.Agree.{SideAgrees, words_of, member_looked, member_asked};
+ghost use Rattle.ringcore.specs.Agree.{WordsAgree};
+ghost use Rattle.ringcore.specs.Changes.{side_words, member_looked, member_asked};
 
 use crate::member::Member;
 use crate::ring::Ring;
@@ -15,7 +17,8 @@ use ringcore_laws::{Observed, Reply};
 
 /// Loads the own word of a side; the member keeps what it found, unless the side is busy.
 pub fn look(plan: &RingPlan, ring: &Ring, number: usize, side: Side, member: &mut Member) -> Reply
-    ensures reply { (l : RingSide AnItem) (a : Actor) → SideAgrees (mode_of plan.now side) l (words_of ring.now side)
+    ensures reply { (l : RingSide AnItem) (a : Actor) → RuledSide (mode_of plan.now side) l
+        → WordsAgree (mode_of plan.now side) l (side_words ring.now side)
         → a.party.span ≡ member.old.span → result ≡ look_reply (mode_of plan.now side) l a }
     ensures after { member.new ≡ member_looked member.old number side result }
 {
@@ -43,7 +46,7 @@ pub fn look(plan: &RingPlan, ring: &Ring, number: usize, side: Side, member: &mu
 
 /// Loads the tail of the other side, after a look at this one.
 pub fn room(ring: &Ring, number: usize, side: Side, member: &mut Member) -> Reply
-    ensures reply { (l : RingSide AnItem) (a : Actor) → l.len ≡ (words_of ring.now (other_side side)).tail
+    ensures reply { (l : RingSide AnItem) (a : Actor) → l.len ≡ (side_words ring.now (other_side side)).tail
         → a.party.span ≡ member.old.span → a.observed ≡ member.old.observed → result ≡ room_reply number side l a }
     ensures after { member.new ≡ member_asked member.old result }
 {

@@ -1,7 +1,8 @@
 //! The local steps, which touch no word: a buffer is marked as cached, or as held again.
 
 ghost use Rattle.std.specs.Prelude.{IfOk, OnErr};
-ghost use Rattle.ringcore.specs.Agree.{StashResult, UnstashResult, IsSame};
+ghost use Rattle.ringcore.specs.Changes.{StashResult, UnstashResult};
+ghost use Rattle.ringcore.specs.Same.{IsSame};
 
 use crate::member::{Member, contains, occurrences, without_one};
 use ringcore_laws::Reply;

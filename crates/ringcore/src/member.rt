@@ -32,11 +32,11 @@ pub fn occurrences(numbers: &[u64], b: u64) -> usize
 }
 
 impl Member {
-    ghost use Rattle.ringcore.specs.Agree.{holds_free, may_put_all};
+    ghost use Rattle.ringcore.specs.Replies.{holds_uncached, may_put_all};
 
     /// Whether a buffer is the actor's, and not cached.
     pub fn is_held(&self, b: u64) -> bool
-        ensures { result ≡ holds_free self.now.buffers.items self.now.cached.items b }
+        ensures { result ≡ holds_uncached self.now.buffers.items self.now.cached.items b }
     {
         occurrences(&self.buffers, b) == 1 && !contains(&self.cached, b)
     }
@@ -52,7 +52,7 @@ impl Member {
     }
 
     fn holds_all(&self, numbers: &[u64]) -> bool
-        ensures { result ≡ list_all (holds_free self.now.buffers.items self.now.cached.items) numbers.now }
+        ensures { result ≡ list_all (holds_uncached self.now.buffers.items self.now.cached.items) numbers.now }
     {
         numbers.iter().all(|b| self.is_held(*b))
     }

@@ -2,7 +2,7 @@
 
 ghost use Rattle.std.specs.Prelude.{◌≡◌, ◌<◌, vec_len, length, IfOk};
 ghost use Rattle.std.specs.List.{All};
-ghost use Rattle.ringcore_laws.specs.History.{gifts_to};
+ghost use Rattle.ringcore_laws.specs.History.{buffers_given};
 ghost use Rattle.ringcore.specs.Opening.{AreGiven, IsFresh};
 
 use crate::member::Member;
@@ -49,7 +49,7 @@ pub fn given_members(
 
 /// The buffers whose gift names this actor.
 fn given_to(alloc: Global, gifts: &[usize], actor: usize) -> Result<Vec<u64>, AllocError>
-    ensures { IfOk result (λ buffers. buffers.items ≡ gifts_to gifts.now actor) }
+    ensures { IfOk result (λ buffers. buffers.items ≡ buffers_given gifts.now actor) }
 {
     let mut buffers = Vec::new(alloc);
     for b in 0..gifts.len() {

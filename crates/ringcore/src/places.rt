@@ -30,6 +30,7 @@ fn queued_position(items: &[Item], start: u64, b: u64) -> Option<u64>
 {
     for k in 0..items.len() {
         if carries(&items[k], b) {
+            // Exact where the ring's positions are bounded (`AreBounded`), as in each world that a history leaves.
             return Some(start.saturating_add(k as u64));
         }
     }

@@ -37,7 +37,7 @@ pub struct WorldPlan {
 impl WorldPlan {
     /// Whether a world of this plan may be opened: the numbers of rings, actors and buffers are in their ranges, each
     /// gift names an actor, and all buffers fit into each free ring.
-    pub fn is_lawful(&self) -> bool
+    pub fn may_be_opened(&self) -> bool
         ensures { IsTrue result ↔ IsPlan self.now.rings.items self.now.actors self.now.gifts.items }
     {
         if !are_few(self.rings.len(), self.actors, self.gifts.len()) {

@@ -5,8 +5,11 @@ ghost use Rattle.geom.specs.Plan.{mode_of};
 ghost use Rattle.ringcore_laws.specs.declared.contents.Item.{Item as AnItem};
 ghost use Rattle.ringcore_laws.specs.declared.protocol.Reply.TheVariants.{NoSpan};
 ghost use Rattle.ringcore_laws.specs.RingSide.{RingSide};
+ghost use Rattle.ringcore_laws.specs.HeadTailRule.{RuledSide};
 ghost use Rattle.ringcore_laws.specs.History.{reserve_seen as seen_reply, seen_on};
-ghost use Rattle.ringcore.specs.Agree.{SideAgrees, TailFits, words_of, member_tried, reserve_answer, ring_tried, words_after};
+ghost use Rattle.ringcore.specs.Agree.{WordsAgree};
+ghost use Rattle.ringcore.specs.Changes.{side_words, member_tried, ring_tried, words_after};
+ghost use Rattle.ringcore.specs.Replies.{TailFits, reserve_answer};
 
 use crate::member::Member;
 use crate::ring::{Ring, Words, try_reserve};
@@ -25,7 +28,8 @@ pub fn reserve(
     count: u64,
     member: &mut Member,
 ) -> Reply
-    ensures reply { (l : RingSide AnItem) → SideAgrees (mode_of plan.now side) l (words_of ring.old side)
+    ensures reply { (l : RingSide AnItem) → RuledSide (mode_of plan.now side) l
+        → WordsAgree (mode_of plan.now side) l (side_words ring.old side)
         → TailFits plan.now member.old.observed
         → result ≡ reserve_answer plan.now number side how count l member.old }
     ensures member { member.new ≡ member_tried member.old number side result }
@@ -46,7 +50,8 @@ fn reserve_on(
     count: u64,
     member: &mut Member,
 ) -> Reply
-    ensures reply { (l : RingSide AnItem) → SideAgrees (mode_of plan.now side) l words.old
+    ensures reply { (l : RingSide AnItem) → RuledSide (mode_of plan.now side) l
+        → WordsAgree (mode_of plan.now side) l words.old
         → TailFits plan.now member.old.observed
         → result ≡ reserve_answer plan.now number side how count l member.old }
     ensures member { member.new ≡ member_tried member.old number side result }
@@ -71,7 +76,8 @@ fn reserve_seen(
     had: u64,
     observed: Option<Observed>,
 ) -> Reply
-    ensures reply { (l : RingSide AnItem) → SideAgrees (mode_of plan.now side) l words.old → TailFits plan.now observed
+    ensures reply { (l : RingSide AnItem) → RuledSide (mode_of plan.now side) l
+        → WordsAgree (mode_of plan.now side) l words.old → TailFits plan.now observed
         → result ≡ seen_reply plan.now side how count l had (seen_on number side observed) }
     ensures words { words.new ≡ words_after words.old result }
 {

@@ -5,8 +5,10 @@ ghost use Rattle.std.specs.Prelude.{◌≡◌, ◌≢◌, ◌+◌, ◌^◌, ◌<
 ghost use Rattle.geom.specs.Plan.{mode_of};
 ghost use Rattle.ringcore_laws.specs.declared.contents.Item.{Item as AnItem};
 ghost use Rattle.ringcore_laws.specs.RingSide.{RingSide};
-ghost use Rattle.ringcore_laws.specs.History.{own_word, is_busy as is_busy_of, position_of as position_in, room_of as room_from, reserve_seen};
-ghost use Rattle.ringcore.specs.Agree.{SideAgrees, words_after};
+ghost use Rattle.ringcore_laws.specs.HeadTailRule.{RuledSide};
+ghost use Rattle.ringcore_laws.specs.History.{own_word, is_busy as is_busy_of, position_of as position_in, room_by_look, reserve_seen};
+ghost use Rattle.ringcore.specs.Agree.{WordsAgree};
+ghost use Rattle.ringcore.specs.Changes.{words_after};
 
 use geom::{How, LAST, Mode, RESERVED, RingPlan, Side};
 use ringcore_laws::{Item, Reply};
@@ -21,10 +23,13 @@ pub struct Words {
 impl Words {
     /// What the own word of the side shows.
     pub fn word(&self, mode: Mode) -> u64
-        ensures { (l : RingSide AnItem) → SideAgrees mode l self.now → result ≡ own_word mode l }
+        ensures { (l : RingSide AnItem) → RuledSide mode l → WordsAgree mode l self.now
+            → result ≡ own_word mode l }
     {
         match mode {
             Mode::Multi => self.head,
+            // Positions go up to `LAST` and counts stay below `RESERVED`, so the word is exact in each world that a
+            // history leaves. These numbers alone don't say so, and no product or sum may wrap.
             Mode::Hts => self
                 .tail
                 .saturating_mul(RESERVED)
@@ -34,7 +39,8 @@ impl Words {
 
     /// Whether a span of an HTS side is open.
     pub fn is_busy(&self, mode: Mode) -> bool
-        ensures { (l : RingSide AnItem) → SideAgrees mode l self.now → result ≡ is_busy_of mode l }
+        ensures { (l : RingSide AnItem) → RuledSide mode l → WordsAgree mode l self.now
+            → result ≡ is_busy_of mode l }
     {
         match mode {
             Mode::Multi => false,
@@ -63,8 +69,10 @@ pub fn position_of(mode: Mode, word: u64) -> u64
 
 /// The room that the seen numbers tell.
 pub fn room_of(side: Side, capacity: u64, position: u64, tail: u64) -> u64
-    ensures { capacity + tail < 2 ^ 64 → result ≡ room_from side capacity position tail }
+    ensures { capacity + tail < 2 ^ 64 → result ≡ room_by_look side capacity position tail }
 {
+    // A word that is old may tell a position above what the tail allows: then there is no room. The sum is exact for
+    // each tail that was seen, which is `LAST` at most.
     match side {
         Side::Put => capacity.saturating_add(tail).saturating_sub(position),
         Side::Take => tail.saturating_sub(position),
@@ -83,7 +91,8 @@ pub fn try_reserve(
     tail: u64,
 ) -> Reply
     ensures reply { (l : RingSide AnItem)
-        → SideAgrees (mode_of plan.now side) l words.old → plan.now.geometry.capacity + tail < 2 ^ 64
+        → RuledSide (mode_of plan.now side) l → WordsAgree (mode_of plan.now side) l words.old
+        → plan.now.geometry.capacity + tail < 2 ^ 64
         → result ≡ reserve_seen plan.now side how count l had (Some (word, tail)) }
     ensures after { words.new ≡ words_after words.old result }
     ensures answered { result ≢ NoSpan }

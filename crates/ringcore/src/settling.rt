@@ -4,7 +4,10 @@ ghost use Rattle.std.specs.Prelude.{◌≡◌, ◌≤◌, List, take, drop, vec_
 ghost use Rattle.std.specs.List.{flat_map};
 ghost use Rattle.ringcore_laws.specs.declared.contents.Item.{Item as AnItem};
 ghost use Rattle.ringcore_laws.specs.History.{tags, is_bad_settle as is_bad_count};
-ghost use Rattle.ringcore.specs.Agree.{words_at, put_answer, take_answer, is_done as is_done_reply, PutResult, TakeResult, IsSame, IsSameRing, with_items};
+ghost use Rattle.ringcore.specs.Changes.{words_moved_to, PutResult, TakeResult, with_items};
+ghost use Rattle.ringcore.specs.Replies.{put_answer, take_answer};
+ghost use Rattle.ringcore.specs.Same.{IsSame, IsSameRing};
+ghost use Rattle.ringcore_laws.specs.Runs.{is_done as is_done_reply};
 
 use crate::member::{Member, numbers_of, without};
 use crate::ring::{Ring, Words};
@@ -40,6 +43,7 @@ pub fn settle_put(
     let reply = answer_put(alloc, plan, number, ring.put.tail, member, &list, &numbers);
     if is_done(&reply) {
         ring.queue.append(&mut list)?;
+        // A span that was granted ends at `LAST` at most, so the sum is exact; the member alone doesn't say so.
         settle_words(&mut ring.put, plan.put, span.start.saturating_add(count));
         member.buffers = kept;
         member.span = None;
@@ -104,11 +108,12 @@ pub fn settle_take(
     let many = ring.queue.len().min(count as usize);
     let mut numbers = numbers_of(alloc, &ring.queue[..many])?;
     member.buffers.reserve(numbers.len())?;
-    let after_take = take_items(&mut ring.queue, many)?;
+    let taken = take_items(&mut ring.queue, many)?;
     member.buffers.append(&mut numbers)?;
+    // Exact, as in `settle_put`.
     settle_words(&mut ring.take, plan.take, span.start.saturating_add(count));
     member.span = None;
-    Ok(Reply::Done(count, Items::of(after_take)))
+    Ok(Reply::Done(count, Items::of(taken)))
 }
 
 /// Whether a settle of a take is answered Done, and else what.
@@ -149,17 +154,17 @@ fn take_items(queue: &mut Vec<Item>, many: usize) -> Result<Vec<Item>, AllocErro
     Ok(mem::replace(queue, rest))
 }
 
-fn is_bad_settle(mode: Mode, count: u64, openers: u64) -> bool
-    ensures { result ≡ is_bad_count mode count openers }
+fn is_bad_settle(mode: Mode, count: u64, reserved: u64) -> bool
+    ensures { result ≡ is_bad_count mode count reserved }
 {
     match mode {
-        Mode::Multi => count != openers,
-        Mode::Hts => openers < count,
+        Mode::Multi => count != reserved,
+        Mode::Hts => reserved < count,
     }
 }
 
 fn settle_words(words: &mut Words, mode: Mode, end: u64)
-    ensures { words.new ≡ words_at mode words.old end }
+    ensures { words.new ≡ words_moved_to mode words.old end }
 {
     words.tail = end;
     match mode {

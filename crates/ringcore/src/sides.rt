@@ -2,7 +2,7 @@
 
 ghost use Rattle.std.specs.Prelude.{◌≡◌, ◌↔◌, IsTrue};
 ghost use Rattle.ringcore_laws.specs.Party.{is_on as stands_on, same_side as is_same_side};
-ghost use Rattle.ringcore.specs.Agree.{IsOnRing};
+ghost use Rattle.ringcore.specs.Runs.{IsOnRing};
 
 use geom::Side;
 use ringcore_laws::Step;

@@ -6,8 +6,7 @@ ghost use Rattle.std.specs.Prelude.{◌≡◌, ◌∷◌, [], List, ◌<◌, len
 ghost use Rattle.ringcore_laws.specs.History.{reply_to};
 ghost use Rattle.ringcore_laws.specs.Place.{place};
 ghost use Rattle.ringcore_laws.specs.Runs.{IsPlan};
-ghost use Rattle.ringcore.specs.Agree.{IsOnRing};
-ghost use Rattle.ringcore.specs.Runs.{ExistAll, events_of};
+ghost use Rattle.ringcore.specs.Runs.{ExistAll, IsOnRing, events_of};
 
 use crate::member::Member;
 use crate::opening::{fresh_rings, given_members};
@@ -32,17 +31,17 @@ pub struct World {
 }
 
 impl World {
-    ghost use Rattle.ringcore.specs.Histories.{AgreesWith, History, IsPlanned, IsRight, IsUnchanged, LeavesBeginning, StepExists, StepsExist, actors_of, followed_by, opened_by, pool_of};
+    ghost use Rattle.ringcore.specs.Histories.{AgreesWith, History, IsPlanned, IsRight, IsUnchanged, LeavesBeginning, StepExists, StepsExist, actors_of, followed_by, opened_by, pool_size};
     ghost use Rattle.ringcore.specs.Stepping.{Answers, AnswersAll, AnswersSome, SameCounts, SamePlans};
 
     /// A world of this plan, before any step. Takes memory.
     ///
-    /// Refused: 2 `BadPlan` where the plan may not be opened (`WorldPlan::is_lawful`), tested first; 1 `Memory`.
+    /// Refused: 2 `BadPlan` where the plan may not be opened (`WorldPlan::may_be_opened`), tested first; 1 `Memory`.
     pub fn new(alloc: Global, plan: WorldPlan) -> Result<World, WorldFault>
         ensures bad_plan { result ≡ Err WorldFault.BadPlan ↔ ¬ IsPlan plan.rings.items plan.actors plan.gifts.items }
         ensures opened { IfOk result (λ world. AgreesWith world (opened_by plan) × IsRight (opened_by plan)) }
     {
-        if !plan.is_lawful() {
+        if !plan.may_be_opened() {
             return Err(WorldFault::BadPlan);
         }
         match World::opened(alloc, plan) {
@@ -111,7 +110,7 @@ impl World {
         requires { StepExists self.old actor step }
         ensures ok { IfOk result (λ reply. (h : History) → AgreesWith self.old h → IsRight h
             → let events = record { actor = actor; step = step; reply = reply } ∷ [] in
-            (reply ≡ reply_to h.plans (pool_of h) (actors_of h) actor step)
+            (reply ≡ reply_to h.plans (pool_size h) (actors_of h) actor step)
             × AgreesWith self.new (followed_by h events) × IsRight (followed_by h events)) }
         ensures memory { OnErr result ((h : History) → AgreesWith self.old h → AgreesWith self.new h) }
     {

@@ -27,7 +27,8 @@ use Rattle.ringcore_laws.specs.Runs.{is_done, is_grant}
 use Rattle.ringcore_laws.specs.Sound.{SoundRing, occurrences}
 use Rattle.ringcore_laws.specs.HeadTailRule.{base}
 use Rattle.ringcore_laws.specs.Invariant.{Invariant}
-use Rattle.ringcore_laws.specs.History.{Event, after, one_stepped, Actor, after_step, buffer_count, earlier_open, is_bad_reserve, is_held, may_put, on_ring, parties_of, put_reply, reply_of, reserve_reply, settled_span, tags, take_reply}
+use Rattle.ringcore_laws.specs.History.{Event, after, one_stepped, Actor, after_step, buffers_of_actor, earlier_open, is_bad_reserve, is_held, may_put, on_ring}
+use Rattle.ringcore_laws.specs.History.{parties_of, put_reply, actor_reply, reserve_reply, settled_span, tags, take_reply}
 use Rattle.ringcore_laws.proofs.SideLaws.{Settles, reserves, settles_side_of}
 use Rattle.ringcore_laws.proofs.Laws.{same_plan, on_own}
 use Rattle.ringcore_laws.proofs.RingLaws.{held_cases, length-listed}
@@ -42,7 +43,7 @@ pub record Opens (plans : List RingPlan) (pool : ℕ) (a b : Actor) : Type 0 whe
   pub idle : a.party.span ≡ None
   pub party : b.party ≡ with_open a.party span
   pub look : b.observed ≡ None
-  pub few : span.side ≡ Put → plan.free ≡ true → span.count ≤ buffer_count pool a
+  pub few : span.side ≡ Put → plan.free ≡ true → span.count ≤ buffers_of_actor pool a
 
 pub record Closes (plans : List RingPlan) (actors : List Actor) (a b : Actor) : Type 0 where
   pub span : Span
@@ -65,7 +66,8 @@ free_count true count had good is = enough (count == 0) (nat_lt had count) refl 
     enough false false e h = grind (arith, nat_tests)
 free_count false count had good is = absurd (let u : false ≡ true = is in cc)
 
-module _ (plans : List RingPlan) (pool : ℕ) (actors : List Actor) (i : ℕ) (a : Actor) (lt : i < length actors) (at : (d : Actor) → slice_index_or actors i d ≡ a) (k : Invariant plans pool actors) where
+module _ (plans : List RingPlan) (pool : ℕ) (actors : List Actor) (i : ℕ) (a : Actor) (lt : i < length actors)
+    (at : (d : Actor) → slice_index_or actors i d ≡ a) (k : Invariant plans pool actors) where
   abbrev parties : List (Party Item)
   parties = parties_of actors
 
@@ -82,9 +84,12 @@ module _ (plans : List RingPlan) (pool : ℕ) (actors : List Actor) (i : ℕ) (a
       → on_ring o (λ plan. reserve_reply plan pool ring side how count (side_of parties ring side) a) ≡ Granted start n left
       → Opens plans pool a (after_step a (Reserve ring side how count) (Granted start n left))
   reserving ring side how count start n left o is right =
-      let found = on_some_ring o (λ plan. reserve_reply plan pool ring side how count (side_of parties ring side) a) (Granted start n left) (λ e. (let u : NoSpan ≡ Granted start n left = e in cc)) right in
-      let r = reserve_tells found.0 pool ring side how count (side_of parties ring side) a (Granted start n left) (λ e. (let u : NoSpan ≡ Granted start n left = e in cc)) found.2 in
-      let g = granted_tells found.0 side how count (side_of parties ring side) (buffer_count pool a) r.look.looked_at r.tail start n left r.answer in
+      let found =
+      on_some_ring o (λ plan. reserve_reply plan pool ring side how count (side_of parties ring side) a) (Granted start n left)
+      (λ e. (let u : NoSpan ≡ Granted start n left = e in cc)) right in
+      let r = reserve_tells found.0 pool ring side how count (side_of parties ring side) a (Granted start n left)
+      (λ e. (let u : NoSpan ≡ Granted start n left = e in cc)) found.2 in
+      let g = granted_tells found.0 side how count (side_of parties ring side) (buffers_of_actor pool a) r.look.looked_at r.tail start n left r.answer in
       record {
         span = record { ring = ring; side = side; start = start; count = n };
         plan = found.0;
@@ -95,8 +100,9 @@ module _ (plans : List RingPlan) (pool : ℕ) (actors : List Actor) (i : ℕ) (a
         few = λ put free. few side put found.0.free free g.0 g.1;
       }
     where
-      few : (v : Side) → v ≡ Put → (free : Bool) → free ≡ true → is_bad_reserve v free count (buffer_count pool a) ≡ false → n ≤ count → n ≤ buffer_count pool a
-      few Put put free is_free good le = omega (arith, le, free_count free count (buffer_count pool a) good is_free)
+      few : (v : Side) → v ≡ Put → (free : Bool) → free ≡ true → is_bad_reserve v free count (buffers_of_actor pool a) ≡ false → n ≤ count
+          → n ≤ buffers_of_actor pool a
+      few Put put free is_free good le = omega (arith, le, free_count free count (buffers_of_actor pool a) good is_free)
       few Take put free is_free good le = absurd (let u : Take ≡ Put = put in cc)
 
   starts : (s : Span) (plan : RingPlan) → a.party.span ≡ Some s → slice_get plans s.ring ≡ Some plan → earlier_open s.ring s.side s.start parties ≡ false
@@ -112,16 +118,19 @@ module _ (plans : List RingPlan) (pool : ℕ) (actors : List Actor) (i : ℕ) (a
       by_side : (v : Side) → s.side ≡ v → s.start ≡ (side_of parties s.ring s.side).len
       by_side Put e =
           first_in_line plans parties i a.party s plan k.ruled (subst (λ (v : Side). IsGapless (side_of parties s.ring v)) (sym e) ring_sound.published)
-          (subst (λ (v : Side). (p : ℕ) → 0 < (side_of parties s.ring v).openers p → (side_of parties s.ring v).items_at p ≡ []) (sym e) ring_sound.puts_unsettled) lt' busy' there none
+          (subst (λ (v : Side). (p : ℕ) → 0 < (side_of parties s.ring v).openers p → (side_of parties s.ring v).items_at p ≡ []) (sym e)
+          ring_sound.puts_unsettled) lt' busy' there none
       by_side Take e =
           first_in_line plans parties i a.party s plan k.ruled (subst (λ (v : Side). IsGapless (side_of parties s.ring v)) (sym e) ring_sound.dequeued)
-          (subst (λ (v : Side). (p : ℕ) → 0 < (side_of parties s.ring v).openers p → (side_of parties s.ring v).items_at p ≡ []) (sym e) ring_sound.takes_unsettled) lt' busy' there none
+          (subst (λ (v : Side). (p : ℕ) → 0 < (side_of parties s.ring v).openers p → (side_of parties s.ring v).items_at p ≡ []) (sym e)
+          ring_sound.takes_unsettled) lt' busy' there none
 
   singles : (free : Bool) (items : List Item) → may_put free a items ≡ true → free ≡ true → list_all (λ x. length (tags x) == 1) items ≡ true
   singles true items may is =
       let once = list_all (λ b. occurrences b (flat_map tags items) == 1) (flat_map tags items) in
       let single = list_all (λ x. length (tags x) == 1) items in
-      (and_true once single (and_true (list_all (is_held a) (flat_map tags items)) (once && single) (right_nested (list_all (is_held a) (flat_map tags items)) once single may)).1).1
+      (and_true once single (and_true (list_all (is_held a) (flat_map tags items)) (once && single)
+      (right_nested (list_all (is_held a) (flat_map tags items)) once single may)).1).1
     where
       right_nested : (x y z : Bool) → ((x && y) && z) ≡ true → (x && (y && z)) ≡ true
       right_nested true true z h = h
@@ -147,7 +156,8 @@ module _ (plans : List RingPlan) (pool : ℕ) (actors : List Actor) (i : ℕ) (a
         busy = told.1;
         party = ap (λ o'. settled_span a.party o' items) told.1;
         look = refl;
-        first = starts s found.0 told.1 there (ap (λ r. earlier_open r s.side s.start parties) (sym place.0) ∙ (ap (λ v. earlier_open ring v s.start parties) (sym place.1) ∙ told.5));
+        first = starts s found.0 told.1 there (ap (λ r. earlier_open r s.side s.start parties) (sym place.0)
+            ∙ (ap (λ v. earlier_open ring v s.start parties) (sym place.1) ∙ told.5));
         whole = λ multi. (settle_fits found.0.put (length items) s.count told.3).1 (sym mode ∙ multi);
         single = λ put free. singles found.0.free items told.4 free;
       }
@@ -174,7 +184,8 @@ module _ (plans : List RingPlan) (pool : ℕ) (actors : List Actor) (i : ℕ) (a
         party = ap (λ o'. settled_span a.party o' its) told.1;
         look = refl;
         first = first;
-        whole = λ multi. whole s found.0 told.1 there (sym place.1) fits.0 (ap (λ r. take count (drop s.start (listed (side_of parties r Put)))) (sym place.0) ∙ told.5) ∙ fits.1 (sym mode ∙ multi);
+        whole = λ multi. whole s found.0 told.1 there (sym place.1) fits.0
+            (ap (λ r. take count (drop s.start (listed (side_of parties r Put)))) (sym place.0) ∙ told.5) ∙ fits.1 (sym mode ∙ multi);
         single = λ put free. absurd (let u : Take ≡ Put = place.1 ∙ put in cc);
       }
     where
@@ -183,7 +194,8 @@ module _ (plans : List RingPlan) (pool : ℕ) (actors : List Actor) (i : ℕ) (a
       whole s plan busy there on le is =
           sym (ap length is)
           ∙ (length-take count (drop s.start (listed (side_of parties s.ring Put)))
-          ∙ (let e1 = length-drop s.start (listed (side_of parties s.ring Put)) in let e2 = length-listed (side_of parties s.ring Put) ring_sound.published in omega (arith, stands, le)))
+          ∙ (let e1 = length-drop s.start (listed (side_of parties s.ring Put)) in let e2 =
+          length-listed (side_of parties s.ring Put) ring_sound.published in omega (arith, stands, le)))
         where
           ring_sound : SoundRing plan.geometry (side_of parties s.ring Put) (side_of parties s.ring Take)
           ring_sound = k.sound.rings s.ring plan there
@@ -207,7 +219,7 @@ module _ (plans : List RingPlan) (pool : ℕ) (actors : List Actor) (i : ℕ) (a
           stands = omega (arith, (ring_sound.takes_are_queued (s.start + (s.count - 1)) last).1, positive)
 
   -- what the step did to its actor
-  pub changes : (step : Step) (reply : Reply) → reply_of plans pool parties a step ≡ reply → Change (after_step a step reply)
+  pub changes : (step : Step) (reply : Reply) → actor_reply plans pool parties a step ≡ reply → Change (after_step a step reply)
   changes (Look ring side) (Seen w) right = inl refl
   changes (Look ring side) (Busy w) right = inl refl
   changes (Look ring side) _ right = inl refl
@@ -257,8 +269,10 @@ module _ (plans : List RingPlan) (pool : ℕ) (actors : List Actor) (i : ℕ) (a
       done : Settled Item
       done = record { ring = c.span.ring; side = c.span.side; start = c.span.start; items = c.items }
 
-      s : Settles (side_of parties r side) (side_of (settled_by parties i a.party c.span c.items) r side) r side c.span record { ring = c.span.ring; side = c.span.side; start = c.span.start; items = c.items }
-      s = settles_side_of parties i a.party c.span record { ring = c.span.ring; side = c.span.side; start = c.span.start; items = c.items } r side lt' (busy_party c.span c.busy)
+      s : Settles (side_of parties r side) (side_of (settled_by parties i a.party c.span c.items) r side) r side c.span
+          record { ring = c.span.ring; side = c.span.side; start = c.span.start; items = c.items }
+      s = settles_side_of parties i a.party c.span record { ring = c.span.ring; side = c.span.side; start = c.span.start; items = c.items } r side lt'
+          (busy_party c.span c.busy)
 
       by_mode : (m : Mode) → mode_of plan side ≡ m → base m (side_of parties r side) ≤ base m (side_of (settled_by parties i a.party c.span c.items) r side)
       by_mode Hts e = omega (arith, s.len)
@@ -266,7 +280,9 @@ module _ (plans : List RingPlan) (pool : ℕ) (actors : List Actor) (i : ℕ) (a
         | inl own ↦
             let same_plan_ : plan ≡ c.plan = same_plan (sym there ∙ (ap (slice_get plans) own.0 ∙ c.there)) in
             let multi : mode_of c.plan c.span.side ≡ Multi = ap (mode_of c.plan) (sym own.1) ∙ (ap (λ (v : RingPlan). mode_of v side) (sym same_plan_) ∙ e) in
-            let on : is_on c.span.ring c.span.side r side ≡ true = ap (λ (v : ℕ). is_on c.span.ring c.span.side v side) own.0 ∙ (ap (is_on c.span.ring c.span.side c.span.ring) own.1 ∙ on_own c.span.ring c.span.side) in
+            let on : is_on c.span.ring c.span.side r side ≡ true =
+            ap (λ (v : ℕ). is_on c.span.ring c.span.side v side) own.0
+            ∙ (ap (is_on c.span.ring c.span.side c.span.ring) own.1 ∙ on_own c.span.ring c.span.side) in
             let end : span_end r side (Some c.span) ≡ c.span.start + c.span.count = ap (λ v. if v then c.span.start + c.span.count else 0) on in
             let ends : settled_end r side done ≡ c.span.start + length c.items = ap (λ v. if v then c.span.start + length c.items else 0) on in
             omega (arith, s.reach, s.own_end, s.new_end, end, ends, c.whole multi)

@@ -1,5 +1,6 @@
 -- What holds of free rings is kept as a party reserves a span or settles one, as a newcomer comes, and as two parties become one
-use Rattle.std.proofs.Common.{ℕ, zero, suc, ◌≤◌, ◌<◌, ◌≡◌, ◌≢◌, ◌∙◌, ◌⊎◌, inl, inr, List, [], ◌∷◌, ◌++◌, length, drop, refl, ap, sym, subst, arith, true, false, Bool}
+use Rattle.std.proofs.Common.{ℕ, zero, suc, ◌≤◌, ◌<◌, ◌≡◌, ◌≢◌, ◌∙◌, ◌⊎◌, inl, inr, List, [], ◌∷◌, ◌++◌, length, drop, refl, ap, sym, subst, arith, true, false}
+use Rattle.std.proofs.Common.{Bool}
 use Rattle.std.specs.Prelude.{slice_get, slice_set, slice_index_or, Some, None, ◌&&◌, ◌==◌}
 use Rattle.std.specs.List.{list_all}
 use Rattle.std.proofs.lemmas.List.Folds.{list_all-append}
@@ -12,7 +13,7 @@ use Rattle.ringcore_laws.specs.Party.{joined, newcomer, with_open, with_settled}
 use Rattle.ringcore_laws.specs.Moves.{reserved_by, settled_by}
 use Rattle.ringcore_laws.specs.RingSide.{RingSide, side_of, listed}
 use Rattle.ringcore_laws.specs.Sound.{Sound, SoundRing, holds, moved, queue}
-use Rattle.ringcore_laws.specs.FreeRings.{AreSingle, FreeRule, buffers_of}
+use Rattle.ringcore_laws.specs.FreeRings.{AreSingle, FreeRule, buffers_had}
 use Rattle.ringcore_laws.proofs.SideLaws.{reserves, settles_side_of, side_of_newcomer}
 use Rattle.ringcore_laws.proofs.Laws.{joined_by, joined_sides, off_ring, same_or_not, same_plan, same_queue, settled_other}
 use Rattle.ringcore_laws.proofs.Lists.{each_push, each_set}
@@ -34,18 +35,18 @@ module _ {I : Type 0} (tags : I → List ℕ) where
   singles_drop (suc n) (x ∷ xs) all = singles_drop n xs (both_true (length (tags x) == 1) (list_all (λ y. length (tags y) == 1) xs) all).1
 
   -- a party that opens a span has the buffers that it had
-  pub buffers_opened : (pool : ℕ) (party : Party I) (span : Span) → buffers_of tags pool (with_open party span) ≡ buffers_of tags pool party
-  unfolding buffers_of holds moved
+  pub buffers_opened : (pool : ℕ) (party : Party I) (span : Span) → buffers_had tags pool (with_open party span) ≡ buffers_had tags pool party
+  unfolding buffers_had holds moved
   buffers_opened pool party span = refl
 
   abbrev Few : List RingPlan → ℕ → Party I → Type 0
   Few plans pool party = (s : Span) (plan : RingPlan) → party.span ≡ Some s → slice_get plans s.ring ≡ Some plan → s.side ≡ Put → plan.free ≡ true
-      → s.count ≤ buffers_of tags pool party
+      → s.count ≤ buffers_had tags pool party
 
   module _ (plans : List RingPlan) (pool : ℕ) (parties : List (Party I)) (rule : FreeRule tags plans pool parties) where
     -- a span of a put into a free ring is at most as long as its party's buffers are many
     pub free_opened : (i : ℕ) (d : Party I) (span : Span) (plan : RingPlan) → i < length parties → (slice_index_or parties i d).span ≡ None
-        → slice_get plans span.ring ≡ Some plan → (span.side ≡ Put → plan.free ≡ true → span.count ≤ buffers_of tags pool (slice_index_or parties i d))
+        → slice_get plans span.ring ≡ Some plan → (span.side ≡ Put → plan.free ≡ true → span.count ≤ buffers_had tags pool (slice_index_or parties i d))
         → FreeRule tags plans pool (reserved_by parties i d span)
     free_opened i d span plan lt idle there few = record {
       singles = λ r plan' at free.
@@ -103,7 +104,8 @@ module _ {I : Type 0} (tags : I → List ℕ) where
             subst (λ (v : Span). AreSingle tags (queue (settled_by parties i d v items) span.ring)) (sym is)
             (subst (AreSingle tags) (sym q) (singles_drop (length items) (queue parties span.ring) (rule.singles span.ring plan there free)))
 
-        by_ring : (r : ℕ) (plan' : RingPlan) → slice_get plans r ≡ Some plan' → plan'.free ≡ true → (r ≡ span.ring) ⊎ (r ≢ span.ring) → AreSingle tags (queue after r)
+        by_ring : (r : ℕ) (plan' : RingPlan) → slice_get plans r ≡ Some plan' → plan'.free ≡ true → (r ≡ span.ring) ⊎ (r ≢ span.ring)
+            → AreSingle tags (queue after r)
         by_ring r plan' at free (inl own) =
             let same : plan' ≡ plan = same_plan (sym at ∙ (ap (slice_get plans) own ∙ there)) in
             subst (λ (v : ℕ). AreSingle tags (queue after v)) (sym own) (here (ap (λ (v : RingPlan). v.free) (sym same) ∙ free) span.side refl)
@@ -120,7 +122,9 @@ module _ {I : Type 0} (tags : I → List ℕ) where
 
     pub free_newcomer : FreeRule tags plans pool (parties ++ newcomer [] ∷ [])
     free_newcomer = record {
-      singles = λ r plan at free. subst (AreSingle tags) (sym (queue_as (parties ++ newcomer [] ∷ []) r (side_of_newcomer parties [] r))) (rule.singles r plan at free);
+      singles =
+          λ r plan at free. subst (AreSingle tags) (sym (queue_as (parties ++ newcomer [] ∷ []) r (side_of_newcomer parties [] r)))
+          (rule.singles r plan at free);
       few = each_push (Few plans pool) parties (newcomer []) rule.few (λ s plan busy. absurd (let u : None ≡ Some s = busy in cc));
     }
 
@@ -128,7 +132,8 @@ module _ {I : Type 0} (tags : I → List ℕ) where
         → (slice_index_or parties i d).span ≡ None → (slice_index_or parties j d).span ≡ None → FreeRule tags plans pool (joined_by tags parties i j d)
     free_joined i j d sound at_i at_j apart idle_i idle_j = record {
       singles = λ r plan at free.
-          subst (AreSingle tags) (sym (queue_as (joined_by tags parties i j d) r (λ side. joined_sides tags plans pool parties i j d r plan side sound at at_i at_j apart idle_i idle_j)))
+          subst (AreSingle tags) (sym (queue_as (joined_by tags parties i j d) r
+          (λ side. joined_sides tags plans pool parties i j d r plan side sound at at_i at_j apart idle_i idle_j)))
           (rule.singles r plan at free);
       few = each_set (Few plans pool) (slice_set parties i (joined (slice_index_or parties i d) (slice_index_or parties j d))) j (newcomer [])
           (each_set (Few plans pool) parties i (joined (slice_index_or parties i d) (slice_index_or parties j d)) rule.few

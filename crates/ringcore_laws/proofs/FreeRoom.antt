@@ -15,9 +15,9 @@ use Rattle.ringcore_laws.specs.declared.protocol.Span.{Span}
 use Rattle.ringcore_laws.specs.declared.party.Party.{Party}
 use Rattle.ringcore_laws.specs.Party.{covers, is_on}
 use Rattle.ringcore_laws.specs.RingSide.{RingSide, side_of, listed, span_at, span_count}
-use Rattle.ringcore_laws.specs.Sound.{Sound, SoundRing, holds, in_ring, occurrences, places, queue}
+use Rattle.ringcore_laws.specs.Sound.{Sound, SoundRing, holds, in_ring, occurrences, place_count, queue}
 use Rattle.ringcore_laws.specs.HeadTailRule.{HeadTailRule, RuledSide, base}
-use Rattle.ringcore_laws.specs.FreeRings.{AreSingle, FreeRule, buffers_of}
+use Rattle.ringcore_laws.specs.FreeRings.{AreSingle, FreeRule, buffers_had}
 use Rattle.ringcore_laws.proofs.Laws.{range_same, sum_range_more, times_in_is}
 use Rattle.ringcore_laws.proofs.RingLaws.{below_or_not, held_cases, length-listed, takes_le_puts}
 use Rattle.ringcore_laws.proofs.HeadTailLaws.{on_or_off, range_part}
@@ -56,12 +56,19 @@ one_apart f g (x ∷ xs) zero d lt none each =
     let rest = all_less f g xs d (λ j lt'. each (suc j) (omega arith)) in
     omega (arith, sum_by-cons f x xs, sum_by-cons g x xs, rest, none)
   where
-    all_less : {X : Type 0} (f g : X → ℕ) (xs : List X) (d : X) → ((j : ℕ) → j < length xs → g (slice_index_or xs j d) ≤ f (slice_index_or xs j d)) → sum_by g xs ≤ sum_by f xs
+    all_less : {X : Type 0} (f g : X → ℕ) (xs : List X) (d : X) → ((j : ℕ) → j < length xs → g (slice_index_or xs j d) ≤ f (slice_index_or xs j d))
+        → sum_by g xs ≤ sum_by f xs
     all_less f g [] d each = omega arith
     all_less f g (x ∷ xs) d each =
         omega (arith, sum_by-cons f x xs, sum_by-cons g x xs, each zero (omega arith), all_less f g xs d (λ j lt. each (suc j) (omega arith)))
 one_apart f g (x ∷ xs) (suc i) d lt none each =
-    omega (arith, sum_by-cons f x xs, sum_by-cons g x xs, each zero (omega arith), one_apart f g xs i d (omega arith) none (λ j lt'. each (suc j) (omega arith)))
+    omega (
+      arith,
+      sum_by-cons f x xs,
+      sum_by-cons g x xs,
+      each zero (omega arith),
+      one_apart f g xs i d (omega arith) none (λ j lt'. each (suc j) (omega arith)),
+    )
 
 ones : (a n : ℕ) → sum_by (λ (b : ℕ). 1) (range_with_len a n) ≡ n
 ones a zero = refl
@@ -157,7 +164,8 @@ module _ {I : Type 0} (tags : I → List ℕ) where
       let one : length (tags x) ≡ 1 = grind (arith, nat_tests, both.0) in
       omega (arith, length-append (tags x) (flat_map tags xs), one, singles_length xs both.1)
 
-  module _ (plans : List RingPlan) (pool : ℕ) (now : List (Party I)) (sound : Sound tags plans pool now) (ruled : HeadTailRule plans now) (rule : FreeRule tags plans pool now)
+  module _ (plans : List RingPlan) (pool : ℕ) (now : List (Party I)) (sound : Sound tags plans pool now) (ruled : HeadTailRule plans now)
+      (rule : FreeRule tags plans pool now)
       (i : ℕ) (d : Party I) (mine : i < length now) (idle : (slice_index_or now i d).span ≡ None)
       (r : ℕ) (plan : RingPlan) (there : slice_get plans r ≡ Some plan) (free : plan.free ≡ true) where
     abbrev put : RingSide I
@@ -174,7 +182,7 @@ module _ {I : Type 0} (tags : I → List ℕ) where
 
     -- as many buffers are queued there as items
     queued_all : sum_by (λ b. in_ring tags b now r) (range_with_len 0 pool) ≡ length (queue now r)
-    unfolding places
+    unfolding place_count
     queued_all =
         range_same (λ b. occurrences b (flat_map tags (queue now r))) (λ b. in_ring tags b now r) 0 pool (λ b le lt. times_in_is tags b (queue now r))
         ∙ (count_all pool (flat_map tags (queue now r)) outside ∙ singles_length (queue now r) (rule.singles r plan there free))
@@ -189,8 +197,8 @@ module _ {I : Type 0} (tags : I → List ℕ) where
             )
 
     -- what all parties have and what is queued there are at most all buffers
-    all_few : sum_by (buffers_of tags pool) now + length (queue now r) ≤ pool
-    unfolding places buffers_of
+    all_few : sum_by (buffers_had tags pool) now + length (queue now r) ≤ pool
+    unfolding place_count buffers_had
     all_few =
         let swap = swapped (λ b (party : Party I). holds tags b party) now 0 pool in
         let both = range_plus (λ b. sum_by (holds tags b) now) (λ b. in_ring tags b now r) 0 pool in
@@ -203,13 +211,14 @@ module _ {I : Type 0} (tags : I → List ℕ) where
         omega (arith, swap, both, less, ones 0 pool, queued_all)
 
     -- nobody else has reserved more there than it has buffers
-    open_few : buffers_of tags pool (slice_index_or now i d) + put.open_count ≤ sum_by (buffers_of tags pool) now
+    open_few : buffers_had tags pool (slice_index_or now i d) + put.open_count ≤ sum_by (buffers_had tags pool) now
     unfolding side_of
     open_few =
-        one_apart (buffers_of tags pool) (λ (party : Party I). span_count r Put party.span) now i d mine (ap (span_count r Put) idle)
+        one_apart (buffers_had tags pool) (λ (party : Party I). span_count r Put party.span) now i d mine (ap (span_count r Put) idle)
         (λ j lt. few_of j lt (slice_index_or now j d).span refl)
       where
-        few_of : (j : ℕ) → j < length now → (o : Option Span) → (slice_index_or now j d).span ≡ o → span_count r Put o ≤ buffers_of tags pool (slice_index_or now j d)
+        few_of : (j : ℕ) → j < length now → (o : Option Span) → (slice_index_or now j d).span ≡ o
+            → span_count r Put o ≤ buffers_had tags pool (slice_index_or now j d)
         few_of j lt None busy = omega arith
         few_of j lt (Some s) busy = elim (on_or_off s.ring r s.side Put) [
           | inl own ↦
@@ -232,7 +241,7 @@ module _ {I : Type 0} (tags : I → List ℕ) where
         omega (arith, n, side.behind)
 
     -- there is room for all that the party has
-    pub room_for_all : pool ≤ plan.geometry.capacity → base plan.put put + buffers_of tags pool (slice_index_or now i d) ≤ plan.geometry.capacity + taken.len
+    pub room_for_all : pool ≤ plan.geometry.capacity → base plan.put put + buffers_had tags pool (slice_index_or now i d) ≤ plan.geometry.capacity + taken.len
     room_for_all fits =
         omega (
           arith,

@@ -17,7 +17,7 @@ use Rattle.ringcore_laws.specs.declared.party.Party.{Party}
 use Rattle.ringcore_laws.specs.declared.party.Settled.{Settled}
 use Rattle.ringcore_laws.specs.Party.{is_on, same_side, covers, with_open, with_settled}
 use Rattle.ringcore_laws.specs.Moves.{limit, reserved_by, settled_by}
-use Rattle.ringcore_laws.specs.RingSide.{RingSide, side_of, IsGapless, end_of, span_at, span_count, span_end, settled_count, settled_end}
+use Rattle.ringcore_laws.specs.RingSide.{RingSide, side_of, IsGapless, party_end, span_at, span_count, span_end, settled_count, settled_end}
 use Rattle.ringcore_laws.specs.HeadTailRule.{RuledSide, RuledSpan, HeadTailRule}
 use Rattle.ringcore_laws.specs.History.{starts_below}
 use Rattle.ringcore_laws.proofs.Lists.{greatest_ge}
@@ -38,10 +38,13 @@ range_part f a (suc n) r le lt = elim (below_or_not a r) [
 ]
 
 -- an open span holds a position of a side, or doesn't
-pub span_cases : (ring : ℕ) (side : Side) (p : ℕ) (s : Span) → ((is_on s.ring s.side ring side ≡ true) × (s.start ≤ p) × (p < s.start + s.count) × (span_at ring side p (Some s) ≡ 1)) ⊎ (span_at ring side p (Some s) ≡ 0)
+pub span_cases : (ring : ℕ) (side : Side) (p : ℕ) (s : Span)
+    → ((is_on s.ring s.side ring side ≡ true) × (s.start ≤ p) × (p < s.start + s.count) × (span_at ring side p (Some s) ≡ 1)) ⊎
+    (span_at ring side p (Some s) ≡ 0)
 span_cases ring side p s = on (is_on s.ring s.side ring side) refl
   where
-    on : (b : Bool) → is_on s.ring s.side ring side ≡ b → ((is_on s.ring s.side ring side ≡ true) × (s.start ≤ p) × (p < s.start + s.count) × (span_at ring side p (Some s) ≡ 1)) ⊎ (span_at ring side p (Some s) ≡ 0)
+    on : (b : Bool) → is_on s.ring s.side ring side ≡ b → ((is_on s.ring s.side ring side ≡ true) × (s.start ≤ p) × (p < s.start + s.count)
+        × (span_at ring side p (Some s) ≡ 1)) ⊎ (span_at ring side p (Some s) ≡ 0)
     on false e = inr (ap (λ v. if v && covers s p then 1 else 0) e)
     on true e = elim (held_cases s p) [
       | inl inside ↦ inl (e, inside.0, inside.1, ap (λ v. if v && covers s p then 1 else 0) e ∙ inside.2)
@@ -98,8 +101,9 @@ on_or_off ring r side s = elim (same_or_not r ring) [
 
 module _ {I : Type 0} where
   -- a reserved position lies before the end of some span
-  pub reserved_tells : (parties : List (Party I)) (ring : ℕ) (side : Side) (p : ℕ) → 0 < (side_of parties ring side).openers p → (p < (side_of parties ring side).reach) × (0 < (side_of parties ring side).open_count)
-  unfolding side_of end_of
+  pub reserved_tells : (parties : List (Party I)) (ring : ℕ) (side : Side) (p : ℕ) → 0 < (side_of parties ring side).openers p
+      → (p < (side_of parties ring side).reach) × (0 < (side_of parties ring side).open_count)
+  unfolding side_of party_end
   reserved_tells [] ring side p h = absurd (omega arith)
   reserved_tells (x ∷ xs) ring side p h =
       let e1 = sum_by-cons (λ (party : Party I). span_at ring side p party.span) x xs in
@@ -111,29 +115,35 @@ module _ {I : Type 0} where
             (omega (arith, rest.0), omega (arith, rest.1))
       ]
 
-  pub nothing_earlier : (parties : List (Party I)) (ring : ℕ) (side : Side) (start p : ℕ) → list_any (λ (party : Party I). starts_below ring side start party.span) parties ≡ false → p < start → (side_of parties ring side).openers p ≡ 0
+  pub nothing_earlier : (parties : List (Party I)) (ring : ℕ) (side : Side) (start p : ℕ)
+      → list_any (λ (party : Party I). starts_below ring side start party.span) parties ≡ false → p < start → (side_of parties ring side).openers p ≡ 0
   unfolding side_of
   nothing_earlier [] ring side start p none lt = refl
   nothing_earlier (x ∷ xs) ring side start p none lt =
       let both = or_false (starts_below ring side start x.span) (list_any (λ (party : Party I). starts_below ring side start party.span) xs) none in
       sum_by-cons (λ (party : Party I). span_at ring side p party.span) x xs
-      ∙ (ap (λ v. v + sum_by (λ (party : Party I). span_at ring side p party.span) xs) (below_not ring side start p x.span both.0 lt) ∙ (zero_plus _ ∙ nothing_earlier xs ring side start p both.1 lt))
+      ∙ (ap (λ v. v + sum_by (λ (party : Party I). span_at ring side p party.span) xs) (below_not ring side start p x.span both.0 lt)
+      ∙ (zero_plus _ ∙ nothing_earlier xs ring side start p both.1 lt))
     where
       zero_plus : (n : ℕ) → 0 + n ≡ n
       zero_plus n = omega arith
 
   -- what an open span of a party tells of its side
   pub own_span : (parties : List (Party I)) (k : ℕ) (d : Party I) (s : Span) → k < length parties → (slice_index_or parties k d).span ≡ Some s
-      → (s.count ≤ (side_of parties s.ring s.side).open_count) × (s.start + s.count ≤ (side_of parties s.ring s.side).reach) × ((p : ℕ) → open_count s p ≤ (side_of parties s.ring s.side).openers p)
-  unfolding side_of end_of
+      → (s.count ≤ (side_of parties s.ring s.side).open_count) × (s.start + s.count ≤ (side_of parties s.ring s.side).reach)
+      × ((p : ℕ) → open_count s p ≤ (side_of parties s.ring s.side).openers p)
+  unfolding side_of party_end
   own_span parties k d s lt busy =
       let on = on_own s.ring s.side in
-      let count : span_count s.ring s.side (slice_index_or parties k d).span ≡ s.count = ap (span_count s.ring s.side) busy ∙ ap (λ v. if v then s.count else 0) on in
-      let end : span_end s.ring s.side (slice_index_or parties k d).span ≡ s.start + s.count = ap (span_end s.ring s.side) busy ∙ ap (λ v. if v then s.start + s.count else 0) on in (
+      let count : span_count s.ring s.side (slice_index_or parties k d).span ≡ s.count =
+      ap (span_count s.ring s.side) busy ∙ ap (λ v. if v then s.count else 0) on in
+      let end : span_end s.ring s.side (slice_index_or parties k d).span ≡ s.start + s.count =
+      ap (span_end s.ring s.side) busy ∙ ap (λ v. if v then s.start + s.count else 0) on in (
         omega (arith, sum_by_part (λ (party : Party I). span_count s.ring s.side party.span) parties k d lt),
-        omega (arith, greatest_ge (end_of s.ring s.side) parties k d lt),
+        omega (arith, greatest_ge (party_end s.ring s.side) parties k d lt),
         λ p.
-            let at : span_at s.ring s.side p (slice_index_or parties k d).span ≡ open_count s p = ap (span_at s.ring s.side p) busy ∙ ap (λ v. if v && covers s p then 1 else 0) on in
+            let at : span_at s.ring s.side p (slice_index_or parties k d).span ≡ open_count s p =
+            ap (span_at s.ring s.side p) busy ∙ ap (λ v. if v && covers s p then 1 else 0) on in
             omega (arith, sum_by_part (λ (party : Party I). span_at s.ring s.side p party.span) parties k d lt),
       )
 
@@ -142,17 +152,31 @@ module _ {I : Type 0} where
     pub multi : mode ≡ Multi → start ≡ l.reach
     pub hts : mode ≡ Hts → (start ≡ l.len) × (l.open_count ≡ 0)
 
-  pub next_above : (parties : List (Party I)) (ring : ℕ) (side : Side) (mode : Mode) (start : ℕ) → RuledSide mode (side_of parties ring side) → IsNext mode (side_of parties ring side) start
+  pub next_above : (parties : List (Party I)) (ring : ℕ) (side : Side) (mode : Mode) (start : ℕ) → RuledSide mode (side_of parties ring side)
+      → IsNext mode (side_of parties ring side) start
       → ((side_of parties ring side).len ≤ start) × ((p : ℕ) → start ≤ p → (side_of parties ring side).openers p ≡ 0)
   next_above parties ring side Multi start o n =
-      let e = n.multi refl in
-      (omega (arith, o.behind), λ p le. elim (below_or_not 0 ((side_of parties ring side).openers p)) [ inl h ↦ absurd (omega (arith, (reserved_tells parties ring side p h).0)) | inr none ↦ omega arith ])
+      let e = n.multi refl in (
+        omega (arith, o.behind),
+        λ p le. elim (below_or_not 0 ((side_of parties ring side).openers p)) [
+          | inl h ↦
+              absurd (omega (arith, (reserved_tells parties ring side p h).0))
+          | inr none ↦ omega arith
+        ],
+      )
   next_above parties ring side Hts start o n =
-      let e = n.hts refl in
-      (omega (arith, e.0), λ p le. elim (below_or_not 0 ((side_of parties ring side).openers p)) [ inl h ↦ absurd (omega (arith, (reserved_tells parties ring side p h).1, e.1)) | inr none ↦ omega arith ])
+      let e = n.hts refl in (
+        omega (arith, e.0),
+        λ p le. elim (below_or_not 0 ((side_of parties ring side).openers p)) [
+          | inl h ↦
+              absurd (omega (arith, (reserved_tells parties ring side p h).1, e.1))
+          | inr none ↦ omega arith
+        ],
+      )
 
   -- the first open span starts where the settled items end
-  pub first_in_line : (plans : List RingPlan) (parties : List (Party I)) (k : ℕ) (d : Party I) (s : Span) (plan : RingPlan) → HeadTailRule plans parties → IsGapless (side_of parties s.ring s.side)
+  pub first_in_line : (plans : List RingPlan) (parties : List (Party I)) (k : ℕ) (d : Party I) (s : Span) (plan : RingPlan) → HeadTailRule plans parties
+      → IsGapless (side_of parties s.ring s.side)
       → ((p : ℕ) → 0 < (side_of parties s.ring s.side).openers p → (side_of parties s.ring s.side).items_at p ≡ [])
       → k < length parties → (slice_index_or parties k d).span ≡ Some s → slice_get plans s.ring ≡ Some plan
       → list_any (λ (party : Party I). starts_below s.ring s.side s.start party.span) parties ≡ false → s.start ≡ (side_of parties s.ring s.side).len
@@ -169,7 +193,12 @@ module _ {I : Type 0} where
 
       above : l.len ≤ s.start
       above =
-          let at : 0 < l.openers s.start = elim (held_cases s s.start) [ inl inside ↦ omega (arith, own.2 s.start, inside.2) | inr out ↦ elim out.0 [ inl x ↦ absurd (omega arith) | inr y ↦ absurd (omega (arith, span.positive)) ] ] in
+          let at : 0 < l.openers s.start =
+          elim (held_cases s s.start) [
+            | inl inside ↦ omega (arith, own.2 s.start, inside.2)
+            | inr out ↦
+                elim out.0 [ inl x ↦ absurd (omega arith) | inr y ↦ absurd (omega (arith, span.positive)) ]
+          ] in
           unsettled_above l g s.start (unsettled s.start at)
 
       by_mode : (mode : Mode) → mode_of plan s.side ≡ mode → s.start ≡ l.len
@@ -182,16 +211,21 @@ module _ {I : Type 0} where
       ]
 
   -- a side after a reservation: it is the own one, or nothing changes
-  pub other_side_reserved : (parties : List (Party I)) (i : ℕ) (d : Party I) (span : Span) (r : ℕ) (side : Side) → i < length parties → (slice_index_or parties i d).span ≡ None
+  pub other_side_reserved : (parties : List (Party I)) (i : ℕ) (d : Party I) (span : Span) (r : ℕ) (side : Side) → i < length parties
+      → (slice_index_or parties i d).span ≡ None
       → ((r ≡ span.ring) × (side ≡ span.side)) ⊎ (side_of (reserved_by parties i d span) r side ≡ side_of parties r side)
   other_side_reserved parties i d span r side lt idle = elim (on_or_off span.ring r span.side side) [
     | inl own ↦ inl own
-    | inr off ↦ inr (reserved_other (side_of parties r side) (side_of (reserved_by parties i d span) r side) r side span (reserves parties i d span r side lt idle) off)
+    | inr off ↦ inr (reserved_other (side_of parties r side) (side_of (reserved_by parties i d span) r side) r side span
+        (reserves parties i d span r side lt idle) off)
   ]
 
-  pub orderly_reserved : (plans : List RingPlan) (parties : List (Party I)) (i : ℕ) (d : Party I) (span : Span) (plan : RingPlan) → HeadTailRule plans parties → i < length parties → (slice_index_or parties i d).span ≡ None
-      → slice_get plans span.ring ≡ Some plan → 0 < span.count → span.ring < length plans → IsNext (mode_of plan span.side) (side_of parties span.ring span.side) span.start
-      → span.start + span.count ≤ LAST → span.start + span.count ≤ limit plan.geometry parties span.ring span.side → (mode_of plan span.side ≡ Hts → span.count < RESERVED) → HeadTailRule plans (reserved_by parties i d span)
+  pub orderly_reserved : (plans : List RingPlan) (parties : List (Party I)) (i : ℕ) (d : Party I) (span : Span) (plan : RingPlan) → HeadTailRule plans parties
+      → i < length parties → (slice_index_or parties i d).span ≡ None
+      → slice_get plans span.ring ≡ Some plan → 0 < span.count → span.ring < length plans
+      → IsNext (mode_of plan span.side) (side_of parties span.ring span.side) span.start
+      → span.start + span.count ≤ LAST → span.start + span.count ≤ limit plan.geometry parties span.ring span.side
+      → (mode_of plan span.side ≡ Hts → span.count < RESERVED) → HeadTailRule plans (reserved_by parties i d span)
   orderly_reserved plans parties i d span plan o lt idle there some known next last within small = record {
     sides = λ r side plan' h. elim (other_side_reserved parties i d span r side lt idle) [
       | inl own ↦
@@ -218,10 +252,13 @@ module _ {I : Type 0} where
         ];
     spans = λ k d' s lt' busy. elim (same_or_not k i) [
       | inl same ↦
-          let e : Some s ≡ Some span = sym busy ∙ (ap (λ (v : ℕ). (slice_index_or new v d').span) same ∙ ap (λ (v : Party I). v.span) (get_or-set_same parties i (with_open (slice_index_or parties i d) span) d' lt)) in
+          let e : Some s ≡ Some span =
+          sym busy ∙ (ap (λ (v : ℕ). (slice_index_or new v d').span) same
+          ∙ ap (λ (v : Party I). v.span) (get_or-set_same parties i (with_open (slice_index_or parties i d) span) d' lt)) in
           subst (λ (v : Span). RuledSpan plans new v) (sym (same_plan' e)) own_span_ok
       | inr apart ↦
-          let old : (slice_index_or parties k d').span ≡ Some s = sym (ap (λ (v : Party I). v.span) (get_or-set_other parties i k (with_open (slice_index_or parties i d) span) d' apart)) ∙ busy in
+          let old : (slice_index_or parties k d').span ≡ Some s =
+          sym (ap (λ (v : Party I). v.span) (get_or-set_other parties i k (with_open (slice_index_or parties i d) span) d' apart)) ∙ busy in
           other_span_ok k d' s (subst (λ (v : ℕ). k < v) (length-set parties i (with_open (slice_index_or parties i d) span)) lt') old
     ];
   }
@@ -298,7 +335,9 @@ module _ {I : Type 0} where
                   let e : plan' ≡ plan = same_plan' (sym h ∙ (ap (slice_get plans) own.0 ∙ there)) in
                   let hts' : mode_of plan span.side ≡ Hts = ap (λ (v : RingPlan). mode_of v span.side) (sym e) ∙ (ap (mode_of plan') (sym own.1) ∙ hts) in
                   let alone = old.alone plan' h hts in
-                  let empty : (side_of parties s.ring s.side).open_count ≡ 0 = ap (λ (v : ℕ). (side_of parties v s.side).open_count) own.0 ∙ (ap (λ (v : Side). (side_of parties span.ring v).open_count) own.1 ∙ (next.hts hts').1) in
+                  let empty : (side_of parties s.ring s.side).open_count ≡ 0 =
+                  ap (λ (v : ℕ). (side_of parties v s.side).open_count) own.0
+                  ∙ (ap (λ (v : Side). (side_of parties span.ring v).open_count) own.1 ∙ (next.hts hts').1) in
                   absurd (omega (arith, old.positive, alone.1))
               | inr same ↦
                   let alone = old.alone plan' h hts in
@@ -307,8 +346,10 @@ module _ {I : Type 0} where
           }
 
   -- the first open span of a side is settled, on a multi side whole
-  pub orderly_settled : (plans : List RingPlan) (parties : List (Party I)) (i : ℕ) (d : Party I) (span : Span) (items : List I) (plan : RingPlan) → HeadTailRule plans parties → i < length parties → (slice_index_or parties i d).span ≡ Some span
-      → slice_get plans span.ring ≡ Some plan → span.start ≡ (side_of parties span.ring span.side).len → length items ≤ span.count → (mode_of plan span.side ≡ Multi → length items ≡ span.count)
+  pub orderly_settled : (plans : List RingPlan) (parties : List (Party I)) (i : ℕ) (d : Party I) (span : Span) (items : List I) (plan : RingPlan)
+      → HeadTailRule plans parties → i < length parties → (slice_index_or parties i d).span ≡ Some span
+      → slice_get plans span.ring ≡ Some plan → span.start ≡ (side_of parties span.ring span.side).len → length items ≤ span.count
+      → (mode_of plan span.side ≡ Multi → length items ≡ span.count)
       → HeadTailRule plans (settled_by parties i d span items)
   orderly_settled plans parties i d span items plan o lt busy there first fits whole = record {
     sides = λ r side plan' h. elim (on_or_off span.ring r span.side side) [
@@ -322,10 +363,13 @@ module _ {I : Type 0} where
     room = λ r plan' h. omega (arith, o.room r plan' h, (step r Put).reach, (step r Put).own_end, ends r Put, (step r Take).len);
     spans = λ k d' s lt' busy'. elim (same_or_not k i) [
       | inl same ↦
-          let e : Some s ≡ None = sym busy' ∙ (ap (λ (v : ℕ). (slice_index_or new v d').span) same ∙ ap (λ (v : Party I). v.span) (get_or-set_same parties i (with_settled (slice_index_or parties i d) span items) d' lt)) in
+          let e : Some s ≡ None =
+          sym busy' ∙ (ap (λ (v : ℕ). (slice_index_or new v d').span) same
+          ∙ ap (λ (v : Party I). v.span) (get_or-set_same parties i (with_settled (slice_index_or parties i d) span items) d' lt)) in
           absurd (let f : Some s ≡ None = e in cc)
       | inr apart ↦
-          let old : (slice_index_or parties k d').span ≡ Some s = sym (ap (λ (v : Party I). v.span) (get_or-set_other parties i k (with_settled (slice_index_or parties i d) span items) d' apart)) ∙ busy' in
+          let old : (slice_index_or parties k d').span ≡ Some s =
+          sym (ap (λ (v : Party I). v.span) (get_or-set_other parties i k (with_settled (slice_index_or parties i d) span items) d' apart)) ∙ busy' in
           other_span_ok k d' s (subst (λ (v : ℕ). k < v) (length-set parties i (with_settled (slice_index_or parties i d) span items)) lt') old lt' busy'
     ];
   }
@@ -339,7 +383,8 @@ module _ {I : Type 0} where
       done : Settled I
       done = record { ring = span.ring; side = span.side; start = span.start; items = items }
 
-      step : (r : ℕ) (side : Side) → Settles (side_of parties r side) (side_of new r side) r side span record { ring = span.ring; side = span.side; start = span.start; items = items }
+      step : (r : ℕ) (side : Side) → Settles (side_of parties r side) (side_of new r side) r side span
+          record { ring = span.ring; side = span.side; start = span.start; items = items }
       step r side = settles_side_of parties i d span record { ring = span.ring; side = span.side; start = span.start; items = items } r side lt busy
 
       other : (r : ℕ) (side : Side) → is_on span.ring span.side r side ≡ false → side_of new r side ≡ side_of parties r side
@@ -383,7 +428,8 @@ module _ {I : Type 0} where
                 ];
           }
 
-      other_span_ok : (k : ℕ) (d' : Party I) (s : Span) → k < length parties → (slice_index_or parties k d').span ≡ Some s → k < length new → (slice_index_or new k d').span ≡ Some s → RuledSpan plans new s
+      other_span_ok : (k : ℕ) (d' : Party I) (s : Span) → k < length parties → (slice_index_or parties k d').span ≡ Some s → k < length new
+          → (slice_index_or new k d').span ≡ Some s → RuledSpan plans new s
       other_span_ok k d' s lt' busy' lt'' busy'' =
           let old = o.spans k d' s lt' busy' in
           record {
@@ -397,10 +443,14 @@ module _ {I : Type 0} where
                   let counted : span_count span.ring span.side (Some span) ≡ span.count = ap (λ v. if v then span.count else 0) on in
                   let none : (side_of new span.ring span.side).open_count ≡ 0 = omega (arith, (step span.ring span.side).open_count, mine.1, counted) in
                   let still = (own_span new k d' s lt'' busy'').0 in
-                  let same : (side_of new s.ring s.side).open_count ≡ (side_of new span.ring span.side).open_count = ap (λ (v : ℕ). (side_of new v s.side).open_count) own.0 ∙ ap (λ (v : Side). (side_of new span.ring v).open_count) own.1 in
+                  let same : (side_of new s.ring s.side).open_count ≡ (side_of new span.ring span.side).open_count =
+                  ap (λ (v : ℕ). (side_of new v s.side).open_count) own.0 ∙ ap (λ (v : Side). (side_of new span.ring v).open_count) own.1 in
                   absurd (omega (arith, old.positive))
               | inr off ↦
-                  let alone = old.alone plan' h hts in
-                  (alone.0 ∙ ap (λ (v : RingSide I). v.len) (sym (other s.ring s.side off)), alone.1 ∙ ap (λ (v : RingSide I). v.open_count) (sym (other s.ring s.side off)))
+                  let alone = old.alone plan' h hts in (
+                    alone.0 ∙ ap (λ (v : RingSide I). v.len) (sym (other s.ring s.side off)),
+                    alone.1
+                        ∙ ap (λ (v : RingSide I). v.open_count) (sym (other s.ring s.side off)),
+                  )
             ];
           }

@@ -1,5 +1,6 @@
 -- Soundness is kept as a party reserves a span or settles one, as a newcomer comes, and as two parties become one
-use Rattle.std.proofs.Common.{ℕ, zero, suc, ◌+◌, ◌<◌, ◌≤◌, ◌≢◌, ◌≡◌, ◌⊎◌, inl, inr, max, List, [], ◌∷◌, ◌++◌, length, take, drop, refl, ap, sym, subst, ◌∙◌, arith, true, false}
+use Rattle.std.proofs.Common.{ℕ, zero, suc, ◌+◌, ◌<◌, ◌≤◌, ◌≢◌, ◌≡◌, ◌⊎◌, inl, inr, max, List, [], ◌∷◌, ◌++◌, length, take, drop, refl, ap, sym, subst, ◌∙◌}
+use Rattle.std.proofs.Common.{arith, true, false}
 use Rattle.std.specs.Prelude.{slice_get, slice_set, slice_index_or, Some, None, ◌&&◌, ◌==◌, if◌then◌else◌}
 use Rattle.std.specs.List.{flat_map, sum_by, range_with_len}
 use Rattle.std.proofs.Math.Bool.{and-false}
@@ -16,10 +17,11 @@ use Rattle.ringcore_laws.specs.declared.party.Party.{Party}
 use Rattle.ringcore_laws.specs.Party.{is_on, same_side, covers, newcomer, with_open, joined}
 use Rattle.ringcore_laws.specs.Moves.{IsReservable, Owns, reserved_by, settled_by}
 use Rattle.ringcore_laws.specs.RingSide.{RingSide, side_of, listed, IsGapless, span_end, settled_end, item_at}
-use Rattle.ringcore_laws.specs.Sound.{Sound, SoundRing, queue, occurrences, occurrences_in, moved, settled_times, holds, in_ring, places}
+use Rattle.ringcore_laws.specs.Sound.{Sound, SoundRing, queue, occurrences, occurrences_in, moved, settled_times, holds, in_ring, place_count}
 use Rattle.ringcore_laws.proofs.Lists.{sum_by_joined, item_at_before, each_set, each_push}
 use Rattle.ringcore_laws.proofs.SideLaws.{Reserves, reserves, Settles, settles, settles_side_of, side_of_newcomer, side_of_together}
-use Rattle.ringcore_laws.proofs.RingLaws.{open_count, reserved_on, settled_on, put_reserved, take_reserved, put_settled, take_settled, below_or_not, length-listed, listed_settled, takes_le_puts}
+use Rattle.ringcore_laws.proofs.RingLaws.{open_count, reserved_on, settled_on, put_reserved, take_reserved, put_settled, take_settled, below_or_not}
+use Rattle.ringcore_laws.proofs.RingLaws.{length-listed, listed_settled, takes_le_puts}
 
 -- rings and sides
 
@@ -59,7 +61,8 @@ element (x ∷ xs) zero lt = (x, refl)
 element (x ∷ xs) (suc r) lt = element xs r (omega arith)
 
 -- a sum over numbers in which one counts more
-pub sum_range_more : (f g : ℕ → ℕ) (a n at c : ℕ) → ((r : ℕ) → r ≢ at → g r ≡ f r) → g at ≡ f at + c → a ≤ at → at < a + n → sum_by g (range_with_len a n) ≡ sum_by f (range_with_len a n) + c
+pub sum_range_more : (f g : ℕ → ℕ) (a n at c : ℕ) → ((r : ℕ) → r ≢ at → g r ≡ f r) → g at ≡ f at + c → a ≤ at → at < a + n
+    → sum_by g (range_with_len a n) ≡ sum_by f (range_with_len a n) + c
 sum_range_more f g a zero at c others here le lt = absurd (omega arith)
 sum_range_more f g a (suc n) at c others here le lt =
     let hf = sum_by-cons f a (range_with_len (a + 1) n) in
@@ -67,7 +70,8 @@ sum_range_more f g a (suc n) at c others here le lt =
     elim (same_or_not a at) [
       | inl same ↦
           let first : g a ≡ f a + c = ap g same ∙ (here ∙ ap (λ v. f v + c) (sym same)) in
-          let rest : sum_by g (range_with_len (a + 1) n) ≡ sum_by f (range_with_len (a + 1) n) = range_same f g (a + 1) n (λ r above below. others r (omega arith)) in
+          let rest : sum_by g (range_with_len (a + 1) n) ≡ sum_by f (range_with_len (a + 1) n) =
+          range_same f g (a + 1) n (λ r above below. others r (omega arith)) in
           omega arith
       | inr apart ↦
           let first : g a ≡ f a = others a apart in
@@ -76,8 +80,10 @@ sum_range_more f g a (suc n) at c others here le lt =
     ]
 
 module _ {I : Type 0} where
-  pub same_side_of : (a b : RingSide I) → ((p : ℕ) → a.items_at p ≡ b.items_at p) → a.len ≡ b.len → ((p : ℕ) → a.openers p ≡ b.openers p) → a.open_count ≡ b.open_count → a.reach ≡ b.reach → a ≡ b
-  same_side_of a b settled len openers open_count reach = λ i. record { items_at = λ p. settled p i; len = len i; openers = λ p. openers p i; open_count = open_count i; reach = reach i }
+  pub same_side_of : (a b : RingSide I) → ((p : ℕ) → a.items_at p ≡ b.items_at p) → a.len ≡ b.len → ((p : ℕ) → a.openers p ≡ b.openers p)
+      → a.open_count ≡ b.open_count → a.reach ≡ b.reach → a ≡ b
+  same_side_of a b settled len openers open_count reach =
+      λ i. record { items_at = λ p. settled p i; len = len i; openers = λ p. openers p i; open_count = open_count i; reach = reach i }
 
   pub same_listed : (a b : RingSide I) → ((p : ℕ) → a.items_at p ≡ b.items_at p) → a.len ≡ b.len → listed a ≡ listed b
   unfolding listed
@@ -92,7 +98,8 @@ module _ {I : Type 0} where
       (r.open_count ∙ ap (λ v. a.open_count + (if v then span.count else 0)) on)
       (r.reach ∙ ap (λ v. max a.reach (if v then span.start + span.count else 0)) on)
 
-  pub reserved_other : (a b : RingSide I) (ring : ℕ) (side : Side) (span : Span) → Reserves a b ring side span → is_on span.ring span.side ring side ≡ false → b ≡ a
+  pub reserved_other : (a b : RingSide I) (ring : ℕ) (side : Side) (span : Span) → Reserves a b ring side span → is_on span.ring span.side ring side ≡ false
+      → b ≡ a
   reserved_other a b ring side span r off =
       same_side_of b a r.items_at r.len
       (λ p. r.openers p ∙ (ap (λ v. a.openers p + (if v && covers span p then 1 else 0)) off ∙ more (a.openers p)))
@@ -107,10 +114,12 @@ module _ {I : Type 0} where
 
   -- the own side after a span is settled where the settled items end, and any other
   pub settled_own : (a b : RingSide I) (span : Span) (items : List I) → IsGapless a → span.start ≡ a.len
-      → Settles a b span.ring span.side span record { ring = span.ring; side = span.side; start = span.start; items = items } → b ≡ settled_on a span items b.reach
+      → Settles a b span.ring span.side span record { ring = span.ring; side = span.side; start = span.start; items = items }
+      → b ≡ settled_on a span items b.reach
   settled_own a b span items g first r =
       same_side_of b (settled_on a span items b.reach) at (r.len ∙ ap (λ v. a.len + (if v then length items else 0)) on)
-      (λ p. let h : b.openers p + open_count span p ≡ a.openers p = ap (λ v. b.openers p + (if v && covers span p then 1 else 0)) (sym on) ∙ r.openers p in omega arith)
+      (λ p. let h : b.openers p + open_count span p ≡ a.openers p =
+      ap (λ v. b.openers p + (if v && covers span p then 1 else 0)) (sym on) ∙ r.openers p in omega arith)
       (let h : b.open_count + span.count ≡ a.open_count = ap (λ v. b.open_count + (if v then span.count else 0)) (sym on) ∙ r.open_count in omega arith)
       refl
     where
@@ -128,52 +137,69 @@ module _ {I : Type 0} where
       ]
 
   pub settled_other : (a b : RingSide I) (ring : ℕ) (side : Side) (span : Span) (items : List I)
-      → Settles a b ring side span record { ring = span.ring; side = span.side; start = span.start; items = items } → is_on span.ring span.side ring side ≡ false → b ≡ a
+      → Settles a b ring side span record { ring = span.ring; side = span.side; start = span.start; items = items }
+      → is_on span.ring span.side ring side ≡ false → b ≡ a
   settled_other a b ring side span items r off =
       same_side_of b a (λ p. r.elsewhere p (ap (λ v. if v then item_at span.start items p else []) off))
       (r.len ∙ (ap (λ v. a.len + (if v then length items else 0)) off ∙ more a.len))
       (λ p. let h : b.openers p + 0 ≡ a.openers p = ap (λ v. b.openers p + (if v && covers span p then 1 else 0)) (sym off) ∙ r.openers p in omega arith)
       (let h : b.open_count + 0 ≡ a.open_count = ap (λ v. b.open_count + (if v then span.count else 0)) (sym off) ∙ r.open_count in omega arith)
       (let h1 : span_end ring side (Some span) ≡ 0 = ap (λ v. if v then span.start + span.count else 0) off in
-      let h2 : settled_end ring side record { ring = span.ring; side = span.side; start = span.start; items = items } ≡ 0 = ap (λ v. if v then span.start + length items else 0) off in
+      let h2 : settled_end ring side record { ring = span.ring; side = span.side; start = span.start; items = items } ≡ 0 =
+      ap (λ v. if v then span.start + length items else 0) off in
       let h3 = r.reach in omega arith)
     where
       more : (n : ℕ) → n + 0 ≡ n
       more n = omega arith
 
   -- the ring of the span
-  pub ring_reserved : (e : Extent) (parties : List (Party I)) (i : ℕ) (d : Party I) (ring : ℕ) (side : Side) (start count : ℕ) → e.capacity < e.size → i < length parties → (slice_index_or parties i d).span ≡ None
-      → IsReservable e parties record { ring = ring; side = side; start = start; count = count } → SoundRing e (side_of parties ring Put) (side_of parties ring Take)
-      → SoundRing e (side_of (reserved_by parties i d record { ring = ring; side = side; start = start; count = count }) ring Put) (side_of (reserved_by parties i d record { ring = ring; side = side; start = start; count = count }) ring Take)
+  pub ring_reserved : (e : Extent) (parties : List (Party I)) (i : ℕ) (d : Party I) (ring : ℕ) (side : Side) (start count : ℕ) → e.capacity < e.size
+      → i < length parties → (slice_index_or parties i d).span ≡ None
+      → IsReservable e parties record { ring = ring; side = side; start = start; count = count }
+      → SoundRing e (side_of parties ring Put) (side_of parties ring Take)
+      → SoundRing e (side_of (reserved_by parties i d record { ring = ring; side = side; start = start; count = count }) ring Put)
+      (side_of (reserved_by parties i d record { ring = ring; side = side; start = start; count = count }) ring Take)
   ring_reserved e parties i d ring Put start count spare lt idle ok s =
       let span : Span = record { ring = ring; side = Put; start = start; count = count } in
       let own = reserved_own (side_of parties ring Put) (side_of (reserved_by parties i d span) ring Put) span (reserves parties i d span ring Put lt idle) in
-      let other = reserved_other (side_of parties ring Take) (side_of (reserved_by parties i d span) ring Take) ring Take span (reserves parties i d span ring Take lt idle) (off_take ring ring) in
+      let other =
+      reserved_other (side_of parties ring Take) (side_of (reserved_by parties i d span) ring Take) ring Take span
+      (reserves parties i d span ring Take lt idle) (off_take ring ring) in
       let new = put_reserved e (side_of parties ring Put) (side_of parties ring Take) s span spare ok.behind ok.above ok.room in
-      subst (λ (v : RingSide I). SoundRing e v (side_of (reserved_by parties i d span) ring Take)) (sym own) (subst (λ (v : RingSide I). SoundRing e (reserved_on (side_of parties ring Put) span) v) (sym other) new)
+      subst (λ (v : RingSide I). SoundRing e v (side_of (reserved_by parties i d span) ring Take)) (sym own)
+      (subst (λ (v : RingSide I). SoundRing e (reserved_on (side_of parties ring Put) span) v) (sym other) new)
   ring_reserved e parties i d ring Take start count spare lt idle ok s =
       let span : Span = record { ring = ring; side = Take; start = start; count = count } in
-      let own = reserved_own (side_of parties ring Take) (side_of (reserved_by parties i d span) ring Take) span (reserves parties i d span ring Take lt idle) in
-      let other = reserved_other (side_of parties ring Put) (side_of (reserved_by parties i d span) ring Put) ring Put span (reserves parties i d span ring Put lt idle) (off_put ring ring) in
+      let own =
+      reserved_own (side_of parties ring Take) (side_of (reserved_by parties i d span) ring Take) span (reserves parties i d span ring Take lt idle) in
+      let other =
+      reserved_other (side_of parties ring Put) (side_of (reserved_by parties i d span) ring Put) ring Put span (reserves parties i d span ring Put lt idle)
+      (off_put ring ring) in
       let new = take_reserved e (side_of parties ring Put) (side_of parties ring Take) s span ok.behind ok.above ok.room in
-      subst (λ (v : RingSide I). SoundRing e v (side_of (reserved_by parties i d span) ring Take)) (sym other) (subst (λ (v : RingSide I). SoundRing e (side_of parties ring Put) v) (sym own) new)
+      subst (λ (v : RingSide I). SoundRing e v (side_of (reserved_by parties i d span) ring Take)) (sym other)
+      (subst (λ (v : RingSide I). SoundRing e (side_of parties ring Put) v) (sym own) new)
 
 module _ {I : Type 0} (tags : I → List ℕ) where
   -- the buffers in items, one item after the other
   pub times_in_is : (b : ℕ) (items : List I) → occurrences_in tags b items ≡ occurrences b (flat_map tags items)
   times_in_is b [] = refl
-  times_in_is b (x ∷ xs) = omega (arith, sum_by-cons (λ v. occurrences b (tags v)) x xs, sum_by-append (λ n. if n == b then 1 else 0) (tags x) (flat_map tags xs), times_in_is b xs)
+  times_in_is b (x ∷ xs) =
+      omega (arith, sum_by-cons (λ v. occurrences b (tags v)) x xs, sum_by-append (λ n. if n == b then 1 else 0) (tags x) (flat_map tags xs), times_in_is b xs)
 
-  pub same_queue : (before after : List (Party I)) (ring : ℕ) → ((side : Side) (p : ℕ) → (side_of after ring side).items_at p ≡ (side_of before ring side).items_at p) → ((side : Side) → (side_of after ring side).len ≡ (side_of before ring side).len)
+  pub same_queue : (before after : List (Party I)) (ring : ℕ)
+      → ((side : Side) (p : ℕ) → (side_of after ring side).items_at p ≡ (side_of before ring side).items_at p)
+      → ((side : Side) → (side_of after ring side).len ≡ (side_of before ring side).len)
       → queue after ring ≡ queue before ring
   same_queue before after ring settled len =
-      ap (λ v. drop v (listed (side_of after ring Put))) (len Take) ∙ ap (drop (side_of before ring Take).len) (same_listed (side_of after ring Put) (side_of before ring Put) (settled Put) (len Put))
+      ap (λ v. drop v (listed (side_of after ring Put))) (len Take)
+      ∙ ap (drop (side_of before ring Take).len) (same_listed (side_of after ring Put) (side_of before ring Put) (settled Put) (len Put))
 
   -- a won Reserve keeps soundness
   pub reserve_keeps : (plans : List RingPlan) (pool : ℕ) (parties : List (Party I)) (i : ℕ) (d : Party I) (span : Span) (plan : RingPlan)
-      → Sound tags plans pool parties → i < length parties → (slice_index_or parties i d).span ≡ None → slice_get plans span.ring ≡ Some plan → plan.geometry.capacity < plan.geometry.size
+      → Sound tags plans pool parties → i < length parties → (slice_index_or parties i d).span ≡ None → slice_get plans span.ring ≡ Some plan
+      → plan.geometry.capacity < plan.geometry.size
       → IsReservable plan.geometry parties span → Sound tags plans pool (reserved_by parties i d span)
-  unfolding places holds moved
+  unfolding place_count holds moved
   reserve_keeps plans pool parties i d span plan s lt idle there spare ok = record {
     rings = λ r plan' h. elim (same_or_not r span.ring) [
       | inl same ↦
@@ -186,7 +212,9 @@ module _ {I : Type 0} (tags : I → List ℕ) where
           (subst (λ (v : RingSide I). SoundRing plan'.geometry (side_of parties r Put) v) (sym (other r Take apart)) (s.rings r plan' h))
     ];
     buffers = record {
-      never_below_none = λ k d' b lt'. each_set (λ (party : Party I). moved tags Put b party ≤ occurrences b party.given + moved tags Take b party) parties i (with_open (slice_index_or parties i d) span)
+      never_below_none =
+          λ k d' b lt'. each_set (λ (party : Party I). moved tags Put b party ≤ occurrences b party.given + moved tags Take b party) parties i
+          (with_open (slice_index_or parties i d) span)
           (λ j e h. s.buffers.never_below_none j e b h) (s.buffers.never_below_none i d b lt) k d' lt';
       one_place = λ b in_pool. same_places b ∙ s.buffers.one_place b in_pool;
       no_place = λ b out. same_places b ∙ s.buffers.no_place b out;
@@ -197,37 +225,45 @@ module _ {I : Type 0} (tags : I → List ℕ) where
       after = reserved_by parties i d span
 
       other : (r : ℕ) (side : Side) → r ≢ span.ring → side_of after r side ≡ side_of parties r side
-      other r side apart = reserved_other (side_of parties r side) (side_of after r side) r side span (reserves parties i d span r side lt idle) (off_ring span.ring r span.side side apart)
+      other r side apart =
+          reserved_other (side_of parties r side) (side_of after r side) r side span (reserves parties i d span r side lt idle)
+          (off_ring span.ring r span.side side apart)
 
-      same_places : (b : ℕ) → places tags (length plans) b after ≡ places tags (length plans) b parties
+      same_places : (b : ℕ) → place_count tags (length plans) b after ≡ place_count tags (length plans) b parties
       same_places b =
           let h1 : sum_by (holds tags b) after ≡ sum_by (holds tags b) parties =
           let h = sum_by-set (holds tags b) parties i (with_open (slice_index_or parties i d) span) d lt in omega arith in
           let h2 : sum_by (in_ring tags b after) (range_with_len 0 (length plans)) ≡ sum_by (in_ring tags b parties) (range_with_len 0 (length plans)) =
           sum_by_same (in_ring tags b after) (in_ring tags b parties) (range_with_len 0 (length plans))
-          (λ r. ap (occurrences_in tags b) (same_queue parties after r (λ side. (reserves parties i d span r side lt idle).items_at) (λ side. (reserves parties i d span r side lt idle).len))) in
+          (λ r. ap (occurrences_in tags b) (same_queue parties after r (λ side. (reserves parties i d span r side lt idle).items_at)
+          (λ side. (reserves parties i d span r side lt idle).len))) in
           omega arith
 
   -- a settled put keeps soundness
   pub put_keeps : (plans : List RingPlan) (pool : ℕ) (parties : List (Party I)) (i : ℕ) (d : Party I) (ring start count : ℕ) (items : List I) (plan : RingPlan)
-      → Sound tags plans pool parties → i < length parties → (slice_index_or parties i d).span ≡ Some record { ring = ring; side = Put; start = start; count = count } → slice_get plans ring ≡ Some plan
-      → start ≡ (side_of parties ring Put).len → length items ≤ count → (side_of parties ring Put).len + length items ≤ (side_of parties ring Take).len + plan.geometry.capacity
+      → Sound tags plans pool parties → i < length parties → (slice_index_or parties i d).span
+      ≡ Some record { ring = ring; side = Put; start = start; count = count } → slice_get plans ring ≡ Some plan
+      → start ≡ (side_of parties ring Put).len → length items ≤ count
+      → (side_of parties ring Put).len + length items ≤ (side_of parties ring Take).len + plan.geometry.capacity
       → Owns tags (slice_index_or parties i d) items
       → Sound tags plans pool (settled_by parties i d record { ring = ring; side = Put; start = start; count = count } items)
-  unfolding places holds moved
+  unfolding place_count holds moved
   put_keeps plans pool parties i d ring start count items plan s lt busy there first fits room owned = record {
     rings = λ r plan' h. elim (same_or_not r ring) [
       | inl same ↦
           let e : plan' ≡ plan = same_plan (sym h ∙ (ap (slice_get plans) same ∙ there)) in
           subst (λ (v : RingPlan). SoundRing v.geometry (side_of after r Put) (side_of after r Take)) (sym e)
           (subst (λ (v : ℕ). SoundRing plan.geometry (side_of after v Put) (side_of after v Take)) (sym same)
-          (subst (λ (v : RingSide I). SoundRing plan.geometry v (side_of after ring Take)) (sym own) (subst (λ (v : RingSide I). SoundRing plan.geometry (settled_on (side_of parties ring Put) span items (side_of after ring Put).reach) v) (sym opposite) new)))
+          (subst (λ (v : RingSide I). SoundRing plan.geometry v (side_of after ring Take)) (sym own)
+          (subst (λ (v : RingSide I). SoundRing plan.geometry (settled_on (side_of parties ring Put) span items (side_of after ring Put).reach) v)
+          (sym opposite) new)))
       | inr apart ↦
           subst (λ (v : RingSide I). SoundRing plan'.geometry v (side_of after r Take)) (sym (other r Put apart))
           (subst (λ (v : RingSide I). SoundRing plan'.geometry (side_of parties r Put) v) (sym (other r Take apart)) (s.rings r plan' h))
     ];
     buffers = record {
-      never_below_none = λ k d' b lt'. each_set (λ (party : Party I). moved tags Put b party ≤ occurrences b party.given + moved tags Take b party) parties i party_after
+      never_below_none =
+          λ k d' b lt'. each_set (λ (party : Party I). moved tags Put b party ≤ occurrences b party.given + moved tags Take b party) parties i party_after
           (λ j e h. s.buffers.never_below_none j e b h) (had b) k d' lt';
       one_place = λ b in_pool. same_places b ∙ s.buffers.one_place b in_pool;
       no_place = λ b out. same_places b ∙ s.buffers.no_place b out;
@@ -243,7 +279,8 @@ module _ {I : Type 0} (tags : I → List ℕ) where
       party_after : Party I
       party_after = settles (slice_index_or parties i d) record { ring = ring; side = Put; start = start; items = items }
 
-      step : (r : ℕ) (side : Side) → Settles (side_of parties r side) (side_of after r side) r side span record { ring = ring; side = Put; start = start; items = items }
+      step : (r : ℕ) (side : Side) → Settles (side_of parties r side) (side_of after r side) r side span
+          record { ring = ring; side = Put; start = start; items = items }
       step r side = settles_side_of parties i d span record { ring = ring; side = Put; start = start; items = items } r side lt busy
 
       other : (r : ℕ) (side : Side) → r ≢ ring → side_of after r side ≡ side_of parties r side
@@ -259,58 +296,76 @@ module _ {I : Type 0} (tags : I → List ℕ) where
       own = settled_own (side_of parties ring Put) (side_of after ring Put) span items ring_sound.published first (step ring Put)
 
       held_here : (p : ℕ) → open_count span p ≤ (side_of parties ring Put).openers p
-      held_here p = let h : (side_of after ring Put).openers p + open_count span p ≡ (side_of parties ring Put).openers p = ap (λ v. (side_of after ring Put).openers p + (if v && covers span p then 1 else 0)) (sym (on_own ring Put)) ∙ (step ring Put).openers p in omega arith
+      held_here p = let h : (side_of after ring Put).openers p + open_count span p ≡ (side_of parties ring Put).openers p =
+          ap (λ v. (side_of after ring Put).openers p + (if v && covers span p then 1 else 0)) (sym (on_own ring Put)) ∙ (step ring Put).openers p in
+          omega arith
 
       new : SoundRing plan.geometry (settled_on (side_of parties ring Put) span items (side_of after ring Put).reach) (side_of parties ring Take)
-      new = put_settled plan.geometry (side_of parties ring Put) (side_of parties ring Take) ring_sound span items (side_of after ring Put).reach first held_here fits room
+      new = put_settled plan.geometry (side_of parties ring Put) (side_of parties ring Take) ring_sound span items (side_of after ring Put).reach first
+          held_here fits room
 
       queue_after : queue after ring ≡ queue parties ring ++ items
       queue_after =
           ap (λ (v : RingSide I). drop v.len (listed (side_of after ring Put))) opposite
           ∙ (ap (λ (v : RingSide I). drop (side_of parties ring Take).len (listed v)) own
-          ∙ (ap (drop (side_of parties ring Take).len) (listed_settled (side_of parties ring Put) span items (side_of after ring Put).reach ring_sound.published first)
+          ∙ (ap (drop (side_of parties ring Take).len) (listed_settled (side_of parties ring Put) span items (side_of after ring Put).reach ring_sound.published
+          first)
           ∙ drop-append-le (side_of parties ring Take).len (listed (side_of parties ring Put)) items
-          (omega (arith, length-listed (side_of parties ring Put) ring_sound.published, takes_le_puts plan.geometry (side_of parties ring Put) (side_of parties ring Take) ring_sound))))
+          (omega (
+            arith,
+            length-listed (side_of parties ring Put) ring_sound.published,
+            takes_le_puts plan.geometry (side_of parties ring Put) (side_of parties ring Take) ring_sound,
+          ))))
 
       put_more : (b : ℕ) → moved tags Put b party_after ≡ occurrences_in tags b items + moved tags Put b (slice_index_or parties i d)
       put_more b = sum_by-cons (settled_times tags Put b) record { ring = ring; side = Put; start = start; items = items } (slice_index_or parties i d).settled
 
       took_same : (b : ℕ) → moved tags Take b party_after ≡ moved tags Take b (slice_index_or parties i d)
-      took_same b = omega (arith, sum_by-cons (settled_times tags Take b) record { ring = ring; side = Put; start = start; items = items } (slice_index_or parties i d).settled)
+      took_same b =
+          omega (
+            arith,
+            sum_by-cons (settled_times tags Take b) record { ring = ring; side = Put; start = start; items = items }
+                (slice_index_or parties i d).settled,
+          )
 
       had : (b : ℕ) → moved tags Put b party_after ≤ occurrences b party_after.given + moved tags Take b party_after
       had b = omega (arith, put_more b, took_same b, owned b, s.buffers.never_below_none i d b lt)
 
-      same_places : (b : ℕ) → places tags (length plans) b after ≡ places tags (length plans) b parties
+      same_places : (b : ℕ) → place_count tags (length plans) b after ≡ place_count tags (length plans) b parties
       same_places b =
           let h = sum_by-set (holds tags b) parties i party_after d lt in
-          let own_holds : holds tags b party_after + occurrences_in tags b items ≡ holds tags b (slice_index_or parties i d) = omega (arith, put_more b, took_same b, owned b) in
+          let own_holds : holds tags b party_after + occurrences_in tags b items ≡ holds tags b (slice_index_or parties i d) =
+          omega (arith, put_more b, took_same b, owned b) in
           let here : in_ring tags b after ring ≡ in_ring tags b parties ring + occurrences_in tags b items =
           ap (occurrences_in tags b) queue_after ∙ sum_by-append (λ x. occurrences b (tags x)) (queue parties ring) items in
           let on_rings = sum_range_more (in_ring tags b parties) (in_ring tags b after) 0 (length plans) ring (occurrences_in tags b items)
-          (λ r apart. ap (λ (v : RingSide I). occurrences_in tags b (drop v.len (listed (side_of after r Put)))) (other r Take apart) ∙ ap (λ (v : RingSide I). occurrences_in tags b (drop (side_of parties r Take).len (listed v))) (other r Put apart))
+          (λ r apart. ap (λ (v : RingSide I). occurrences_in tags b (drop v.len (listed (side_of after r Put)))) (other r Take apart)
+          ∙ ap (λ (v : RingSide I). occurrences_in tags b (drop (side_of parties r Take).len (listed v))) (other r Put apart))
           here (omega arith) (omega (arith, slice_get_within plans ring plan there)) in
           omega arith
 
   -- a settled take of the items that stand there keeps soundness
   pub take_keeps : (plans : List RingPlan) (pool : ℕ) (parties : List (Party I)) (i : ℕ) (d : Party I) (ring start count : ℕ) (items : List I) (plan : RingPlan)
-      → Sound tags plans pool parties → i < length parties → (slice_index_or parties i d).span ≡ Some record { ring = ring; side = Take; start = start; count = count } → slice_get plans ring ≡ Some plan
+      → Sound tags plans pool parties → i < length parties → (slice_index_or parties i d).span
+      ≡ Some record { ring = ring; side = Take; start = start; count = count } → slice_get plans ring ≡ Some plan
       → start ≡ (side_of parties ring Take).len → length items ≤ count → items ≡ take (length items) (queue parties ring)
       → Sound tags plans pool (settled_by parties i d record { ring = ring; side = Take; start = start; count = count } items)
-  unfolding places holds moved
+  unfolding place_count holds moved
   take_keeps plans pool parties i d ring start count items plan s lt busy there first fits next = record {
     rings = λ r plan' h. elim (same_or_not r ring) [
       | inl same ↦
           let e : plan' ≡ plan = same_plan (sym h ∙ (ap (slice_get plans) same ∙ there)) in
           subst (λ (v : RingPlan). SoundRing v.geometry (side_of after r Put) (side_of after r Take)) (sym e)
           (subst (λ (v : ℕ). SoundRing plan.geometry (side_of after v Put) (side_of after v Take)) (sym same)
-          (subst (λ (v : RingSide I). SoundRing plan.geometry v (side_of after ring Take)) (sym opposite) (subst (λ (v : RingSide I). SoundRing plan.geometry (side_of parties ring Put) v) (sym own) new)))
+          (subst (λ (v : RingSide I). SoundRing plan.geometry v (side_of after ring Take)) (sym opposite)
+          (subst (λ (v : RingSide I). SoundRing plan.geometry (side_of parties ring Put) v) (sym own) new)))
       | inr apart ↦
           subst (λ (v : RingSide I). SoundRing plan'.geometry v (side_of after r Take)) (sym (other r Put apart))
           (subst (λ (v : RingSide I). SoundRing plan'.geometry (side_of parties r Put) v) (sym (other r Take apart)) (s.rings r plan' h))
     ];
     buffers = record {
-      never_below_none = λ k d' b lt'. each_set (λ (party : Party I). moved tags Put b party ≤ occurrences b party.given + moved tags Take b party) parties i party_after
+      never_below_none =
+          λ k d' b lt'. each_set (λ (party : Party I). moved tags Put b party ≤ occurrences b party.given + moved tags Take b party) parties i party_after
           (λ j e h. s.buffers.never_below_none j e b h) (had b) k d' lt';
       one_place = λ b in_pool. same_places b ∙ s.buffers.one_place b in_pool;
       no_place = λ b out. same_places b ∙ s.buffers.no_place b out;
@@ -326,7 +381,8 @@ module _ {I : Type 0} (tags : I → List ℕ) where
       party_after : Party I
       party_after = settles (slice_index_or parties i d) record { ring = ring; side = Take; start = start; items = items }
 
-      step : (r : ℕ) (side : Side) → Settles (side_of parties r side) (side_of after r side) r side span record { ring = ring; side = Take; start = start; items = items }
+      step : (r : ℕ) (side : Side) → Settles (side_of parties r side) (side_of after r side) r side span
+          record { ring = ring; side = Take; start = start; items = items }
       step r side = settles_side_of parties i d span record { ring = ring; side = Take; start = start; items = items } r side lt busy
 
       other : (r : ℕ) (side : Side) → r ≢ ring → side_of after r side ≡ side_of parties r side
@@ -342,13 +398,16 @@ module _ {I : Type 0} (tags : I → List ℕ) where
       own = settled_own (side_of parties ring Take) (side_of after ring Take) span items ring_sound.dequeued first (step ring Take)
 
       held_here : (p : ℕ) → open_count span p ≤ (side_of parties ring Take).openers p
-      held_here p = let h : (side_of after ring Take).openers p + open_count span p ≡ (side_of parties ring Take).openers p = ap (λ v. (side_of after ring Take).openers p + (if v && covers span p then 1 else 0)) (sym (on_own ring Take)) ∙ (step ring Take).openers p in omega arith
+      held_here p = let h : (side_of after ring Take).openers p + open_count span p ≡ (side_of parties ring Take).openers p =
+          ap (λ v. (side_of after ring Take).openers p + (if v && covers span p then 1 else 0)) (sym (on_own ring Take)) ∙ (step ring Take).openers p in
+          omega arith
 
       stands : items ≡ take (length items) (drop start (listed (side_of parties ring Put)))
       stands = next ∙ ap (λ v. take (length items) (drop v (listed (side_of parties ring Put)))) (sym first)
 
       new : SoundRing plan.geometry (side_of parties ring Put) (settled_on (side_of parties ring Take) span items (side_of after ring Take).reach)
-      new = take_settled plan.geometry (side_of parties ring Put) (side_of parties ring Take) ring_sound span items (side_of after ring Take).reach first held_here fits stands
+      new = take_settled plan.geometry (side_of parties ring Put) (side_of parties ring Take) ring_sound span items (side_of after ring Take).reach first
+          held_here fits stands
 
       queue_after : items ++ queue after ring ≡ queue parties ring
       queue_after =
@@ -358,47 +417,61 @@ module _ {I : Type 0} (tags : I → List ℕ) where
           ∙ (ap (λ v. v ++ drop (length items) (queue parties ring)) next ∙ take-append-drop (length items) (queue parties ring))))
 
       took_more : (b : ℕ) → moved tags Take b party_after ≡ occurrences_in tags b items + moved tags Take b (slice_index_or parties i d)
-      took_more b = sum_by-cons (settled_times tags Take b) record { ring = ring; side = Take; start = start; items = items } (slice_index_or parties i d).settled
+      took_more b =
+          sum_by-cons (settled_times tags Take b) record { ring = ring; side = Take; start = start; items = items } (slice_index_or parties i d).settled
 
       put_same : (b : ℕ) → moved tags Put b party_after ≡ moved tags Put b (slice_index_or parties i d)
-      put_same b = omega (arith, sum_by-cons (settled_times tags Put b) record { ring = ring; side = Take; start = start; items = items } (slice_index_or parties i d).settled)
+      put_same b =
+          omega (
+            arith,
+            sum_by-cons (settled_times tags Put b) record { ring = ring; side = Take; start = start; items = items }
+                (slice_index_or parties i d).settled,
+          )
 
       had : (b : ℕ) → moved tags Put b party_after ≤ occurrences b party_after.given + moved tags Take b party_after
       had b = omega (arith, took_more b, put_same b, s.buffers.never_below_none i d b lt)
 
-      same_places : (b : ℕ) → places tags (length plans) b after ≡ places tags (length plans) b parties
+      same_places : (b : ℕ) → place_count tags (length plans) b after ≡ place_count tags (length plans) b parties
       same_places b =
           let h = sum_by-set (holds tags b) parties i party_after d lt in
-          let own_holds : holds tags b party_after ≡ holds tags b (slice_index_or parties i d) + occurrences_in tags b items = omega (arith, took_more b, put_same b, s.buffers.never_below_none i d b lt) in
+          let own_holds : holds tags b party_after ≡ holds tags b (slice_index_or parties i d) + occurrences_in tags b items =
+          omega (arith, took_more b, put_same b, s.buffers.never_below_none i d b lt) in
           let here : in_ring tags b parties ring ≡ in_ring tags b after ring + occurrences_in tags b items =
           let split = sum_by-append (λ x. occurrences b (tags x)) items (queue after ring) in
-          let joined : occurrences_in tags b (items ++ queue after ring) ≡ occurrences_in tags b (queue parties ring) = ap (occurrences_in tags b) queue_after in
+          let joined : occurrences_in tags b (items ++ queue after ring) ≡ occurrences_in tags b (queue parties ring) =
+          ap (occurrences_in tags b) queue_after in
           omega arith in
           let on_rings = sum_range_more (in_ring tags b after) (in_ring tags b parties) 0 (length plans) ring (occurrences_in tags b items)
-          (λ r apart. sym (ap (λ (v : RingSide I). occurrences_in tags b (drop v.len (listed (side_of after r Put)))) (other r Take apart) ∙ ap (λ (v : RingSide I). occurrences_in tags b (drop (side_of parties r Take).len (listed v))) (other r Put apart)))
+          (λ r apart. sym (ap (λ (v : RingSide I). occurrences_in tags b (drop v.len (listed (side_of after r Put)))) (other r Take apart)
+          ∙ ap (λ (v : RingSide I). occurrences_in tags b (drop (side_of parties r Take).len (listed v))) (other r Put apart)))
           here (omega arith) (omega (arith, slice_get_within plans ring plan there)) in
           omega arith
 
   -- a newcomer without spans and buffers keeps soundness
-  pub newcomer_keeps : (plans : List RingPlan) (pool : ℕ) (parties : List (Party I)) → Sound tags plans pool parties → Sound tags plans pool (parties ++ newcomer [] ∷ [])
-  unfolding places holds moved
+  pub newcomer_keeps : (plans : List RingPlan) (pool : ℕ) (parties : List (Party I)) → Sound tags plans pool parties
+      → Sound tags plans pool (parties ++ newcomer [] ∷ [])
+  unfolding place_count holds moved
   newcomer_keeps plans pool parties s = record {
     rings = λ r plan h.
         subst (λ (v : RingSide I). SoundRing plan.geometry v (side_of (parties ++ newcomer [] ∷ []) r Take)) (sym (side_of_newcomer parties [] r Put))
         (subst (λ (v : RingSide I). SoundRing plan.geometry (side_of parties r Put) v) (sym (side_of_newcomer parties [] r Take)) (s.rings r plan h));
     buffers = record {
-      never_below_none = λ k d b lt. each_push (λ (party : Party I). moved tags Put b party ≤ occurrences b party.given + moved tags Take b party) parties (newcomer []) (λ j e h. s.buffers.never_below_none j e b h) (omega arith) k d lt;
+      never_below_none =
+          λ k d b lt. each_push (λ (party : Party I). moved tags Put b party ≤ occurrences b party.given + moved tags Take b party) parties (newcomer [])
+          (λ j e h. s.buffers.never_below_none j e b h) (omega arith) k d lt;
       one_place = λ b in_pool. same_places b ∙ s.buffers.one_place b in_pool;
       no_place = λ b out. same_places b ∙ s.buffers.no_place b out;
     };
   }
     where
-      same_places : (b : ℕ) → places tags (length plans) b (parties ++ newcomer [] ∷ []) ≡ places tags (length plans) b parties
+      same_places : (b : ℕ) → place_count tags (length plans) b (parties ++ newcomer [] ∷ []) ≡ place_count tags (length plans) b parties
       same_places b =
           let h = sum_by-append (holds tags b) parties (newcomer [] ∷ []) in
-          let rings : sum_by (in_ring tags b (parties ++ newcomer [] ∷ [])) (range_with_len 0 (length plans)) ≡ sum_by (in_ring tags b parties) (range_with_len 0 (length plans)) =
+          let rings : sum_by (in_ring tags b (parties ++ newcomer [] ∷ [])) (range_with_len 0 (length plans))
+          ≡ sum_by (in_ring tags b parties) (range_with_len 0 (length plans)) =
           sum_by_same (in_ring tags b (parties ++ newcomer [] ∷ [])) (in_ring tags b parties) (range_with_len 0 (length plans))
-          (λ r. ap (λ (v : RingSide I). occurrences_in tags b (drop v.len (listed (side_of (parties ++ newcomer [] ∷ []) r Put)))) (side_of_newcomer parties [] r Take)
+          (λ r. ap (λ (v : RingSide I). occurrences_in tags b (drop v.len (listed (side_of (parties ++ newcomer [] ∷ []) r Put))))
+          (side_of_newcomer parties [] r Take)
           ∙ ap (λ (v : RingSide I). occurrences_in tags b (drop (side_of parties r Take).len (listed v))) (side_of_newcomer parties [] r Put)) in
           omega arith
 
@@ -422,16 +495,20 @@ module _ {I : Type 0} (tags : I → List ℕ) where
 
   -- two parties without open spans made one keep soundness. The second's place is a newcomer's from then on
   pub joined_keeps : (plans : List RingPlan) (pool : ℕ) (parties : List (Party I)) (i j : ℕ) (d : Party I)
-      → Sound tags plans pool parties → i < length parties → j < length parties → j ≢ i → (slice_index_or parties i d).span ≡ None → (slice_index_or parties j d).span ≡ None
+      → Sound tags plans pool parties → i < length parties → j < length parties → j ≢ i → (slice_index_or parties i d).span ≡ None
+      → (slice_index_or parties j d).span ≡ None
       → Sound tags plans pool (joined_by parties i j d)
-  unfolding places holds moved
+  unfolding place_count holds moved
   joined_keeps plans pool parties i j d s at_i at_j apart idle_i idle_j = record {
     rings = λ r plan h.
         subst (λ (v : RingSide I). SoundRing plan.geometry v (side_of after r Take)) (sym (same_put r plan h))
         (subst (λ (v : RingSide I). SoundRing plan.geometry (side_of parties r Put) v) (sym (same_take r plan h)) (s.rings r plan h));
     buffers = record {
-      never_below_none = λ k d' b lt. each_set (λ (party : Party I). moved tags Put b party ≤ occurrences b party.given + moved tags Take b party) (slice_set parties i both) j (newcomer [])
-          (each_set (λ (party : Party I). moved tags Put b party ≤ occurrences b party.given + moved tags Take b party) parties i both (λ k e h. s.buffers.never_below_none k e b h) (had b)) (omega arith) k d' lt;
+      never_below_none =
+          λ k d' b lt. each_set (λ (party : Party I). moved tags Put b party ≤ occurrences b party.given + moved tags Take b party) (slice_set parties i both) j
+          (newcomer [])
+          (each_set (λ (party : Party I). moved tags Put b party ≤ occurrences b party.given + moved tags Take b party) parties i both
+          (λ k e h. s.buffers.never_below_none k e b h) (had b)) (omega arith) k d' lt;
       one_place = λ b in_pool. same_places b ∙ s.buffers.one_place b in_pool;
       no_place = λ b out. same_places b ∙ s.buffers.no_place b out;
     };
@@ -464,9 +541,10 @@ module _ {I : Type 0} (tags : I → List ℕ) where
       had : (b : ℕ) → moved tags Put b both ≤ occurrences b both.given + moved tags Take b both
       had b = omega (arith, moved_both Put b, moved_both Take b, given_both b, s.buffers.never_below_none i d b at_i, s.buffers.never_below_none j d b at_j)
 
-      same_places : (b : ℕ) → places tags (length plans) b after ≡ places tags (length plans) b parties
+      same_places : (b : ℕ) → place_count tags (length plans) b after ≡ place_count tags (length plans) b parties
       same_places b =
-          let held_both : holds tags b both ≡ holds tags b a + holds tags b b' = omega (arith, moved_both Put b, moved_both Take b, given_both b, s.buffers.never_below_none i d b at_i, s.buffers.never_below_none j d b at_j) in
+          let held_both : holds tags b both ≡ holds tags b a + holds tags b b' =
+          omega (arith, moved_both Put b, moved_both Take b, given_both b, s.buffers.never_below_none i d b at_i, s.buffers.never_below_none j d b at_j) in
           let parties_same = sum_by_joined (holds tags b) parties i j both (newcomer []) d at_i at_j apart held_both refl in
           let rings_same = range_same (in_ring tags b parties) (in_ring tags b after) 0 (length plans)
           (λ r low high.

@@ -6,6 +6,12 @@ pub mod HeadTailLaws
 pub mod HandLaws
 pub mod Queues
 pub mod Rows
+pub mod LookRows
+pub mod SettleRows
+pub mod PlaceRows
+pub mod WornRows
+pub mod Unsound
+pub mod Unruled
 pub mod HistoryLaws
 pub mod OpeningLaws
 pub mod RunLaws

@@ -11,13 +11,15 @@ use Rattle.std.proofs.lemmas.Option.{slice_get_past}
 use Rattle.ringcore_laws.specs.RingSide.{greatest, item_at}
 
 -- an element that counts as much as the one before it changes no flat_map
-pub flat_map-set_same : {X A : Type 0} (f : X → List A) (xs : List X) (i : ℕ) (y d : X) → i < length xs → f y ≡ f (slice_index_or xs i d) → flat_map f (slice_set xs i y) ≡ flat_map f xs
+pub flat_map-set_same : {X A : Type 0} (f : X → List A) (xs : List X) (i : ℕ) (y d : X) → i < length xs → f y ≡ f (slice_index_or xs i d)
+    → flat_map f (slice_set xs i y) ≡ flat_map f xs
 flat_map-set_same f [] i y d lt e = absurd (omega arith)
 flat_map-set_same f (x ∷ xs) zero y d lt e = ap (λ a. a ++ flat_map f xs) e
 flat_map-set_same f (x ∷ xs) (suc i) y d lt e = ap (λ a. f x ++ a) (flat_map-set_same f xs i y d (omega arith) e)
 
 -- where nothing was, there is what the new element has
-pub flat_map-set_only : {X A : Type 0} (f : X → List A) (xs : List X) (i : ℕ) (y : X) → i < length xs → length (flat_map f xs) ≡ 0 → flat_map f (slice_set xs i y) ≡ f y
+pub flat_map-set_only : {X A : Type 0} (f : X → List A) (xs : List X) (i : ℕ) (y : X) → i < length xs → length (flat_map f xs) ≡ 0
+    → flat_map f (slice_set xs i y) ≡ f y
 flat_map-set_only f [] i y lt e = absurd (omega arith)
 flat_map-set_only f (x ∷ xs) zero y lt e =
     let two : length (f x) + length (flat_map f xs) ≡ 0 = sym (length-append (f x) (flat_map f xs)) ∙ e in
@@ -27,7 +29,8 @@ flat_map-set_only f (x ∷ xs) (suc i) y lt e =
     ap (λ a. a ++ flat_map f (slice_set xs i y)) (nil_from_length (f x) (omega arith)) ∙ flat_map-set_only f xs i y (omega arith) (omega arith)
 
 -- where there is one at most, and an element has one, that is it
-pub flat_map_one : {X A : Type 0} (f : X → List A) (xs : List X) (i : ℕ) (d : X) → i < length xs → length (flat_map f xs) ≤ 1 → 0 < length (f (slice_index_or xs i d)) → flat_map f xs ≡ f (slice_index_or xs i d)
+pub flat_map_one : {X A : Type 0} (f : X → List A) (xs : List X) (i : ℕ) (d : X) → i < length xs → length (flat_map f xs) ≤ 1
+    → 0 < length (f (slice_index_or xs i d)) → flat_map f xs ≡ f (slice_index_or xs i d)
 flat_map_one f [] i d lt one some = absurd (omega arith)
 flat_map_one f (x ∷ xs) zero d lt one some =
     let two : length (flat_map f (x ∷ xs)) ≡ length (f x) + length (flat_map f xs) = length-append (f x) (flat_map f xs) in
@@ -56,7 +59,8 @@ sum_by_joined f xs i j m e d at_i at_j apart both none =
 
 -- the same for a flat_map that has one at most
 pub flat_map_joined : {X A : Type 0} (f : X → List A) (xs : List X) (i j : ℕ) (m e d : X) → i < length xs → j < length xs → j ≢ i
-    → f m ≡ f (slice_index_or xs i d) ++ f (slice_index_or xs j d) → f e ≡ [] → length (flat_map f xs) ≤ 1 → flat_map f (slice_set (slice_set xs i m) j e) ≡ flat_map f xs
+    → f m ≡ f (slice_index_or xs i d) ++ f (slice_index_or xs j d) → f e ≡ [] → length (flat_map f xs) ≤ 1
+    → flat_map f (slice_set (slice_set xs i m) j e) ≡ flat_map f xs
 flat_map_joined {X} {A} f xs i j m e d at_i at_j apart both none one = by_cases (f (slice_index_or xs j d)) refl
   where
     inside : j < length (slice_set xs i m)
@@ -68,7 +72,8 @@ flat_map_joined {X} {A} f xs i j m e d at_i at_j apart both none one = by_cases 
     len : length (flat_map f (slice_set (slice_set xs i m) j e)) ≡ length (flat_map f xs)
     len =
         length-flat_map f (slice_set (slice_set xs i m) j e)
-        ∙ (sum_by_joined (λ x. length (f x)) xs i j m e d at_i at_j apart (ap length both ∙ length-append (f (slice_index_or xs i d)) (f (slice_index_or xs j d))) (ap length none)
+        ∙ (sum_by_joined (λ x. length (f x)) xs i j m e d at_i at_j apart
+        (ap length both ∙ length-append (f (slice_index_or xs i d)) (f (slice_index_or xs j d))) (ap length none)
         ∙ sym (length-flat_map f xs))
 
     kept : slice_index_or (slice_set (slice_set xs i m) j e) i d ≡ m
@@ -80,7 +85,8 @@ flat_map_joined {X} {A} f xs i j m e d at_i at_j apart both none one = by_cases 
         ∙ flat_map-set_same f xs i m d at_i (both ∙ (ap (λ a. f (slice_index_or xs i d) ++ a) h ∙ append-nil _))
     by_cases (a ∷ rest) h =
         let some : 0 < length (f (slice_index_or xs j d)) = subst (λ (v : List A). 0 < length v) (sym h) (omega arith) in
-        let has : length (f m) ≡ length (f (slice_index_or xs i d)) + length (f (slice_index_or xs j d)) = ap length both ∙ length-append (f (slice_index_or xs i d)) (f (slice_index_or xs j d)) in
+        let has : length (f m) ≡ length (f (slice_index_or xs i d)) + length (f (slice_index_or xs j d)) =
+        ap length both ∙ length-append (f (slice_index_or xs i d)) (f (slice_index_or xs j d)) in
         let whole = flat_map_one f xs j d at_j one some in
         let lt : i < length (slice_set (slice_set xs i m) j e) = rw (length-set, length-set) at_i in
         let there : 0 < length (f (slice_index_or (slice_set (slice_set xs i m) j e) i d)) = subst (λ (v : X). 0 < length (f v)) (sym kept) (omega arith) in
@@ -112,7 +118,8 @@ greatest_ge f [] i d lt = absurd (omega arith)
 greatest_ge f (x ∷ xs) zero d lt = omega arith
 greatest_ge f (x ∷ xs) (suc i) d lt = omega (arith, greatest_ge f xs i d (omega arith))
 
-pub greatest-set : {X : Type 0} (f : X → ℕ) (xs : List X) (i : ℕ) (y d : X) → i < length xs → max (greatest f (slice_set xs i y)) (f (slice_index_or xs i d)) ≡ max (greatest f xs) (f y)
+pub greatest-set : {X : Type 0} (f : X → ℕ) (xs : List X) (i : ℕ) (y d : X) → i < length xs
+    → max (greatest f (slice_set xs i y)) (f (slice_index_or xs i d)) ≡ max (greatest f xs) (f y)
 greatest-set f [] i y d lt = absurd (omega arith)
 greatest-set f (x ∷ xs) zero y d lt = omega arith
 greatest-set f (x ∷ xs) (suc i) y d lt = omega (arith, greatest-set f xs i y d (omega arith))
@@ -132,8 +139,10 @@ greatest_joined f xs i j m e d at_i at_j apart both none =
     let h4 = greatest_ge f xs i d at_i in
     let h5 = greatest_ge f xs j d at_j in
     let h6 = greatest_ge f (slice_set (slice_set xs i m) j e) i d lt in
-    let h7 : f (slice_index_or (slice_set (slice_set xs i m) j e) i d) ≡ f m = ap f (get_or-set_other (slice_set xs i m) j i e d (λ h. apart (sym h)) ∙ get_or-set_same xs i m d at_i) in
-    let h8 : f m ≤ greatest f (slice_set xs i m) = omega (arith, greatest_ge f (slice_set xs i m) i d (rw length-set at_i), ap f (get_or-set_same xs i m d at_i)) in
+    let h7 : f (slice_index_or (slice_set (slice_set xs i m) j e) i d) ≡ f m =
+    ap f (get_or-set_other (slice_set xs i m) j i e d (λ h. apart (sym h)) ∙ get_or-set_same xs i m d at_i) in
+    let h8 : f m ≤ greatest f (slice_set xs i m) =
+    omega (arith, greatest_ge f (slice_set xs i m) i d (rw length-set at_i), ap f (get_or-set_same xs i m d at_i)) in
     omega arith
 
 -- items at positions
@@ -149,18 +158,21 @@ item_at_past start items p le = item_at_in start items p (omega arith) ∙ ap op
 
 pub item_at_step : {A : Type 0} (start : ℕ) (x : A) (items : List A) (p : ℕ) → start < p → item_at start (x ∷ items) p ≡ item_at (start + 1) items p
 item_at_step start x items p lt =
-    item_at_in start (x ∷ items) p (omega arith) ∙ (ap (λ n. option_to_list (slice_get (x ∷ items) n)) shift ∙ sym (item_at_in (start + 1) items p (omega arith)))
+    item_at_in start (x ∷ items) p (omega arith) ∙ (ap (λ n. option_to_list (slice_get (x ∷ items) n)) shift
+    ∙ sym (item_at_in (start + 1) items p (omega arith)))
   where
     shift : p - start ≡ suc (p - (start + 1))
     shift = omega arith
 
-pub flat_map_range_same : {A : Type 0} (f g : ℕ → List A) (a n : ℕ) → ((p : ℕ) → a ≤ p → p < a + n → f p ≡ g p) → flat_map f (range_with_len a n) ≡ flat_map g (range_with_len a n)
+pub flat_map_range_same : {A : Type 0} (f g : ℕ → List A) (a n : ℕ) → ((p : ℕ) → a ≤ p → p < a + n → f p ≡ g p)
+    → flat_map f (range_with_len a n) ≡ flat_map g (range_with_len a n)
 flat_map_range_same f g a zero h = refl
 flat_map_range_same f g a (suc n) h =
     ap (λ v. v ++ flat_map f (range_with_len (a + 1) n)) (h a (omega arith) (omega arith))
     ∙ ap (λ v. g a ++ v) (flat_map_range_same f g (a + 1) n (λ p le lt. h p (omega arith) (omega arith)))
 
-pub flat_map_range_split : {A : Type 0} (f : ℕ → List A) (a m n : ℕ) → flat_map f (range_with_len a (m + n)) ≡ flat_map f (range_with_len a m) ++ flat_map f (range_with_len (a + m) n)
+pub flat_map_range_split : {A : Type 0} (f : ℕ → List A) (a m n : ℕ)
+    → flat_map f (range_with_len a (m + n)) ≡ flat_map f (range_with_len a m) ++ flat_map f (range_with_len (a + m) n)
 flat_map_range_split f a zero n =
     let e : 0 + n ≡ n = omega arith in
     let e' : a ≡ a + 0 = omega arith in
@@ -176,8 +188,10 @@ flat_map_range_split f a (suc m) n =
 pub flat_map_range_items : {A : Type 0} (a : ℕ) (xs : List A) → flat_map (item_at a xs) (range_with_len a (length xs)) ≡ xs
 flat_map_range_items a [] = refl
 flat_map_range_items a (x ∷ xs) =
-    ap (λ v. v ++ flat_map (item_at a (x ∷ xs)) (range_with_len (a + 1) (length xs))) (item_at_in a (x ∷ xs) a (omega arith) ∙ ap (λ n. option_to_list (slice_get (x ∷ xs) n)) here)
-    ∙ ap (λ v. x ∷ v) (flat_map_range_same (item_at a (x ∷ xs)) (item_at (a + 1) xs) (a + 1) (length xs) (λ p le lt. item_at_step a x xs p (omega arith)) ∙ flat_map_range_items (a + 1) xs)
+    ap (λ v. v ++ flat_map (item_at a (x ∷ xs)) (range_with_len (a + 1) (length xs)))
+    (item_at_in a (x ∷ xs) a (omega arith) ∙ ap (λ n. option_to_list (slice_get (x ∷ xs) n)) here)
+    ∙ ap (λ v. x ∷ v) (flat_map_range_same (item_at a (x ∷ xs)) (item_at (a + 1) xs) (a + 1) (length xs) (λ p le lt. item_at_step a x xs p (omega arith))
+    ∙ flat_map_range_items (a + 1) xs)
   where
     here : a - a ≡ 0
     here = omega arith

@@ -20,7 +20,8 @@ use Rattle.ringcore_laws.specs.HeadTailRule.{base}
 use Rattle.ringcore_laws.specs.Invariant.{Invariant, IsBehind}
 use Rattle.ringcore_laws.specs.FreeRings.{FreeRule}
 use Rattle.ringcore_laws.specs.Refusals.{is_room_answer}
-use Rattle.ringcore_laws.specs.History.{Actor, after_step, is_busy, look_reply, on_ring, other_side, own_word, parties_of, position_of, reply_of, room_reply, sees, tags, with_tail}
+use Rattle.ringcore_laws.specs.History.{Actor, after_step, is_busy, look_reply, on_ring, other_side, own_word, parties_of, position_of, actor_reply, room_reply}
+use Rattle.ringcore_laws.specs.History.{sees, tags, with_tail}
 use Rattle.ringcore_laws.proofs.Laws.{same_or_not, same_plan}
 use Rattle.ringcore_laws.proofs.Lists.{get_set, get_set_other}
 use Rattle.ringcore_laws.proofs.HistoryLaws.{on_true}
@@ -100,7 +101,8 @@ module _ (plans : List RingPlan) (pool : ℕ) (actors : List Actor) (found : ℕ
   }
 
   -- the actor that stepped, where its look is as it was
-  same_look : (b : Actor) → Change b → b.observed ≡ me.observed → (s : Observed) → b.observed ≡ Some s → LookLaw plans pool (slice_set actors j b) (found j) j b s
+  same_look : (b : Actor) → Change b → b.observed ≡ me.observed → (s : Observed) → b.observed ≡ Some s
+      → LookLaw plans pool (slice_set actors j b) (found j) j b s
   same_look b (inl same) kept s seen = lifted b (inl same) (found j) j me b s same (looks.each j me s mine (sym kept ∙ seen))
   same_look b (inr (inl o)) kept s seen = absurd (let u : None ≡ Some s = sym o.look ∙ seen in cc)
   same_look b (inr (inr c)) kept s seen =
@@ -113,17 +115,24 @@ module _ (plans : List RingPlan) (pool : ℕ) (actors : List Actor) (found : ℕ
       → Some record { ring = ring; side = side; looked_at = w; tail_seen = None } ≡ Some s
       → LookLaw plans pool (slice_set actors j (after_step me (Look ring side) (Seen w))) (found j) j (after_step me (Look ring side) (Seen w)) s
   new_look ring side w o is right s seen =
-      let told = on_some_ring o (λ plan. look_reply (mode_of plan side) (side_of parties ring side) me) (Seen w) (λ e. (let u : NoSpan ≡ Seen w = e in cc)) right in
+      let told =
+      on_some_ring o (λ plan. look_reply (mode_of plan side) (side_of parties ring side) me) (Seen w) (λ e. (let u : NoSpan ≡ Seen w = e in cc)) right in
       let look = look_seen_tells (mode_of told.0 side) (side_of parties ring side) me w told.2 in
       let position : position_of (mode_of told.0 side) w ≡ base (mode_of told.0 side) (side_of parties ring side) =
       ap (position_of (mode_of told.0 side)) (sym look.2) ∙ own_position (mode_of told.0 side) (side_of parties ring side) look.1 in
-      subst (λ (v : Observed). LookLaw plans pool (slice_set actors j (after_step me (Look ring side) (Seen w))) (found j) j (after_step me (Look ring side) (Seen w)) v)
+      subst (λ (v : Observed). LookLaw plans pool (slice_set actors j (after_step me (Look ring side) (Seen w))) (found j) j
+      (after_step me (Look ring side) (Seen w)) v)
       (same_plan seen) record {
         idle = look.0;
         behind = still_behind (after_step me (Look ring side) (Seen w)) (inl refl) record { ring = ring; side = side; looked_at = w; tail_seen = None }
             (λ plan there.
             let same : told.0 ≡ plan = same_plan (sym (is ∙ told.1) ∙ there) in
-            omega (arith, ap (λ (v : RingPlan). position_of (mode_of v side) w) same, ap (λ (v : RingPlan). base (mode_of v side) (side_of parties ring side)) same, position));
+            omega (
+              arith,
+              ap (λ (v : RingPlan). position_of (mode_of v side) w) same,
+              ap (λ (v : RingPlan). base (mode_of v side) (side_of parties ring side)) same,
+              position,
+            ));
         asked = λ t none. absurd (let u : None ≡ Some t = none in cc);
       }
 
@@ -133,7 +142,8 @@ module _ (plans : List RingPlan) (pool : ℕ) (actors : List Actor) (found : ℕ
       → with_tail me.observed t ≡ Some s
       → LookLaw plans pool (slice_set actors j (after_step me (Room ring side) (Seen t))) (Some actors) j (after_step me (Room ring side) (Seen t)) s
   new_room ring side t o is right s seen =
-      let told = on_some_ring o (λ plan. room_reply ring side (side_of parties ring (other_side side)) me) (Seen t) (λ e. (let u : NoSpan ≡ Seen t = e in cc)) right in
+      let told =
+      on_some_ring o (λ plan. room_reply ring side (side_of parties ring (other_side side)) me) (Seen t) (λ e. (let u : NoSpan ≡ Seen t = e in cc)) right in
       let room = room_seen_tells ring side (side_of parties ring (other_side side)) me t told.2 in
       by_look me.observed refl room.1 seen room.0 room.2
     where
@@ -146,10 +156,12 @@ module _ (plans : List RingPlan) (pool : ℕ) (actors : List Actor) (found : ℕ
           let place = on_true old.ring ring old.side side on in
           let tail : t ≡ (side_of parties old.ring (other_side old.side)).len =
           sym len ∙ (ap (λ r. (side_of parties r (other_side side)).len) place.0 ∙ ap (λ v. (side_of parties old.ring (other_side v)).len) place.1) in
-          subst (λ (v : Observed). LookLaw plans pool (slice_set actors j (after_step me (Room ring side) (Seen t))) (Some actors) j (after_step me (Room ring side) (Seen t)) v)
+          subst (λ (v : Observed). LookLaw plans pool (slice_set actors j (after_step me (Room ring side) (Seen t))) (Some actors) j
+          (after_step me (Room ring side) (Seen t)) v)
           (same_plan with) record {
             idle = idle;
-            behind = still_behind (after_step me (Room ring side) (Seen t)) (inl refl) record { ring = old.ring; side = old.side; looked_at = old.looked_at; tail_seen = Some t } law.behind;
+            behind = still_behind (after_step me (Room ring side) (Seen t)) (inl refl)
+                record { ring = old.ring; side = old.side; looked_at = old.looked_at; tail_seen = Some t } law.behind;
             asked = λ t' same. record {
               past = actors;
               is = refl;
@@ -164,8 +176,9 @@ module _ (plans : List RingPlan) (pool : ℕ) (actors : List Actor) (found : ℕ
           }
 
   -- the look of the actor that stepped
-  own_look : (step : Step) (reply : Reply) → reply_of plans pool parties me step ≡ reply → (s : Observed) → (after_step me step reply).observed ≡ Some s
-      → LookLaw plans pool (slice_set actors j (after_step me step reply)) (if is_room_answer step reply then Some actors else found j) j (after_step me step reply) s
+  own_look : (step : Step) (reply : Reply) → actor_reply plans pool parties me step ≡ reply → (s : Observed) → (after_step me step reply).observed ≡ Some s
+      → LookLaw plans pool (slice_set actors j (after_step me step reply)) (if is_room_answer step reply then Some actors else found j) j
+      (after_step me step reply) s
   own_look (Look ring side) (Seen w) right s seen = new_look ring side w (slice_get plans ring) refl right s seen
   own_look (Look ring side) (Busy w) right s seen = absurd (let u : None ≡ Some s = seen in cc)
   own_look (Look ring side) reply right s seen = same_look me (inl refl) refl s seen
@@ -175,34 +188,42 @@ module _ (plans : List RingPlan) (pool : ℕ) (actors : List Actor) (found : ℕ
   own_look (Reserve ring side how count) (Granted start n left) right s seen = absurd (let u : None ≡ Some s = seen in cc)
   own_look (Reserve ring side how count) reply right s seen = absurd (let u : None ≡ Some s = seen in cc)
   own_look (SettlePut ring items) (Done n its) right s seen =
-      same_look (after_step me (SettlePut ring items) (Done n its)) (changes plans pool actors j me lt at k (SettlePut ring items) (Done n its) right) refl s seen
+      same_look (after_step me (SettlePut ring items) (Done n its)) (changes plans pool actors j me lt at k (SettlePut ring items) (Done n its) right) refl s
+      seen
   own_look (SettlePut ring items) reply right s seen = same_look me (inl refl) refl s seen
   own_look (SettleTake ring count) (Done n its) right s seen =
-      same_look (after_step me (SettleTake ring count) (Done n its)) (changes plans pool actors j me lt at k (SettleTake ring count) (Done n its) right) refl s seen
+      same_look (after_step me (SettleTake ring count) (Done n its)) (changes plans pool actors j me lt at k (SettleTake ring count) (Done n its) right) refl s
+      seen
   own_look (SettleTake ring count) reply right s seen = same_look me (inl refl) refl s seen
   own_look (Stash b) (Seen c) right s seen = same_look (after_step me (Stash b) (Seen c)) (inl refl) refl s seen
   own_look (Stash b) reply right s seen = same_look me (inl refl) refl s seen
   own_look (Unstash b) (Seen c) right s seen = same_look (after_step me (Unstash b) (Seen c)) (inl refl) refl s seen
   own_look (Unstash b) reply right s seen = same_look me (inl refl) refl s seen
 
-  pub looks_after : (step : Step) (reply : Reply) → reply_of plans pool parties me step ≡ reply
+  pub looks_after : (step : Step) (reply : Reply) → actor_reply plans pool parties me step ≡ reply
       → Looks plans pool (slice_set actors j (after_step me step reply)) (λ i. if (j == i) && is_room_answer step reply then Some actors else found i)
   looks_after step reply right = record { each = λ i a s here seen. by_actor i a s here seen (same_or_not i j) }
     where
       b : Actor
       b = after_step me step reply
 
-      by_actor : (i : ℕ) (a : Actor) (s : Observed) → slice_get (slice_set actors j (after_step me step reply)) i ≡ Some a → a.observed ≡ Some s → (i ≡ j) ⊎ (i ≢ j)
+      by_actor : (i : ℕ) (a : Actor) (s : Observed) → slice_get (slice_set actors j (after_step me step reply)) i ≡ Some a → a.observed ≡ Some s
+          → (i ≡ j) ⊎ (i ≢ j)
           → LookLaw plans pool (slice_set actors j (after_step me step reply)) (if (j == i) && is_room_answer step reply then Some actors else found i) i a s
       by_actor i a s here seen (inl same) =
-          let is : after_step me step reply ≡ a = get_set actors j (after_step me step reply) a (ap (slice_get (slice_set actors j (after_step me step reply))) (sym same) ∙ here) in
+          let is : after_step me step reply ≡ a =
+          get_set actors j (after_step me step reply) a (ap (slice_get (slice_set actors j (after_step me step reply))) (sym same) ∙ here) in
           let own = own_look step reply right s (ap (λ (v : Actor). v.observed) is ∙ seen) in
           let test : (j == j) ≡ true = grind (arith, nat_tests) in
-          subst (λ (v : ℕ). LookLaw plans pool (slice_set actors j (after_step me step reply)) (if (j == v) && is_room_answer step reply then Some actors else found v) v a s) (sym same)
-          (subst (λ (v : Actor). LookLaw plans pool (slice_set actors j (after_step me step reply)) (if (j == j) && is_room_answer step reply then Some actors else found j) j v s) is
-          (subst (λ (t : Bool). LookLaw plans pool (slice_set actors j (after_step me step reply)) (if t && is_room_answer step reply then Some actors else found j) j (after_step me step reply) s) (sym test) own))
+          subst (λ (v : ℕ). LookLaw plans pool (slice_set actors j (after_step me step reply))
+          (if (j == v) && is_room_answer step reply then Some actors else found v) v a s) (sym same)
+          (subst (λ (v : Actor). LookLaw plans pool (slice_set actors j (after_step me step reply))
+          (if (j == j) && is_room_answer step reply then Some actors else found j) j v s) is
+          (subst (λ (t : Bool). LookLaw plans pool (slice_set actors j (after_step me step reply))
+          (if t && is_room_answer step reply then Some actors else found j) j (after_step me step reply) s) (sym test) own))
       by_actor i a s here seen (inr apart) =
           let test : (j == i) ≡ false = grind (arith, nat_tests) in
           let old = looks.each i a s (sym (get_set_other actors j i (after_step me step reply) apart) ∙ here) seen in
-          subst (λ (t : Bool). LookLaw plans pool (slice_set actors j (after_step me step reply)) (if t && is_room_answer step reply then Some actors else found i) i a s) (sym test)
+          subst (λ (t : Bool). LookLaw plans pool (slice_set actors j (after_step me step reply))
+          (if t && is_room_answer step reply then Some actors else found i) i a s) (sym test)
           (lifted (after_step me step reply) (changes plans pool actors j me lt at k step reply right) (found i) i a a s refl old)

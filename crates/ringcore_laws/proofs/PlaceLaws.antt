@@ -13,7 +13,7 @@ use Rattle.ringcore_laws.specs.declared.protocol.Step.{Step}
 use Rattle.ringcore_laws.specs.declared.protocol.Place.TheVariants.{AtRing, Held, Cached}
 use Rattle.ringcore_laws.specs.declared.party.Party.{Party}
 use Rattle.ringcore_laws.specs.RingSide.{side_of}
-use Rattle.ringcore_laws.specs.Sound.{holds, in_ring, occurrences, occurrences_in, places, queue}
+use Rattle.ringcore_laws.specs.Sound.{holds, in_ring, occurrences, occurrences_in, place_count, queue}
 use Rattle.ringcore_laws.specs.History.{Actor, after_all, is_cached, opening, parties_of, tags}
 use Rattle.ringcore_laws.specs.Place.{all_places, place_with, places_on, places_with, positions_from, queued_at}
 use Rattle.ringcore_laws.specs.Runs.{IsPlan, history_of}
@@ -69,9 +69,9 @@ actors_counted b i (a ∷ actors) le =
     omega (arith, sum, one, rest, length-append (place_with b i a) (places_with b (i + 1) actors))
 
 -- as many places as soundness counts
-places_counted : (rings b : ℕ) (actors : List Actor) → places tags rings b (parties_of actors) ≤ 1
-    → length (all_places rings actors b) ≡ places tags rings b (parties_of actors)
-unfolding places
+places_counted : (rings b : ℕ) (actors : List Actor) → place_count tags rings b (parties_of actors) ≤ 1
+    → length (all_places rings actors b) ≡ place_count tags rings b (parties_of actors)
+unfolding place_count
 places_counted rings b actors le =
     let on = rings_counted b (parties_of actors) rings (omega (arith, le)) in
     let with = actors_counted b 0 actors (omega (arith, le)) in

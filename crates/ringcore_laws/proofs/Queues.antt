@@ -17,8 +17,10 @@ use Rattle.ringcore_laws.proofs.RingLaws.{length-listed, listed_settled, takes_l
 use Rattle.ringcore_laws.proofs.Laws.{on_own, off_put, off_take, settled_own, settled_other}
 
 module _ {I : Type 0} where
-  pub put_queue : (e : Extent) (parties : List (Party I)) (i : ℕ) (d : Party I) (ring start count : ℕ) (items : List I) → SoundRing e (side_of parties ring Put) (side_of parties ring Take)
-      → i < length parties → (slice_index_or parties i d).span ≡ Some record { ring = ring; side = Put; start = start; count = count } → start ≡ (side_of parties ring Put).len
+  pub put_queue : (e : Extent) (parties : List (Party I)) (i : ℕ) (d : Party I) (ring start count : ℕ) (items : List I)
+      → SoundRing e (side_of parties ring Put) (side_of parties ring Take)
+      → i < length parties → (slice_index_or parties i d).span ≡ Some record { ring = ring; side = Put; start = start; count = count }
+      → start ≡ (side_of parties ring Put).len
       → queue (settled_by parties i d record { ring = ring; side = Put; start = start; count = count } items) ring ≡ queue parties ring ++ items
   put_queue e parties i d ring start count items s lt busy first =
       let opposite = settled_other (side_of parties ring Take) (side_of after ring Take) ring Take span items (step Take) (off_take ring ring) in
@@ -35,11 +37,14 @@ module _ {I : Type 0} where
       after : List (Party I)
       after = settled_by parties i d span items
 
-      step : (side : Side) → Settles (side_of parties ring side) (side_of after ring side) ring side span record { ring = ring; side = Put; start = start; items = items }
+      step : (side : Side) → Settles (side_of parties ring side) (side_of after ring side) ring side span
+          record { ring = ring; side = Put; start = start; items = items }
       step side = settles_side_of parties i d span record { ring = ring; side = Put; start = start; items = items } ring side lt busy
 
-  pub take_queue : (e : Extent) (parties : List (Party I)) (i : ℕ) (d : Party I) (ring start count : ℕ) (items : List I) → SoundRing e (side_of parties ring Put) (side_of parties ring Take)
-      → i < length parties → (slice_index_or parties i d).span ≡ Some record { ring = ring; side = Take; start = start; count = count } → start ≡ (side_of parties ring Take).len
+  pub take_queue : (e : Extent) (parties : List (Party I)) (i : ℕ) (d : Party I) (ring start count : ℕ) (items : List I)
+      → SoundRing e (side_of parties ring Put) (side_of parties ring Take)
+      → i < length parties → (slice_index_or parties i d).span ≡ Some record { ring = ring; side = Take; start = start; count = count }
+      → start ≡ (side_of parties ring Take).len
       → queue (settled_by parties i d record { ring = ring; side = Take; start = start; count = count } items) ring ≡ drop (length items) (queue parties ring)
   take_queue e parties i d ring start count items s lt busy first =
       let opposite = settled_other (side_of parties ring Put) (side_of after ring Put) ring Put span items (step Put) (off_put ring ring) in
@@ -54,7 +59,8 @@ module _ {I : Type 0} where
       after : List (Party I)
       after = settled_by parties i d span items
 
-      step : (side : Side) → Settles (side_of parties ring side) (side_of after ring side) ring side span record { ring = ring; side = Take; start = start; items = items }
+      step : (side : Side) → Settles (side_of parties ring side) (side_of after ring side) ring side span
+          record { ring = ring; side = Take; start = start; items = items }
       step side = settles_side_of parties i d span record { ring = ring; side = Take; start = start; items = items } ring side lt busy
 
   -- the own side's numbers after the settle: where it ends, and, if it was settled whole, that its reach stays
@@ -63,7 +69,8 @@ module _ {I : Type 0} where
     pub open_count : after.open_count + span.count ≡ before.open_count
     pub whole : n ≡ span.count → after.reach ≡ before.reach
 
-  pub own_settled : (parties : List (Party I)) (i : ℕ) (d : Party I) (span : Span) (items : List I) → i < length parties → (slice_index_or parties i d).span ≡ Some span
+  pub own_settled : (parties : List (Party I)) (i : ℕ) (d : Party I) (span : Span) (items : List I) → i < length parties
+      → (slice_index_or parties i d).span ≡ Some span
       → OwnSettled (side_of parties span.ring span.side) (side_of (settled_by parties i d span items) span.ring span.side) span (length items)
   own_settled parties i d span items lt busy = record {
     len = omega (arith, s.len, count);
@@ -74,7 +81,8 @@ module _ {I : Type 0} where
       done : Settled I
       done = record { ring = span.ring; side = span.side; start = span.start; items = items }
 
-      s : Settles (side_of parties span.ring span.side) (side_of (settled_by parties i d span items) span.ring span.side) span.ring span.side span record { ring = span.ring; side = span.side; start = span.start; items = items }
+      s : Settles (side_of parties span.ring span.side) (side_of (settled_by parties i d span items) span.ring span.side) span.ring span.side span
+          record { ring = span.ring; side = span.side; start = span.start; items = items }
       s = settles_side_of parties i d span record { ring = span.ring; side = span.side; start = span.start; items = items } span.ring span.side lt busy
 
       on : is_on span.ring span.side span.ring span.side ≡ true

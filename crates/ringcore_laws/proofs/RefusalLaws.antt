@@ -14,6 +14,7 @@ use Rattle.geom.specs.declared.plan.RingPlan.{RingPlan}
 use Rattle.geom.specs.declared.plan.Side.{Side}
 use Rattle.geom.specs.declared.plan.Side.TheVariants.{Put, Take}
 use Rattle.geom.specs.Plan.{mode_of, granted}
+use Rattle.geom.specs.Fit.{AllFit}
 use Rattle.ringcore_laws.specs.declared.contents.Item.{Item}
 use Rattle.ringcore_laws.specs.declared.protocol.Observed.{Observed}
 use Rattle.ringcore_laws.specs.declared.protocol.Span.{Span}
@@ -26,15 +27,17 @@ use Rattle.ringcore_laws.specs.Party.{is_on, newcomer}
 use Rattle.ringcore_laws.specs.RingSide.{RingSide, side_of, span_count}
 use Rattle.ringcore_laws.specs.HeadTailRule.{RuledSide, base}
 use Rattle.ringcore_laws.specs.Invariant.{Invariant}
-use Rattle.ringcore_laws.specs.FreeRings.{AreSingle, FreeRule, buffers_of}
+use Rattle.ringcore_laws.specs.FreeRings.{AreSingle, FreeRule, buffers_had}
 use Rattle.ringcore_laws.specs.Refusals.{is_room_answer, HasEarlier, HasMoved, IsTaken, IsTooLittle, PutsFindRoom, at_last_room, is_room_of, room_on}
 use Rattle.ringcore_laws.specs.Runs.{IsPlan, history_of}
-use Rattle.ringcore_laws.specs.History.{Actor, Event, IsLawful, IsRun, after, after_all, after_step, buffer_count, earlier_open, gifts_to, is_bad_reserve, is_busy, look_reply, one_stepped, opening, other_side, parties_of, position_of, put_reply, reply_of, reply_to, reply_to_one, reserve_reply, room_of, starts_below, tags, take_reply}
+use Rattle.ringcore_laws.specs.History.{Actor, Event, IsRun, after, after_all, after_step, buffers_of_actor, earlier_open, buffers_given, is_bad_reserve}
+use Rattle.ringcore_laws.specs.History.{is_busy, look_reply, one_stepped, opening, other_side, parties_of, position_of, put_reply, actor_reply, reply_to}
+use Rattle.ringcore_laws.specs.History.{reply_to_one, reserve_reply, room_by_look, starts_below, tags, take_reply}
 use Rattle.ringcore_laws.proofs.Laws.{element, same_plan}
 use Rattle.ringcore_laws.proofs.RingLaws.{below_or_not}
 use Rattle.ringcore_laws.proofs.HistoryLaws.{and_true, event_kept, on_true, parties_length}
 use Rattle.ringcore_laws.proofs.OpeningLaws.{opening_kept, queue_of_opening}
-use Rattle.ringcore_laws.proofs.RunLaws.{plan_lawful, replies_of}
+use Rattle.ringcore_laws.proofs.RunLaws.{replies_of}
 use Rattle.ringcore_laws.proofs.Telling.{contended_tells, look_busy_tells, no_room_tells, on_some_ring, put_early_tells, reserve_tells, take_early_tells}
 use Rattle.ringcore_laws.proofs.Changes.{changes, free_count}
 use Rattle.ringcore_laws.proofs.FreeRoom.{room_for_all}
@@ -45,7 +48,8 @@ use Rattle.ringcore_laws.proofs.LookLaws.{LookLaw, Looks, looks_after, no_room_a
 
 -- one more event
 event_looks : (plans : List RingPlan) (pool : ℕ) (actors : List Actor) (found : ℕ → Option (List Actor)) (e : Event)
-    → e.reply ≡ reply_to plans pool actors e.actor e.step → Invariant plans pool actors → FreeRule tags plans pool (parties_of actors) → Looks plans pool actors found
+    → e.reply ≡ reply_to plans pool actors e.actor e.step → Invariant plans pool actors → FreeRule tags plans pool (parties_of actors)
+    → Looks plans pool actors found
     → FreeRule tags plans pool (parties_of (after actors e)) × Looks plans pool (after actors e) (λ i. if is_room_of i e then Some actors else found i)
 unfolding reply_to after
 event_looks plans pool actors found e right k rule looks = by_actor (slice_get actors e.actor) refl
@@ -59,7 +63,8 @@ event_looks plans pool actors found e right k rule looks = by_actor (slice_get a
         × Looks plans pool (one_stepped actors e.actor v e.step e.reply) (λ i. if is_room_of i e then Some actors else found i)) (sym h) (
           rule,
           record {
-            each = λ i a s here seen. subst (λ (f : Option (List Actor)). LookLaw plans pool actors f i a s) (sym (stays i e.step reply)) (looks.each i a s here seen);
+            each = λ i a s here seen. subst (λ (f : Option (List Actor)). LookLaw plans pool actors f i a s) (sym (stays i e.step reply))
+                (looks.each i a s here seen);
           },
         )
       where
@@ -74,10 +79,12 @@ event_looks plans pool actors found e right k rule looks = by_actor (slice_get a
     by_actor (Some a) h =
         let lt = slice_get_within actors e.actor a h in
         let at : (d : Actor) → slice_index_or actors e.actor d ≡ a = λ d. get_or_from_slice_get actors e.actor a d h in
-        let reply : e.reply ≡ reply_of plans pool (parties_of actors) a e.step = right ∙ ap (λ (v : Option Actor). reply_to_one plans pool (parties_of actors) v e.step) h in
+        let reply : e.reply ≡ actor_reply plans pool (parties_of actors) a e.step =
+        right ∙ ap (λ (v : Option Actor). reply_to_one plans pool (parties_of actors) v e.step) h in
         subst (λ (v : Option Actor). FreeRule tags plans pool (parties_of (one_stepped actors e.actor v e.step e.reply))
         × Looks plans pool (one_stepped actors e.actor v e.step e.reply) (λ i. if is_room_of i e then Some actors else found i)) (sym h) (
-          rule_after plans pool actors e.actor a lt at k rule (after_step a e.step e.reply) (changes plans pool actors e.actor a lt at k e.step e.reply (sym reply)),
+          rule_after plans pool actors e.actor a lt at k rule (after_step a e.step e.reply)
+              (changes plans pool actors e.actor a lt at k e.step e.reply (sym reply)),
           looks_after plans pool actors found looks e.actor a h k rule e.step e.reply (sym reply),
         )
 
@@ -88,13 +95,13 @@ pub record Standing (plans : List RingPlan) (pool : ℕ) (actors : List Actor) (
   pub looks : Looks plans pool actors found
 
 along : (plans : List RingPlan) (pool : ℕ) (actors : List Actor) (found : ℕ → Option (List Actor)) (events : List Event)
-    → IsLawful plans pool → IsRun plans pool actors events → Standing plans pool actors found
+    → AllFit plans pool → IsRun plans pool actors events → Standing plans pool actors found
     → Standing plans pool (after_all actors events) (λ i. at_last_room actors (found i) i events)
-along plans pool actors found [] lawful run s = s
-along plans pool actors found (e ∷ events) lawful run s =
+along plans pool actors found [] fits run s = s
+along plans pool actors found (e ∷ events) fits run s =
     let next = event_looks plans pool actors found e run.0 s.kept s.rule s.looks in
-    along plans pool (after actors e) (λ i. if is_room_of i e then Some actors else found i) events lawful run.1
-    record { kept = event_kept plans pool actors e lawful run.0 s.kept; rule = next.0; looks = next.1 }
+    along plans pool (after actors e) (λ i. if is_room_of i e then Some actors else found i) events fits run.1
+    record { kept = event_kept plans pool actors e fits run.0 s.kept; rule = next.0; looks = next.1 }
 
 -- the party of an actor
 party_at : (actors : List Actor) (i : ℕ) (d : Party Item) (a : Actor) → slice_get actors i ≡ Some a → slice_index_or (parties_of actors) i d ≡ a.party
@@ -110,15 +117,17 @@ fresh_actor n gifts i a at =
     (ap (λ (v : Actor). v.party.span) is, ap (λ (v : Actor). v.observed) is)
   where
     given : ℕ → Actor
-    given j = record { party = newcomer (gifts_to gifts j); observed = None; cached = [] }
+    given j = record { party = newcomer (buffers_given gifts j); observed = None; cached = [] }
 
-fresh_party : (n : ℕ) (gifts : List ℕ) (i : ℕ) (d : Party Item) → i < length (parties_of (opening n gifts)) → (slice_index_or (parties_of (opening n gifts)) i d).span ≡ None
+fresh_party : (n : ℕ) (gifts : List ℕ) (i : ℕ) (d : Party Item) → i < length (parties_of (opening n gifts))
+    → (slice_index_or (parties_of (opening n gifts)) i d).span ≡ None
 fresh_party n gifts i d lt =
     let a = element (opening n gifts) i (omega (arith, lt, parties_length (opening n gifts))) in
     let is = party_at (opening n gifts) i d a.0 a.1 in
     ap (λ (p : Party Item). p.span) is ∙ (fresh_actor n gifts i a.0 a.1).0
 
-standing_first : (plans : List RingPlan) (actors : ℕ) (gifts : List ℕ) → IsPlan plans actors gifts → Standing plans (length gifts) (opening actors gifts) (λ i. None)
+standing_first : (plans : List RingPlan) (actors : ℕ) (gifts : List ℕ) → IsPlan plans actors gifts
+    → Standing plans (length gifts) (opening actors gifts) (λ i. None)
 standing_first plans actors gifts plan = record {
   kept = opening_kept plans actors gifts plan.to_actors;
   rule = record {
@@ -133,7 +142,7 @@ pub standing_after : (plans : List RingPlan) (actors : ℕ) (gifts : List ℕ) (
     Standing plans (length gifts) (after_all start events) (λ i. at_last_room start None i events)
 standing_after plans actors gifts steps plan =
     let start = opening actors gifts in
-    along plans (length gifts) start (λ i. None) (history_of plans (length gifts) start steps) (plan_lawful plans actors gifts plan)
+    along plans (length gifts) start (λ i. None) (history_of plans (length gifts) start steps) plan.rings
     (replies_of plans (length gifts) start steps) (standing_first plans actors gifts plan)
 
 -- 2. The refusals
@@ -181,7 +190,8 @@ some_true {X = X} f (x ∷ xs) any = by_first (f x) refl (λ rest. some_true f x
         (suc rest.0, rest.1, rest.2, rest.3)
 
 -- the actor of a party
-party_of_actor : (actors : List Actor) (j : ℕ) (p : Party Item) → slice_get (parties_of actors) j ≡ Some p → (c : Actor) × (slice_get actors j ≡ Some c) × (c.party ≡ p)
+party_of_actor : (actors : List Actor) (j : ℕ) (p : Party Item) → slice_get (parties_of actors) j ≡ Some p → (c : Actor) × (slice_get actors j ≡ Some c)
+    × (c.party ≡ p)
 party_of_actor [] j p at = absurd (let u : None ≡ Some p = at in cc)
 party_of_actor (a ∷ actors) zero p at = (a, refl, same_plan at)
 party_of_actor (a ∷ actors) (suc j) p at = party_of_actor actors j p at
@@ -228,12 +238,12 @@ earlier now i ring side a at own busy on early =
 module _ (plans : List RingPlan) (pool : ℕ) (now : List Actor) (found : ℕ → Option (List Actor)) (s : Standing plans pool now found) (i : ℕ) where
   -- the actor that was answered something else than NoSpan
   asked_actor : (step : Step) (reply : Reply) → NoSpan ≢ reply → reply_to plans pool now i step ≡ reply
-      → (a : Actor) × (slice_get now i ≡ Some a) × (reply_of plans pool (parties_of now) a step ≡ reply)
+      → (a : Actor) × (slice_get now i ≡ Some a) × (actor_reply plans pool (parties_of now) a step ≡ reply)
   unfolding reply_to
   asked_actor step reply some right = by_actor (slice_get now i) refl right
     where
       by_actor : (o : Option Actor) → slice_get now i ≡ o → reply_to_one plans pool (parties_of now) o step ≡ reply
-          → (a : Actor) × (slice_get now i ≡ Some a) × (reply_of plans pool (parties_of now) a step ≡ reply)
+          → (a : Actor) × (slice_get now i ≡ Some a) × (actor_reply plans pool (parties_of now) a step ≡ reply)
       by_actor None at h = absurd (some h)
       by_actor (Some a) at h = (a, at, h)
 
@@ -253,46 +263,54 @@ module _ (plans : List RingPlan) (pool : ℕ) (now : List Actor) (found : ℕ �
         let me = asked_actor (Reserve ring side how count) (NoRoom room) (λ e. (let u : NoSpan ≡ NoRoom room = e in cc)) right in
         let a = me.0 in
         let l = side_of (parties_of now) ring side in
-        let told = on_some_ring (slice_get plans ring) (λ p. reserve_reply p pool ring side how count l a) (NoRoom room) (λ e. (let u : NoSpan ≡ NoRoom room = e in cc)) me.2 in
+        let told =
+        on_some_ring (slice_get plans ring) (λ p. reserve_reply p pool ring side how count l a) (NoRoom room)
+        (λ e. (let u : NoSpan ≡ NoRoom room = e in cc)) me.2 in
         let same : told.0 ≡ plan = same_plan (sym told.1 ∙ there) in
-        let reply : reserve_reply plan pool ring side how count l a ≡ NoRoom room = subst (λ (p : RingPlan). reserve_reply p pool ring side how count l a ≡ NoRoom room) same told.2 in
+        let reply : reserve_reply plan pool ring side how count l a ≡ NoRoom room =
+        subst (λ (p : RingPlan). reserve_reply p pool ring side how count l a ≡ NoRoom room) same told.2 in
         let r = reserve_tells plan pool ring side how count l a (NoRoom room) (λ e. (let u : NoSpan ≡ NoRoom room = e in cc)) reply in
-        let n = no_room_tells plan side how count l (buffer_count pool a) r.look.looked_at r.tail room r.answer in
+        let n = no_room_tells plan side how count l (buffers_of_actor pool a) r.look.looked_at r.tail room r.answer in
         let q = (s.looks.each i a r.look me.1 r.looked).asked r.tail r.seen in
         let place = on_true r.look.ring ring r.look.side side r.on in
-        let some = positive_count side plan.free count (buffer_count pool a) n.0 in
+        let some = positive_count side plan.free count (buffers_of_actor pool a) n.0 in
         let at_look : slice_get plans r.look.ring ≡ Some plan = ap (slice_get plans) (sym place.0) ∙ there in
         let behind : position_of (mode_of plan side) r.look.looked_at ≤ base (mode_of plan side) (side_of (parties_of q.past) ring side) =
         subst (λ (v : ℕ). position_of (mode_of plan side) r.look.looked_at ≤ base (mode_of plan side) (side_of (parties_of q.past) v side)) (sym place.0)
-        (subst (λ (v : Side). position_of (mode_of plan v) r.look.looked_at ≤ base (mode_of plan v) (side_of (parties_of q.past) r.look.ring v)) (sym place.1) (q.behind plan at_look)) in
+        (subst (λ (v : Side). position_of (mode_of plan v) r.look.looked_at ≤ base (mode_of plan v) (side_of (parties_of q.past) r.look.ring v)) (sym place.1)
+        (q.behind plan at_look)) in
         let seen : r.tail ≡ (side_of (parties_of q.past) ring (other_side side)).len =
-        q.seen ∙ (ap (λ v. (side_of (parties_of q.past) v (other_side r.look.side)).len) (sym place.0) ∙ ap (λ v. (side_of (parties_of q.past) ring (other_side v)).len) (sym place.1)) in
+        q.seen ∙ (ap (λ v. (side_of (parties_of q.past) v (other_side r.look.side)).len) (sym place.0)
+        ∙ ap (λ v. (side_of (parties_of q.past) ring (other_side v)).len) (sym place.1)) in
         record {
           past = q.past;
           is = q.is;
-          room = room_of side plan.geometry.capacity (position_of (mode_of plan side) r.look.looked_at) r.tail;
+          room = room_by_look side plan.geometry.capacity (position_of (mode_of plan side) r.look.looked_at) r.tail;
           none = n.1;
           some = some;
-          little = little side (parties_of q.past) (position_of (mode_of plan side) r.look.looked_at) r.tail (base (mode_of plan side) (side_of (parties_of q.past) ring side))
+          little = little side (parties_of q.past) (position_of (mode_of plan side) r.look.looked_at) r.tail
+              (base (mode_of plan side) (side_of (parties_of q.past) ring side))
               behind seen (base_le (mode_of plan side) (side_of (parties_of q.past) ring side) (q.kept.ruled.sides ring side plan there));
           enough = λ put free fits.
-              enough side put (parties_of q.past) (position_of (mode_of plan side) r.look.looked_at) r.tail (buffer_count pool a) behind seen
-              (subst (λ (v : ℕ). base plan.put (side_of (parties_of q.past) ring Put) + v ≤ plan.geometry.capacity + (side_of (parties_of q.past) ring Take).len)
-              (ap (buffers_of tags pool) (party_at q.past i a.party q.me q.at ∙ q.same))
-              (room_for_all tags plans pool (parties_of q.past) q.kept.sound q.kept.ruled q.rule i a.party (omega (arith, slice_get_within q.past i q.me q.at, parties_length q.past))
+              enough side put (parties_of q.past) (position_of (mode_of plan side) r.look.looked_at) r.tail (buffers_of_actor pool a) behind seen
+              (subst (λ (v : ℕ). base plan.put (side_of (parties_of q.past) ring Put) + v ≤ plan.geometry.capacity
+              + (side_of (parties_of q.past) ring Take).len)
+              (ap (buffers_had tags pool) (party_at q.past i a.party q.me q.at ∙ q.same))
+              (room_for_all tags plans pool (parties_of q.past) q.kept.sound q.kept.ruled q.rule i a.party
+              (omega (arith, slice_get_within q.past i q.me q.at, parties_length q.past))
               (ap (λ (p : Party Item). p.span) (party_at q.past i a.party q.me q.at ∙ q.same) ∙ r.idle) ring plan there free fits))
               (had side put n.0 free);
         }
       where
         little : (v : Side) (parties : List (Party Item)) (position tail low : ℕ) → position ≤ low → tail ≡ (side_of parties ring (other_side v)).len
-            → low ≤ (side_of parties ring v).reach → room_on plan parties ring v ≤ room_of v plan.geometry.capacity position tail
+            → low ≤ (side_of parties ring v).reach → room_on plan parties ring v ≤ room_by_look v plan.geometry.capacity position tail
         little Put parties position tail low le seen reach = omega (arith, le, seen, reach)
         little Take parties position tail low le seen reach = omega (arith, le, seen, reach)
 
         enough : (v : Side) → v ≡ Put → (parties : List (Party Item)) (position tail had : ℕ) → position ≤ base (mode_of plan v) (side_of parties ring v)
             → tail ≡ (side_of parties ring (other_side v)).len
             → base plan.put (side_of parties ring Put) + had ≤ plan.geometry.capacity + (side_of parties ring Take).len → count ≤ had
-            → count ≤ room_of v plan.geometry.capacity position tail
+            → count ≤ room_by_look v plan.geometry.capacity position tail
         enough Put put parties position tail had le seen all few = omega (arith, le, seen, all, few)
         enough Take put parties position tail had le seen all few = absurd (let u : Take ≡ Put = put in cc)
 
@@ -306,7 +324,8 @@ module _ (plans : List RingPlan) (pool : ℕ) (now : List Actor) (found : ℕ �
         let r = refused room right in
         (r.past, r.is, too_little how count r.room (room_on plan (parties_of r.past) ring side) r.some r.none r.little)
 
-    pub never_no_room : (room : ℕ) → side ≡ Put → plan.free ≡ true → pool ≤ plan.geometry.capacity → reply_to plans pool now i (Reserve ring side how count) ≢ NoRoom room
+    pub never_no_room : (room : ℕ) → side ≡ Put → plan.free ≡ true → pool ≤ plan.geometry.capacity
+        → reply_to plans pool now i (Reserve ring side how count) ≢ NoRoom room
     never_no_room room put free fits right =
         let r = refused room right in
         granted_some how r.room r.none r.some (r.enough put free fits)
@@ -324,11 +343,14 @@ module _ (plans : List RingPlan) (pool : ℕ) (now : List Actor) (found : ℕ �
         let me = asked_actor (Reserve ring side how count) (Contended word) (λ e. (let u : NoSpan ≡ Contended word = e in cc)) right in
         let a = me.0 in
         let l = side_of (parties_of now) ring side in
-        let told = on_some_ring (slice_get plans ring) (λ p. reserve_reply p pool ring side how count l a) (Contended word) (λ e. (let u : NoSpan ≡ Contended word = e in cc)) me.2 in
+        let told =
+        on_some_ring (slice_get plans ring) (λ p. reserve_reply p pool ring side how count l a) (Contended word)
+        (λ e. (let u : NoSpan ≡ Contended word = e in cc)) me.2 in
         let same : told.0 ≡ plan = same_plan (sym told.1 ∙ there) in
-        let reply : reserve_reply plan pool ring side how count l a ≡ Contended word = subst (λ (p : RingPlan). reserve_reply p pool ring side how count l a ≡ Contended word) same told.2 in
+        let reply : reserve_reply plan pool ring side how count l a ≡ Contended word =
+        subst (λ (p : RingPlan). reserve_reply p pool ring side how count l a ≡ Contended word) same told.2 in
         let r = reserve_tells plan pool ring side how count l a (Contended word) (λ e. (let u : NoSpan ≡ Contended word = e in cc)) reply in
-        let n = contended_tells plan side how count l (buffer_count pool a) r.look.looked_at r.tail word r.answer in (
+        let n = contended_tells plan side how count l (buffers_of_actor pool a) r.look.looked_at r.tail word r.answer in (
           sym n.0,
           λ b s at seen is.
               let who : a ≡ b = same_plan (sym me.1 ∙ at) in
@@ -339,7 +361,9 @@ module _ (plans : List RingPlan) (pool : ℕ) (now : List Actor) (found : ℕ �
   pub is_taken : (ring : ℕ) (side : Side) (word : ℕ) → reply_to plans pool now i (Look ring side) ≡ Busy word → IsTaken now i ring side
   is_taken ring side word right =
       let me = asked_actor (Look ring side) (Busy word) (λ e. (let u : NoSpan ≡ Busy word = e in cc)) right in
-      let told = on_some_ring (slice_get plans ring) (λ p. look_reply (mode_of p side) (side_of (parties_of now) ring side) me.0) (Busy word) (λ e. (let u : NoSpan ≡ Busy word = e in cc)) me.2 in
+      let told =
+      on_some_ring (slice_get plans ring) (λ p. look_reply (mode_of p side) (side_of (parties_of now) ring side) me.0) (Busy word)
+      (λ e. (let u : NoSpan ≡ Busy word = e in cc)) me.2 in
       let busy = look_busy_tells (mode_of told.0 side) (side_of (parties_of now) ring side) me.0 word told.2 in
       let open_one = some_open ring side (parties_of now) (busy_open (mode_of told.0 side) (side_of (parties_of now) ring side) busy.1) in
       let c = party_of_actor now open_one.0 open_one.1 open_one.2 in
@@ -358,37 +382,41 @@ module _ (plans : List RingPlan) (pool : ℕ) (now : List Actor) (found : ℕ �
   pub early_put : (ring : ℕ) (items : List Item) (tail : ℕ) → reply_to plans pool now i (SettlePut ring items) ≡ NotYet tail → HasEarlier now i
   early_put ring items tail right =
       let me = asked_actor (SettlePut ring items) (NotYet tail) (λ e. (let u : NoSpan ≡ NotYet tail = e in cc)) right in
-      let told = on_some_ring (slice_get plans ring) (λ p. put_reply p ring (parties_of now) me.0 items me.0.party.span) (NotYet tail) (λ e. (let u : NoSpan ≡ NotYet tail = e in cc)) me.2 in
+      let told =
+      on_some_ring (slice_get plans ring) (λ p. put_reply p ring (parties_of now) me.0 items me.0.party.span) (NotYet tail)
+      (λ e. (let u : NoSpan ≡ NotYet tail = e in cc)) me.2 in
       let early = put_early_tells told.0 ring (parties_of now) me.0 items me.0.party.span tail told.2 in
       earlier now i ring Put me.0 me.1 early.0 early.1 early.2 early.3
 
   pub early_take : (ring count : ℕ) (tail : ℕ) → reply_to plans pool now i (SettleTake ring count) ≡ NotYet tail → HasEarlier now i
   early_take ring count tail right =
       let me = asked_actor (SettleTake ring count) (NotYet tail) (λ e. (let u : NoSpan ≡ NotYet tail = e in cc)) right in
-      let told = on_some_ring (slice_get plans ring) (λ p. take_reply p ring (parties_of now) count me.0.party.span) (NotYet tail) (λ e. (let u : NoSpan ≡ NotYet tail = e in cc)) me.2 in
+      let told =
+      on_some_ring (slice_get plans ring) (λ p. take_reply p ring (parties_of now) count me.0.party.span) (NotYet tail)
+      (λ e. (let u : NoSpan ≡ NotYet tail = e in cc)) me.2 in
       let early = take_early_tells told.0 ring (parties_of now) count me.0.party.span tail told.2 in
       earlier now i ring Take me.0 me.1 early.0 early.1 early.2 early.3
 
 -- 3. Free rings, along a run
 
 room_along : (plans : List RingPlan) (pool : ℕ) (actors : List Actor) (found : ℕ → Option (List Actor)) (events : List Event)
-    → IsLawful plans pool → IsRun plans pool actors events → Standing plans pool actors found → PutsFindRoom plans events
-room_along plans pool actors found [] lawful run s = tt
-room_along plans pool actors found (e ∷ events) lawful run s =
+    → AllFit plans pool → IsRun plans pool actors events → Standing plans pool actors found → PutsFindRoom plans events
+room_along plans pool actors found [] fits run s = tt
+room_along plans pool actors found (e ∷ events) fits run s =
     let next = event_looks plans pool actors found e run.0 s.kept s.rule s.looks in (
       (λ ring how count room plan step reply there. by_free ring how count room plan step reply there plan.free refl),
-      room_along plans pool (after actors e) (λ i. if is_room_of i e then Some actors else found i) events lawful run.1
-          record { kept = event_kept plans pool actors e lawful run.0 s.kept; rule = next.0; looks = next.1 },
+      room_along plans pool (after actors e) (λ i. if is_room_of i e then Some actors else found i) events fits run.1
+          record { kept = event_kept plans pool actors e fits run.0 s.kept; rule = next.0; looks = next.1 },
     )
   where
     by_free : (ring : ℕ) (how : How) (count room : ℕ) (plan : RingPlan) → e.step ≡ Reserve ring Put how count → e.reply ≡ NoRoom room
         → slice_get plans ring ≡ Some plan → (free : Bool) → plan.free ≡ free → free ≡ false
     by_free ring how count room plan step reply there false is = refl
     by_free ring how count room plan step reply there true is =
-        absurd (never_no_room plans pool actors found s e.actor ring Put how count plan there room refl is (lawful.free_rings ring plan there is)
+        absurd (never_no_room plans pool actors found s e.actor ring Put how count plan there room refl is ((fits ring plan there).free_rings is)
         (ap (reply_to plans pool actors e.actor) (sym step) ∙ (sym run.0 ∙ reply)))
 
 pub puts_find_room : (plans : List RingPlan) (actors : ℕ) (gifts : List ℕ) (events : List Event) → IsPlan plans actors gifts
     → IsRun plans (length gifts) (opening actors gifts) events → PutsFindRoom plans events
 puts_find_room plans actors gifts events plan run =
-    room_along plans (length gifts) (opening actors gifts) (λ i. None) events (plan_lawful plans actors gifts plan) run (standing_first plans actors gifts plan)
+    room_along plans (length gifts) (opening actors gifts) (λ i. None) events plan.rings run (standing_first plans actors gifts plan)

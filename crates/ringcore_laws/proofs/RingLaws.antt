@@ -1,5 +1,6 @@
 -- A ring stays sound as a span is reserved and as one is settled. Said of the two sides alone
-use Rattle.std.proofs.Common.{ℕ, zero, suc, ◌+◌, ◌-◌, ◌*◌, ◌/◌, ◌%◌, ◌<◌, ◌≤◌, ◌≡◌, ◌⊎◌, inl, inr, max, List, [], ◌∷◌, ◌++◌, length, take, drop, refl, ap, sym, ◌∙◌, arith}
+use Rattle.std.proofs.Common.{ℕ, zero, suc, ◌+◌, ◌-◌, ◌*◌, ◌/◌, ◌%◌, ◌<◌, ◌≤◌, ◌≡◌, ◌⊎◌, inl, inr, max, List, [], ◌∷◌, ◌++◌, length, take, drop, refl, ap, sym}
+use Rattle.std.proofs.Common.{◌∙◌, arith}
 use Rattle.std.specs.Prelude.{slice_get, ◌&&◌, ◌==◌, nat_le, nat_lt, if◌then◌else◌}
 use Rattle.std.specs.List.{flat_map, range_with_len}
 use Rattle.std.specs.Option.{option_to_list}
@@ -33,15 +34,17 @@ slots_differ size low p q lp hp lq hq e =
 abbrev pub open_count : Span → ℕ → ℕ
 open_count span p = if covers span p then 1 else 0
 
-pub held_cases : (span : Span) (p : ℕ) → ((span.start ≤ p) × (p < span.start + span.count) × (open_count span p ≡ 1)) ⊎ (((p < span.start) ⊎ (span.start + span.count ≤ p)) × (open_count span p ≡ 0))
+pub held_cases : (span : Span) (p : ℕ) → ((span.start ≤ p) × (p < span.start + span.count) × (open_count span p ≡ 1)) ⊎
+    (((p < span.start) ⊎ (span.start + span.count ≤ p)) × (open_count span p ≡ 0))
 held_cases span p = grind (arith, nat_tests)
 
 -- how often a queued position that no open take holds is claimed
 abbrev pub queued_once : ℕ → ℕ → ℕ → ℕ → ℕ
-queued_once low high after_take p = if (nat_le low p && nat_lt p high) && (after_take == 0) then 1 else 0
+queued_once low high after_settle_take p = if (nat_le low p && nat_lt p high) && (after_settle_take == 0) then 1 else 0
 
-pub queued_cases : (low high after_take p : ℕ) → ((low ≤ p) × (p < high) × (after_take ≡ 0) × (queued_once low high after_take p ≡ 1)) ⊎ (((p < low) ⊎ ((high ≤ p) ⊎ (0 < after_take))) × (queued_once low high after_take p ≡ 0))
-queued_cases low high after_take p = grind (arith, nat_tests)
+pub queued_cases : (low high after_settle_take p : ℕ) → ((low ≤ p) × (p < high) × (after_settle_take ≡ 0) × (queued_once low high after_settle_take p ≡ 1)) ⊎
+    (((p < low) ⊎ ((high ≤ p) ⊎ (0 < after_settle_take))) × (queued_once low high after_settle_take p ≡ 0))
+queued_cases low high after_settle_take p = grind (arith, nat_tests)
 
 pub below_or_not : (a b : ℕ) → (a < b) ⊎ (b ≤ a)
 below_or_not a b = grind arith
@@ -49,7 +52,13 @@ below_or_not a b = grind arith
 module _ {I : Type 0} where
   pub sum_ones : (f : ℕ → List I) (a n : ℕ) → ((p : ℕ) → a ≤ p → p < a + n → length (f p) ≡ 1) → length (flat_map f (range_with_len a n)) ≡ n
   sum_ones f a zero h = refl
-  sum_ones f a (suc n) h = omega (arith, length-append (f a) (flat_map f (range_with_len (a + 1) n)), h a (omega arith) (omega arith), sum_ones f (a + 1) n (λ p le lt. h p (omega arith) (omega arith)))
+  sum_ones f a (suc n) h =
+      omega (
+        arith,
+        length-append (f a) (flat_map f (range_with_len (a + 1) n)),
+        h a (omega arith) (omega arith),
+        sum_ones f (a + 1) n (λ p le lt. h p (omega arith) (omega arith)),
+      )
 
   pub length-item : (xs : List I) (i : ℕ) → i < length xs → length (option_to_list (slice_get xs i)) ≡ 1
   length-item [] i lt = absurd (omega arith)
@@ -67,13 +76,30 @@ module _ {I : Type 0} where
 
   -- a side after a span is reserved
   abbrev pub reserved_on : RingSide I → Span → RingSide I
-  reserved_on l span = record { items_at = l.items_at; len = l.len; openers = λ p. l.openers p + open_count span p; open_count = l.open_count + span.count; reach = max l.reach (span.start + span.count) }
+  reserved_on l span =
+      record {
+        items_at = l.items_at;
+        len = l.len;
+        openers = λ p. l.openers p + open_count span p;
+        open_count = l.open_count + span.count;
+        reach =
+            max l.reach (span.start + span.count);
+      }
 
   -- a side after an open span is settled with these items, where the greatest end is then `reach`
   abbrev pub settled_on : RingSide I → Span → List I → ℕ → RingSide I
-  settled_on l span items reach = record { items_at = λ p. l.items_at p ++ item_at span.start items p; len = l.len + length items; openers = λ p. l.openers p - open_count span p; open_count = l.open_count - span.count; reach = reach }
+  settled_on l span items reach =
+      record {
+        items_at = λ p. l.items_at p ++ item_at span.start items p;
+        len = l.len + length items;
+        openers =
+            λ p. l.openers p - open_count span p;
+        open_count = l.open_count - span.count;
+        reach = reach;
+      }
 
-  pub gapless_settled : (l : RingSide I) (span : Span) (items : List I) (reach : ℕ) → IsGapless l → span.start ≡ l.len → IsGapless (settled_on l span items reach)
+  pub gapless_settled : (l : RingSide I) (span : Span) (items : List I) (reach : ℕ) → IsGapless l → span.start ≡ l.len
+      → IsGapless (settled_on l span items reach)
   gapless_settled l span items reach g e = record {
     one = λ p lt. elim (below_or_not p l.len) [
       | inl old ↦ ap (λ v. length (l.items_at p ++ v)) (item_at_before span.start items p (omega arith)) ∙ (ap length (append-nil (l.items_at p)) ∙ g.one p old)
@@ -86,12 +112,14 @@ module _ {I : Type 0} where
   }
 
   -- the items come behind those that are listed
-  pub listed_settled : (l : RingSide I) (span : Span) (items : List I) (reach : ℕ) → IsGapless l → span.start ≡ l.len → listed (settled_on l span items reach) ≡ listed l ++ items
+  pub listed_settled : (l : RingSide I) (span : Span) (items : List I) (reach : ℕ) → IsGapless l → span.start ≡ l.len
+      → listed (settled_on l span items reach) ≡ listed l ++ items
   unfolding listed
   listed_settled l span items reach g e =
       flat_map_range_split after 0 l.len (length items)
       ∙ (ap (λ v. v ++ flat_map after (range_with_len (0 + l.len) (length items))) (flat_map_range_same after l.items_at 0 l.len old)
-      ∙ ap (λ v. flat_map l.items_at (range_with_len 0 l.len) ++ v) (flat_map_range_same after (item_at (0 + l.len) items) (0 + l.len) (length items) new ∙ flat_map_range_items (0 + l.len) items))
+      ∙ ap (λ v. flat_map l.items_at (range_with_len 0 l.len) ++ v)
+      (flat_map_range_same after (item_at (0 + l.len) items) (0 + l.len) (length items) new ∙ flat_map_range_items (0 + l.len) items))
     where
       after : ℕ → List I
       after p = l.items_at p ++ item_at span.start items p
@@ -114,7 +142,8 @@ module _ {I : Type 0} where
   taken_le puts takes p = omega arith
 
   -- a position outside the span has none of its items
-  pub not_of_items : (span : Span) (items : List I) → length items ≤ span.count → (p : ℕ) → (p < span.start) ⊎ (span.start + span.count ≤ p) → item_at span.start items p ≡ []
+  pub not_of_items : (span : Span) (items : List I) → length items ≤ span.count → (p : ℕ) → (p < span.start) ⊎ (span.start + span.count ≤ p)
+      → item_at span.start items p ≡ []
   not_of_items span items fits p out = elim out [ inl lt ↦ item_at_before span.start items p lt | inr le ↦ item_at_past span.start items p (omega arith) ]
 
   module _ (e : Extent) (puts takes : RingSide I) (s : SoundRing e puts takes) where
@@ -128,7 +157,7 @@ module _ {I : Type 0} where
         elim (below_or_not 0 (puts.openers p)) [
           | inl openers ↦ (omega (arith, takes_le_puts, unsettled_above puts s.published p (s.puts_unsettled p openers)), inr openers)
           | inr free ↦ elim (below_or_not 0 (takes.openers p)) [
-            | inl after_take ↦ ((s.takes_are_queued p after_take).0, inl (s.takes_are_queued p after_take).1)
+            | inl after_settle_take ↦ ((s.takes_are_queued p after_settle_take).0, inl (s.takes_are_queued p after_settle_take).1)
             | inr left ↦ elim (queued_cases takes.len puts.len (takes.openers p) p) [
               | inl waits ↦ (waits.0, inl waits.1)
               | inr off ↦ absurd (omega (arith, off.1))
@@ -143,7 +172,8 @@ module _ {I : Type 0} where
       | inr none ↦ omega arith
     ]
 
-    module _ (span : Span) (spare : e.capacity < e.size) (behind : puts.len ≤ span.start) (above : (p : ℕ) → span.start ≤ p → puts.openers p ≡ 0) (room : span.start + span.count ≤ takes.len + e.capacity) where
+    module _ (span : Span) (spare : e.capacity < e.size) (behind : puts.len ≤ span.start) (above : (p : ℕ) → span.start ≤ p → puts.openers p ≡ 0)
+        (room : span.start + span.count ≤ takes.len + e.capacity) where
       claims_put : (p : ℕ) → claims (reserved_on puts span) takes p ≡ claims puts takes p + open_count span p
       unfolding claims
       claims_put p = omega arith
@@ -171,7 +201,9 @@ module _ {I : Type 0} where
           | inl in_span ↦ omega (arith, claims_put p, in_span.2, unclaimed p (omega (arith, in_span.0)) (above p in_span.0))
           | inr out ↦ omega (arith, claims_put p, out.1, s.claimed_once p)
         ];
-        slots_apart = λ p q some_p some_q same. slots_differ e.size takes.len p q (in_window p some_p).0 (in_window p some_p).1 (in_window q some_q).0 (in_window q some_q).1 same;
+        slots_apart =
+            λ p q some_p some_q same. slots_differ e.size takes.len p q (in_window p some_p).0 (in_window p some_p).1 (in_window q some_q).0
+            (in_window q some_q).1 same;
         takes_are_queued = s.takes_are_queued;
         puts_unsettled = λ p some. elim (held_cases span p) [
           | inl in_span ↦ s.published.none p (omega (arith, in_span.0))
@@ -180,7 +212,8 @@ module _ {I : Type 0} where
         takes_unsettled = s.takes_unsettled;
       }
 
-    module _ (span : Span) (behind : takes.len ≤ span.start) (above : (p : ℕ) → span.start ≤ p → takes.openers p ≡ 0) (room : span.start + span.count ≤ puts.len) where
+    module _ (span : Span) (behind : takes.len ≤ span.start) (above : (p : ℕ) → span.start ≤ p → takes.openers p ≡ 0)
+        (room : span.start + span.count ≤ puts.len) where
       claims_take : (p : ℕ) → claims puts (reserved_on takes span) p ≡ claims puts takes p
       unfolding claims
       claims_take p = elim (held_cases span p) [
@@ -220,7 +253,8 @@ module _ {I : Type 0} where
         ];
       }
 
-    module _ (span : Span) (items : List I) (reach : ℕ) (first : span.start ≡ puts.len) (own : (p : ℕ) → open_count span p ≤ puts.openers p) (fits : length items ≤ span.count) (room : puts.len + length items ≤ takes.len + e.capacity) where
+    module _ (span : Span) (items : List I) (reach : ℕ) (first : span.start ≡ puts.len) (own : (p : ℕ) → open_count span p ≤ puts.openers p)
+        (fits : length items ≤ span.count) (room : puts.len + length items ≤ takes.len + e.capacity) where
       claims_put_settled : (p : ℕ) → claims (settled_on puts span items reach) takes p ≤ claims puts takes p
       unfolding claims
       claims_put_settled p =
@@ -241,14 +275,19 @@ module _ {I : Type 0} where
         where
           outside : (p : ℕ) → (p < span.start) ⊎ (span.start + span.count ≤ p) → takes.len ≤ p → p < puts.len + length items → takes.openers p ≡ 0
               → (p < takes.len) ⊎ ((puts.len ≤ p) ⊎ (0 < takes.openers p)) → ⊥
-          outside p out le lt free h = elim h [ inl a ↦ omega arith | inr b ↦ elim b [ inl c ↦ elim out [ inl x ↦ omega arith | inr y ↦ omega arith ] | inr d ↦ omega arith ] ]
+          outside p out le lt free h =
+              elim h [ inl a ↦ omega arith | inr b ↦ elim b [ inl c ↦ elim out [ inl x ↦ omega arith | inr y ↦ omega arith ] | inr d ↦ omega arith ] ]
 
       -- a put span that starts where the published items end
       pub put_settled : SoundRing e (settled_on puts span items reach) takes
       put_settled = record {
         published = gapless_settled puts span items reach s.published first;
         dequeued = s.dequeued;
-        fifo = (s.fifo.0 ++ items, sym (append_assoc (listed takes) s.fifo.0 items) ∙ (ap (λ v. v ++ items) s.fifo.1 ∙ sym (listed_settled puts span items reach s.published first)));
+        fifo = (
+          s.fifo.0 ++ items,
+          sym (append_assoc (listed takes) s.fifo.0 items)
+              ∙ (ap (λ v. v ++ items) s.fifo.1 ∙ sym (listed_settled puts span items reach s.published first)),
+        );
         within_capacity = room;
         claimed_once = λ p. omega (arith, claims_put_settled p, s.claimed_once p);
         slots_apart = λ p q some_p some_q. s.slots_apart p q (omega (arith, claims_put_settled p)) (omega (arith, claims_put_settled q));
@@ -260,7 +299,8 @@ module _ {I : Type 0} where
         takes_unsettled = s.takes_unsettled;
       }
 
-    module _ (span : Span) (items : List I) (reach : ℕ) (first : span.start ≡ takes.len) (own : (p : ℕ) → open_count span p ≤ takes.openers p) (fits : length items ≤ span.count)
+    module _ (span : Span) (items : List I) (reach : ℕ) (first : span.start ≡ takes.len) (own : (p : ℕ) → open_count span p ≤ takes.openers p)
+        (fits : length items ≤ span.count)
         (there : items ≡ take (length items) (drop span.start (listed puts))) where
       claims_take_settled : (p : ℕ) → claims puts (settled_on takes span items reach) p ≤ claims puts takes p
       unfolding claims
@@ -310,4 +350,5 @@ module _ {I : Type 0} where
       }
         where
           next : items ≡ take (length items) s.fifo.0
-          next = there ∙ ap (take (length items)) (ap (drop span.start) (sym s.fifo.1) ∙ drop_at (listed takes) s.fifo.0 span.start (length-listed takes s.dequeued ∙ sym first))
+          next = there ∙ ap (take (length items)) (ap (drop span.start) (sym s.fifo.1)
+              ∙ drop_at (listed takes) s.fifo.0 span.start (length-listed takes s.dequeued ∙ sym first))

@@ -10,15 +10,15 @@ use Rattle.ringcore_laws.specs.declared.protocol.Step.{Step}
 use Rattle.ringcore_laws.specs.declared.protocol.Step.TheVariants.{Look, Room, Reserve, SettlePut, SettleTake, Stash, Unstash}
 use Rattle.ringcore_laws.specs.declared.protocol.Reply.{Reply}
 use Rattle.ringcore_laws.specs.declared.protocol.Reply.TheVariants.{Seen, Granted, Done, Busy, Contended, NoRoom, NotYet, NoSpan, BadCount, NotYours}
-use Rattle.ringcore_laws.specs.RingSide.{side_of, listed, items_of, count_of, end_of}
+use Rattle.ringcore_laws.specs.RingSide.{side_of, listed, party_items, party_count, party_end}
 use Rattle.ringcore_laws.specs.Sound.{holds, moved}
 use Rattle.ringcore_laws.specs.History.{Event, IsRun, after, reply_to, opening}
-use Rattle.ringcore_laws.specs.FreeRings.{buffers_of}
+use Rattle.ringcore_laws.specs.FreeRings.{buffers_had}
 
-abbrev event : ℕ → Step → Reply → Event
+abbrev pub event : ℕ → Step → Reply → Event
 event i step reply = record { actor = i; step = step; reply = reply }
 
-abbrev ring : ℕ → ℕ → Mode → Mode → Bool → RingPlan
+abbrev pub ring : ℕ → ℕ → Mode → Mode → Bool → RingPlan
 ring size capacity put take free = record { geometry = record { size = size; capacity = capacity }; put = put; take = take; free = free }
 
 -- two actors look, one reserves, the other is contended and tries again
@@ -33,7 +33,7 @@ pub contended : IsRun (ring 4 3 Multi Multi false ∷ []) 0 (opening 2 ([])) (
     ∷ event 0 (Room 0 Put) (Seen 0)
     ∷ event 0 (Reserve 0 Put Bulk 1) (Granted 2 1 0)
     ∷ [])
-unfolding reply_to after side_of items_of count_of end_of listed holds moved buffers_of
+unfolding reply_to after side_of party_items party_count party_end listed holds moved buffers_had
 contended = (refl, (refl, (refl, (refl, (refl, (refl, (refl, (refl, (refl, tt)))))))))
 
 -- a later span waits for the earlier one; a take gives what was put in order
@@ -52,7 +52,7 @@ pub earlier_first : IsRun (ring 4 3 Multi Multi false ∷ []) 0 (opening 2 ([]))
     ∷ event 0 (Reserve 0 Take Burst 8) (Granted 0 3 0)
     ∷ event 0 (SettleTake 0 3) (Done 3 (Word 1 ∷ Word 2 ∷ Word 3 ∷ []))
     ∷ [])
-unfolding reply_to after side_of items_of count_of end_of listed holds moved buffers_of
+unfolding reply_to after side_of party_items party_count party_end listed holds moved buffers_had
 earlier_first = (refl, (refl, (refl, (refl, (refl, (refl, (refl, (refl, (refl, (refl, (refl, (refl, (refl, tt)))))))))))))
 
 -- an actor that stops inside its span
@@ -69,7 +69,7 @@ pub stopped : IsRun (ring 4 3 Multi Multi false ∷ []) 3 (opening 3 (0 ∷ 0 �
     ∷ event 2 (Room 0 Take) (Seen 0)
     ∷ event 2 (Reserve 0 Take Burst 1) (NoRoom 0)
     ∷ [])
-unfolding reply_to after side_of items_of count_of end_of listed holds moved buffers_of
+unfolding reply_to after side_of party_items party_count party_end listed holds moved buffers_had
 stopped = (refl, (refl, (refl, (refl, (refl, (refl, (refl, (refl, (refl, (refl, (refl, tt)))))))))))
 
 -- an HTS span is given up, and the word comes back to an old value
@@ -83,7 +83,7 @@ pub given_up : IsRun (ring 4 3 Hts Hts false ∷ []) 0 (opening 2 ([])) (
     ∷ event 0 (Reserve 0 Put Bulk 2) (Granted 0 2 1)
     ∷ event 1 (Look 0 Put) (Busy 2)
     ∷ [])
-unfolding reply_to after side_of items_of count_of end_of listed holds moved buffers_of
+unfolding reply_to after side_of party_items party_count party_end listed holds moved buffers_had
 given_up = (refl, (refl, (refl, (refl, (refl, (refl, (refl, (refl, tt))))))))
 
 -- a put of a buffer of another actor
@@ -93,7 +93,7 @@ pub not_yours : IsRun (ring 4 3 Multi Multi false ∷ []) 1 (opening 2 (0 ∷ []
     ∷ event 1 (Reserve 0 Put Bulk 1) (Granted 0 1 2)
     ∷ event 1 (SettlePut 0 (Buffers (0 ∷ []) ∷ [])) (NotYours)
     ∷ [])
-unfolding reply_to after side_of items_of count_of end_of listed holds moved buffers_of
+unfolding reply_to after side_of party_items party_count party_end listed holds moved buffers_had
 not_yours = (refl, (refl, (refl, (refl, tt))))
 
 -- a free ring, and a cached buffer
@@ -114,7 +114,7 @@ pub free_ring : IsRun (ring 2 1 Multi Multi true ∷ []) 1 (opening 2 (0 ∷ [])
     ∷ event 1 (Room 0 Put) (Seen 0)
     ∷ event 1 (Reserve 0 Put Bulk 1) (BadCount)
     ∷ [])
-unfolding reply_to after side_of items_of count_of end_of listed holds moved buffers_of
+unfolding reply_to after side_of party_items party_count party_end listed holds moved buffers_had
 free_ring = (refl, (refl, (refl, (refl, (refl, (refl, (refl, (refl, (refl, (refl, (refl, (refl, (refl, (refl, (refl, tt)))))))))))))))
 
 -- an HTS span is settled in part
@@ -133,7 +133,7 @@ pub in_part : IsRun (ring 4 3 Hts Hts false ∷ []) 0 (opening 1 ([])) (
     ∷ event 0 (Reserve 0 Take Bulk 2) (NoRoom 1)
     ∷ event 0 (SettleTake 0 0) (NoSpan)
     ∷ [])
-unfolding reply_to after side_of items_of count_of end_of listed holds moved buffers_of
+unfolding reply_to after side_of party_items party_count party_end listed holds moved buffers_had
 in_part = (refl, (refl, (refl, (refl, (refl, (refl, (refl, (refl, (refl, (refl, (refl, (refl, (refl, tt)))))))))))))
 
 -- a multi put side and an HTS take side
@@ -152,5 +152,5 @@ pub mixed : IsRun (ring 4 3 Multi Hts false ∷ []) 0 (opening 2 ([])) (
     ∷ event 0 (Reserve 0 Put Burst 9) (Granted 2 2 0)
     ∷ event 0 (SettlePut 0 (Word 3 ∷ [])) (BadCount)
     ∷ [])
-unfolding reply_to after side_of items_of count_of end_of listed holds moved buffers_of
+unfolding reply_to after side_of party_items party_count party_end listed holds moved buffers_had
 mixed = (refl, (refl, (refl, (refl, (refl, (refl, (refl, (refl, (refl, (refl, (refl, (refl, (refl, tt)))))))))))))

@@ -18,7 +18,8 @@ use Rattle.ringcore_laws.specs.declared.protocol.Reply.TheVariants.{Seen, Grante
 use Rattle.ringcore_laws.specs.declared.party.Party.{Party}
 use Rattle.ringcore_laws.specs.Party.{is_on}
 use Rattle.ringcore_laws.specs.RingSide.{RingSide, side_of, listed}
-use Rattle.ringcore_laws.specs.History.{Actor, both_seen, buffer_count, earlier_open, is_bad_reserve, is_bad_settle, is_busy, look_reply, may_put, on_ring, own_word, position_of, put_reply, reserve_reply, reserve_seen, room_of, room_reply, seen_on, sees, take_reply}
+use Rattle.ringcore_laws.specs.History.{Actor, both_seen, buffers_of_actor, earlier_open, is_bad_reserve, is_bad_settle, is_busy, look_reply, may_put, on_ring}
+use Rattle.ringcore_laws.specs.History.{own_word, position_of, put_reply, reserve_reply, reserve_seen, room_by_look, room_reply, seen_on, sees, take_reply}
 
 -- of a test, where one of its answers can't be the one that was given
 pub passed : {X : Type 0} (b : Bool) {x y r : X} → (x ≡ r → ⊥) → (if b then x else y) ≡ r → (b ≡ false) × (y ≡ r)
@@ -38,11 +39,13 @@ yes_of true h = refl
 yes_of false h = absurd (let u : true ≡ false = h in cc)
 
 -- a step on no ring is answered NoSpan
-pub on_some_ring : (o : Option RingPlan) (reply : RingPlan → Reply) (r : Reply) → NoSpan ≢ r → on_ring o reply ≡ r → (plan : RingPlan) × (o ≡ Some plan) × (reply plan ≡ r)
+pub on_some_ring : (o : Option RingPlan) (reply : RingPlan → Reply) (r : Reply) → NoSpan ≢ r → on_ring o reply ≡ r → (plan : RingPlan) × (o ≡ Some plan)
+    × (reply plan ≡ r)
 on_some_ring None reply r some h = absurd (some h)
 on_some_ring (Some plan) reply r some h = (plan, refl, h)
 
-pub look_seen_tells : (mode : Mode) (l : RingSide Item) (a : Actor) (w : ℕ) → look_reply mode l a ≡ Seen w → (a.party.span ≡ None) × (is_busy mode l ≡ false) × (own_word mode l ≡ w)
+pub look_seen_tells : (mode : Mode) (l : RingSide Item) (a : Actor) (w : ℕ) → look_reply mode l a ≡ Seen w → (a.party.span ≡ None) × (is_busy mode l ≡ false)
+    × (own_word mode l ≡ w)
 look_seen_tells mode l a w h =
     let idle = passed (is_some a.party.span) (λ e. (let u : NoSpan ≡ Seen w = e in cc)) h in
     let free = passed (is_busy mode l) (λ e. (let u : Busy (own_word mode l) ≡ Seen w = e in cc)) idle.1 in
@@ -69,7 +72,7 @@ pub record Reserving (plan : RingPlan) (pool ring : ℕ) (side : Side) (how : Ho
   pub on : is_on look.ring look.side ring side ≡ true
   pub tail : ℕ
   pub seen : look.tail_seen ≡ Some tail
-  pub answer : reserve_seen plan side how count l (buffer_count pool a) (Some (look.looked_at, tail)) ≡ reply
+  pub answer : reserve_seen plan side how count l (buffers_of_actor pool a) (Some (look.looked_at, tail)) ≡ reply
 
 pub reserve_tells : (plan : RingPlan) (pool ring : ℕ) (side : Side) (how : How) (count : ℕ) (l : RingSide Item) (a : Actor) (reply : Reply) → NoSpan ≢ reply
     → reserve_reply plan pool ring side how count l a ≡ reply → Reserving plan pool ring side how count l a reply
@@ -78,18 +81,19 @@ reserve_tells plan pool ring side how count l a reply some h =
     by_look a.observed refl idle.1 (none_of a.party.span idle.0)
   where
     by_tail : (s : Observed) → a.observed ≡ Some s → is_on s.ring s.side ring side ≡ true → (o : Option ℕ) → s.tail_seen ≡ o
-        → reserve_seen plan side how count l (buffer_count pool a) (both_seen s.looked_at o) ≡ reply → a.party.span ≡ None
+        → reserve_seen plan side how count l (buffers_of_actor pool a) (both_seen s.looked_at o) ≡ reply → a.party.span ≡ None
         → Reserving plan pool ring side how count l a reply
     by_tail s looked on None seen answer idle = absurd (some answer)
     by_tail s looked on (Some t) seen answer idle = record { idle = idle; look = s; looked = looked; on = on; tail = t; seen = seen; answer = answer }
 
     by_on : (s : Observed) → a.observed ≡ Some s → (b : Bool) → is_on s.ring s.side ring side ≡ b
-        → reserve_seen plan side how count l (buffer_count pool a) (if b then both_seen s.looked_at s.tail_seen else None) ≡ reply → a.party.span ≡ None
+        → reserve_seen plan side how count l (buffers_of_actor pool a) (if b then both_seen s.looked_at s.tail_seen else None) ≡ reply → a.party.span ≡ None
         → Reserving plan pool ring side how count l a reply
     by_on s looked true on answer idle = by_tail s looked on s.tail_seen refl answer idle
     by_on s looked false off answer idle = absurd (some answer)
 
-    by_look : (o : Option Observed) → a.observed ≡ o → reserve_seen plan side how count l (buffer_count pool a) (seen_on ring side o) ≡ reply → a.party.span ≡ None
+    by_look : (o : Option Observed) → a.observed ≡ o → reserve_seen plan side how count l (buffers_of_actor pool a) (seen_on ring side o) ≡ reply
+        → a.party.span ≡ None
         → Reserving plan pool ring side how count l a reply
     by_look None looked answer idle = absurd (some answer)
     by_look (Some s) looked answer idle = by_on s looked (is_on s.ring s.side ring side) refl answer idle
@@ -100,7 +104,7 @@ granted_few Burst count room = omega arith
 
 module _ (plan : RingPlan) (side : Side) (how : How) (count : ℕ) (l : RingSide Item) (had looked tail : ℕ) where
   abbrev room_seen : ℕ
-  room_seen = room_of side plan.geometry.capacity (position_of (mode_of plan side) looked) tail
+  room_seen = room_by_look side plan.geometry.capacity (position_of (mode_of plan side) looked) tail
 
   abbrev many : ℕ
   many = granted how count room_seen
@@ -111,7 +115,9 @@ module _ (plan : RingPlan) (side : Side) (how : How) (count : ℕ) (l : RingSide
       let good = passed (is_bad_reserve side plan.free count had) (λ e. (let u : BadCount ≡ Granted start n left = e in cc)) h in
       let some = passed (many == 0) (λ e. (let u : NoRoom room_seen ≡ Granted start n left = e in cc)) good.1 in
       let last = passed (nat_lt LAST (position_of (mode_of plan side) looked + many)) (λ e. (let u : Worn ≡ Granted start n left = e in cc)) some.1 in
-      let won = stopped_at (own_word (mode_of plan side) l == looked) (λ e. (let u : Contended (own_word (mode_of plan side) l) ≡ Granted start n left = e in cc)) last.1 in
+      let won =
+      stopped_at (own_word (mode_of plan side) l == looked) (λ e. (let u : Contended (own_word (mode_of plan side) l) ≡ Granted start n left = e in cc))
+      last.1 in
       let same : many ≡ n = (let u : Granted (position_of (mode_of plan side) looked) many (room_seen - many) ≡ Granted start n left = won.1 in cc) in
       (good.0, omega (arith, same, granted_few how count room_seen))
 
@@ -123,7 +129,8 @@ module _ (plan : RingPlan) (side : Side) (how : How) (count : ℕ) (l : RingSide
       (λ e. not_room (nat_lt LAST (position_of (mode_of plan side) looked + many)) (own_word (mode_of plan side) l == looked) e) good.1 in
       (good.0, grind (arith, nat_tests, none.0), (let u : NoRoom room_seen ≡ NoRoom room = none.1 in cc))
     where
-      not_room : (b c : Bool) → (if b then Worn else if c then Granted (position_of (mode_of plan side) looked) many (room_seen - many) else Contended (own_word (mode_of plan side) l)) ≡ NoRoom room → ⊥
+      not_room : (b c : Bool) → (if b then Worn else if c then Granted (position_of (mode_of plan side) looked) many (room_seen - many)
+          else Contended (own_word (mode_of plan side) l)) ≡ NoRoom room → ⊥
       not_room true c e = (let u : Worn ≡ NoRoom room = e in cc)
       not_room false true e = (let u : Granted (position_of (mode_of plan side) looked) many (room_seen - many) ≡ NoRoom room = e in cc)
       not_room false false e = (let u : Contended (own_word (mode_of plan side) l) ≡ NoRoom room = e in cc)
@@ -134,7 +141,9 @@ module _ (plan : RingPlan) (side : Side) (how : How) (count : ℕ) (l : RingSide
       let good = passed (is_bad_reserve side plan.free count had) (λ e. (let u : BadCount ≡ Contended word = e in cc)) h in
       let some = passed (many == 0) (λ e. (let u : NoRoom room_seen ≡ Contended word = e in cc)) good.1 in
       let last = passed (nat_lt LAST (position_of (mode_of plan side) looked + many)) (λ e. (let u : Worn ≡ Contended word = e in cc)) some.1 in
-      let lost = passed (own_word (mode_of plan side) l == looked) (λ e. (let u : Granted (position_of (mode_of plan side) looked) many (room_seen - many) ≡ Contended word = e in cc)) last.1 in
+      let lost =
+      passed (own_word (mode_of plan side) l == looked) (λ e.
+      (let u : Granted (position_of (mode_of plan side) looked) many (room_seen - many) ≡ Contended word = e in cc)) last.1 in
       ((let u : Contended (own_word (mode_of plan side) l) ≡ Contended word = lost.1 in cc), grind (arith, nat_tests, lost.0))
 
 -- a settle that is answered Done, or NotYet, tells what it had
@@ -151,7 +160,8 @@ put_done_tells plan ring parties a items (Some s) n its h =
     (s, refl, yes_of (is_on s.ring s.side ring Put) on.0, fits.0, yes_of (may_put plan.free a items) mine.0, now.0)
 
 pub put_early_tells : (plan : RingPlan) (ring : ℕ) (parties : List (Party Item)) (a : Actor) (items : List Item) (o : Option Span) (tail : ℕ)
-    → put_reply plan ring parties a items o ≡ NotYet tail → (s : Span) × (o ≡ Some s) × (is_on s.ring s.side ring Put ≡ true) × (earlier_open ring Put s.start parties ≡ true)
+    → put_reply plan ring parties a items o ≡ NotYet tail → (s : Span) × (o ≡ Some s) × (is_on s.ring s.side ring Put ≡ true)
+    × (earlier_open ring Put s.start parties ≡ true)
 put_early_tells plan ring parties a items None tail h = absurd (let u : NoSpan ≡ NotYet tail = h in cc)
 put_early_tells plan ring parties a items (Some s) tail h =
     let on = passed (not (is_on s.ring s.side ring Put)) (λ e. (let u : NoSpan ≡ NotYet tail = e in cc)) h in
@@ -178,10 +188,13 @@ take_done_tells plan ring parties count (Some s) n its h =
     )
 
 pub take_early_tells : (plan : RingPlan) (ring : ℕ) (parties : List (Party Item)) (count : ℕ) (o : Option Span) (tail : ℕ)
-    → take_reply plan ring parties count o ≡ NotYet tail → (s : Span) × (o ≡ Some s) × (is_on s.ring s.side ring Take ≡ true) × (earlier_open ring Take s.start parties ≡ true)
+    → take_reply plan ring parties count o ≡ NotYet tail → (s : Span) × (o ≡ Some s) × (is_on s.ring s.side ring Take ≡ true)
+    × (earlier_open ring Take s.start parties ≡ true)
 take_early_tells plan ring parties count None tail h = absurd (let u : NoSpan ≡ NotYet tail = h in cc)
 take_early_tells plan ring parties count (Some s) tail h =
     let on = passed (not (is_on s.ring s.side ring Take)) (λ e. (let u : NoSpan ≡ NotYet tail = e in cc)) h in
     let fits = passed (is_bad_settle plan.take count s.count) (λ e. (let u : BadCount ≡ NotYet tail = e in cc)) on.1 in
-    let early = stopped_at (earlier_open ring Take s.start parties) (λ e. (let u : Done count (take count (drop s.start (listed (side_of parties ring Put)))) ≡ NotYet tail = e in cc)) fits.1 in
+    let early =
+    stopped_at (earlier_open ring Take s.start parties) (λ e.
+    (let u : Done count (take count (drop s.start (listed (side_of parties ring Put)))) ≡ NotYet tail = e in cc)) fits.1 in
     (s, refl, yes_of (is_on s.ring s.side ring Take) on.0, early.0)

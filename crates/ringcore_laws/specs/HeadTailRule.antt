@@ -12,8 +12,8 @@ use Rattle.ringcore_laws.specs.declared.party.Party.{Party}
 use Rattle.ringcore_laws.specs.RingSide.{RingSide, side_of}
 
 module _ {I : Type 0} where
-  -- The position that the own word of a side shows: of a multi side how far it is reserved, of an HTS side how far it is settled.
-  -- It never goes back
+  -- The position that the own word of a side shows: of a multi side how far it is reserved, of an HTS side how far it
+  -- is settled. It never goes back
   abbrev pub base : Mode → RingSide I → ℕ
   base Multi l = l.reach
   base Hts l = l.len

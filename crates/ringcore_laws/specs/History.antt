@@ -1,7 +1,10 @@
--- The history of a run: what each actor has after the events so far, and the reply to each next step (DPDK Programmer's Guide, "Ring
--- Library", "Anatomy of a Ring Buffer": a local copy of the own head and of the other tail, a compare-and-exchange of the head, and
--- the tail moved once all earlier reservations are; head/tail sync keeps both in one word and takes one reservation at a time)
-use Rattle.std.specs.Prelude.{ℕ, Bool, true, false, not, ◌&&◌, ◌||◌, nat_lt, ◌==◌, ◌+◌, ◌-◌, ◌*◌, ◌/◌, if◌then◌else◌, is_some, ◌≡◌, ◌≤◌, slice_index, List, [], ◌∷◌, map, length, take, drop, slice_get, slice_set, Option, Some, None}
+-- The history of a run: what each actor has after the events so far, and the reply to each next step (DPDK Programmer's
+-- Guide, "Ring Library", "Anatomy of a Ring Buffer": a local copy of the own head and of the other tail, a
+-- compare-and-exchange of the head, and the tail moved once all earlier reservations are; head/tail sync keeps both in
+-- one word and takes one reservation at a time)
+use Rattle.std.specs.Prelude.{ℕ, Bool, false, not, ◌&&◌, ◌||◌, nat_lt, ◌==◌, ◌+◌, ◌-◌, ◌*◌, ◌/◌, if◌then◌else◌, is_some}
+use Rattle.std.specs.Prelude.{◌≡◌, slice_index, List, [], ◌∷◌, map, length, take, drop, slice_get, slice_set, Option}
+use Rattle.std.specs.Prelude.{Some, None}
 use Rattle.std.specs.List.{flat_map, filter, list_all, list_any, range_with_len}
 use Rattle.geom.specs.declared.plan.Mode.{Mode}
 use Rattle.geom.specs.declared.plan.Mode.TheVariants.{Multi, Hts}
@@ -10,21 +13,22 @@ use Rattle.geom.specs.declared.plan.Side.TheVariants.{Put, Take}
 use Rattle.geom.specs.declared.plan.How.{How}
 use Rattle.geom.specs.declared.plan.RingPlan.{RingPlan}
 use Rattle.geom.specs.declared.word.TheConstants.{LAST, RESERVED}
-use Rattle.geom.specs.Extent.{IsExtent}
 use Rattle.geom.specs.Plan.{mode_of, granted}
 use Rattle.ringcore_laws.specs.declared.protocol.Span.{Span}
 use Rattle.ringcore_laws.specs.declared.protocol.Observed.{Observed}
 use Rattle.ringcore_laws.specs.declared.contents.Item.{Item}
 use Rattle.ringcore_laws.specs.declared.contents.Item.TheVariants.{Word, Buffers}
 use Rattle.ringcore_laws.specs.declared.protocol.Step.{Step}
-use Rattle.ringcore_laws.specs.declared.protocol.Step.TheVariants.{Look, Room, Reserve, SettlePut, SettleTake, Stash, Unstash}
+use Rattle.ringcore_laws.specs.declared.protocol.Step.TheVariants.{Look, Room, Reserve, SettlePut, SettleTake, Stash}
+use Rattle.ringcore_laws.specs.declared.protocol.Step.TheVariants.{Unstash}
 use Rattle.ringcore_laws.specs.declared.protocol.Reply.{Reply}
-use Rattle.ringcore_laws.specs.declared.protocol.Reply.TheVariants.{Seen, Granted, Done, Busy, Contended, NoRoom, NotYet, Worn, NoSpan, BadCount, NotYours}
+use Rattle.ringcore_laws.specs.declared.protocol.Reply.TheVariants.{Seen, Granted, Done, Busy, Contended, NoRoom}
+use Rattle.ringcore_laws.specs.declared.protocol.Reply.TheVariants.{NotYet, Worn, NoSpan, BadCount, NotYours}
 use Rattle.ringcore_laws.specs.declared.party.Party.{Party}
 use Rattle.ringcore_laws.specs.Party.{is_on, with_open, with_settled, newcomer}
 use Rattle.ringcore_laws.specs.RingSide.{RingSide, side_of, listed}
 use Rattle.ringcore_laws.specs.Sound.{Sound, occurrences, holds}
-use Rattle.ringcore_laws.specs.FreeRings.{buffers_of}
+use Rattle.ringcore_laws.specs.FreeRings.{buffers_had}
 
 -- the buffers of an item
 abbrev pub tags : Item → List ℕ
@@ -63,24 +67,29 @@ after_reserve a ring side (Granted start count left) =
     record { party = with_open a.party span; observed = None; cached = a.cached }
 after_reserve a ring side _ = record { party = a.party; observed = None; cached = a.cached }
 
+-- A settle of the open span. In a right history a Settle that is answered Done is of the span's ring and side, and its
+-- count is the number of the items, so neither is asked for here: the reply's tests compare them
 abbrev pub settled_span : Party Item → Option Span → List Item → Party Item
 settled_span party None items = party
 settled_span party (Some span) items = with_settled party span items
 
-abbrev pub after_put : Actor → List Item → Reply → Actor
-after_put a items (Done count none) = record { party = settled_span a.party a.party.span items; observed = a.observed; cached = a.cached }
-after_put a items _ = a
+abbrev pub after_settle_put : Actor → List Item → Reply → Actor
+after_settle_put a items (Done count none) =
+    record { party = settled_span a.party a.party.span items; observed = a.observed; cached = a.cached }
+after_settle_put a items _ = a
 
-abbrev pub after_take : Actor → Reply → Actor
-after_take a (Done count items) = record { party = settled_span a.party a.party.span items; observed = a.observed; cached = a.cached }
-after_take a _ = a
+abbrev pub after_settle_take : Actor → Reply → Actor
+after_settle_take a (Done count items) =
+    record { party = settled_span a.party a.party.span items; observed = a.observed; cached = a.cached }
+after_settle_take a _ = a
 
 abbrev pub after_stash : Actor → ℕ → Reply → Actor
 after_stash a b (Seen _) = record { party = a.party; observed = a.observed; cached = b ∷ a.cached }
 after_stash a b _ = a
 
 abbrev pub after_unstash : Actor → ℕ → Reply → Actor
-after_unstash a b (Seen _) = record { party = a.party; observed = a.observed; cached = filter (λ c. not (c == b)) a.cached }
+after_unstash a b (Seen _) =
+    record { party = a.party; observed = a.observed; cached = filter (λ c. not (c == b)) a.cached }
 after_unstash a b _ = a
 
 -- an actor after its step was answered so
@@ -88,14 +97,15 @@ abbrev pub after_step : Actor → Step → Reply → Actor
 after_step a (Look ring side) reply = after_look a ring side reply
 after_step a (Room ring side) reply = after_room a reply
 after_step a (Reserve ring side how count) reply = after_reserve a ring side reply
-after_step a (SettlePut ring items) reply = after_put a items reply
-after_step a (SettleTake ring count) reply = after_take a reply
+after_step a (SettlePut ring items) reply = after_settle_put a items reply
+after_step a (SettleTake ring count) reply = after_settle_take a reply
 after_step a (Stash b) reply = after_stash a b reply
 after_step a (Unstash b) reply = after_unstash a b reply
 
 -- 2. The reply to a step
 
--- The word of a side. A multi side shows how far it is reserved, an HTS side how far it is settled and how much is reserved from there on
+-- The word of a side. A multi side shows how far it is reserved, an HTS side how far it is settled and how much is
+-- reserved from there on
 abbrev pub own_word : {I : Type 0} → Mode → RingSide I → ℕ
 own_word Multi l = l.reach
 own_word Hts l = l.len * RESERVED + l.open_count
@@ -126,13 +136,13 @@ room_reply ring side other a =
     else NoSpan
 
 -- the room that an actor has, by what it has seen
-abbrev pub room_of : Side → ℕ → ℕ → ℕ → ℕ
-room_of Put capacity position tail = capacity + tail - position
-room_of Take capacity position tail = tail - position
+abbrev pub room_by_look : Side → ℕ → ℕ → ℕ → ℕ
+room_by_look Put capacity position tail = capacity + tail - position
+room_by_look Take capacity position tail = tail - position
 
 -- how many buffers an actor has, held or cached
-abbrev pub buffer_count : ℕ → Actor → ℕ
-buffer_count pool a = buffers_of tags pool a.party
+abbrev pub buffers_of_actor : ℕ → Actor → ℕ
+buffers_of_actor pool a = buffers_had tags pool a.party
 
 abbrev pub is_bad_reserve : Side → Bool → ℕ → ℕ → Bool
 is_bad_reserve Put free count had = (count == 0) || (free && nat_lt had count)
@@ -153,7 +163,7 @@ reserve_seen plan side how count l buffers None = NoSpan
 reserve_seen plan side how count l buffers (Some seen) =
     let own = own_word (mode_of plan side) l in
     let position = position_of (mode_of plan side) seen.0 in
-    let room = room_of side plan.geometry.capacity position seen.1 in
+    let room = room_by_look side plan.geometry.capacity position seen.1 in
     let m = granted how count room in
     if is_bad_reserve side plan.free count buffers then BadCount
     else if m == 0 then NoRoom room
@@ -164,11 +174,11 @@ reserve_seen plan side how count l buffers (Some seen) =
 abbrev pub reserve_reply : RingPlan → ℕ → ℕ → Side → How → ℕ → RingSide Item → Actor → Reply
 reserve_reply plan pool ring side how count l a =
     if is_some a.party.span then NoSpan
-    else reserve_seen plan side how count l (buffer_count pool a) (seen_on ring side a.observed)
+    else reserve_seen plan side how count l (buffers_of_actor pool a) (seen_on ring side a.observed)
 
 abbrev pub is_bad_settle : Mode → ℕ → ℕ → Bool
-is_bad_settle Multi count openers = not (count == openers)
-is_bad_settle Hts count openers = nat_lt openers count
+is_bad_settle Multi count reserved = not (count == reserved)
+is_bad_settle Hts count reserved = nat_lt reserved count
 
 -- whether an open span is of this side, and starts below a position
 abbrev pub starts_below : ℕ → Side → ℕ → Option Span → Bool
@@ -177,7 +187,8 @@ starts_below ring side position (Some s) = is_on s.ring s.side ring side && nat_
 
 -- whether some party has such an open span
 abbrev pub earlier_open : {I : Type 0} → ℕ → Side → ℕ → List (Party I) → Bool
-earlier_open {I} ring side position parties = list_any (λ (party : Party I). starts_below ring side position party.span) parties
+earlier_open {I} ring side position parties =
+    list_any (λ (party : Party I). starts_below ring side position party.span) parties
 
 abbrev pub is_cached : Actor → ℕ → Bool
 is_cached a b = list_any (λ c. c == b) a.cached
@@ -219,20 +230,20 @@ on_ring None reply = NoSpan
 on_ring (Some plan) reply = reply plan
 
 -- the reply to a step of this actor
-abbrev pub reply_of : List RingPlan → ℕ → List (Party Item) → Actor → Step → Reply
-reply_of plans pool parties a (Look ring side) =
+abbrev pub actor_reply : List RingPlan → ℕ → List (Party Item) → Actor → Step → Reply
+actor_reply plans pool parties a (Look ring side) =
     on_ring (slice_get plans ring) (λ plan. look_reply (mode_of plan side) (side_of parties ring side) a)
-reply_of plans pool parties a (Room ring side) =
+actor_reply plans pool parties a (Room ring side) =
     on_ring (slice_get plans ring) (λ plan. room_reply ring side (side_of parties ring (other_side side)) a)
-reply_of plans pool parties a (Reserve ring side how count) =
+actor_reply plans pool parties a (Reserve ring side how count) =
     on_ring (slice_get plans ring)
     (λ plan. reserve_reply plan pool ring side how count (side_of parties ring side) a)
-reply_of plans pool parties a (SettlePut ring items) =
+actor_reply plans pool parties a (SettlePut ring items) =
     on_ring (slice_get plans ring) (λ plan. put_reply plan ring parties a items a.party.span)
-reply_of plans pool parties a (SettleTake ring count) =
+actor_reply plans pool parties a (SettleTake ring count) =
     on_ring (slice_get plans ring) (λ plan. take_reply plan ring parties count a.party.span)
-reply_of plans pool parties a (Stash b) = if is_held a b then Seen b else NotYours
-reply_of plans pool parties a (Unstash b) = if (holds tags b a.party == 1) && is_cached a b then Seen b else NotYours
+actor_reply plans pool parties a (Stash b) = if is_held a b then Seen b else NotYours
+actor_reply plans pool parties a (Unstash b) = if (holds tags b a.party == 1) && is_cached a b then Seen b else NotYours
 
 -- 3. Histories
 
@@ -246,7 +257,7 @@ parties_of actors = map (λ a. a.party) actors
 
 abbrev pub reply_to_one : List RingPlan → ℕ → List (Party Item) → Option Actor → Step → Reply
 reply_to_one plans pool parties None step = NoSpan
-reply_to_one plans pool parties (Some a) step = reply_of plans pool parties a step
+reply_to_one plans pool parties (Some a) step = actor_reply plans pool parties a step
 
 -- the reply to the next step
 unfoldable pub reply_to : List RingPlan → ℕ → List Actor → ℕ → Step → Reply
@@ -268,22 +279,21 @@ after_all actors (e ∷ events) = after_all (after actors e) events
 -- each reply is the one to its step
 abbrev pub IsRun : List RingPlan → ℕ → List Actor → List Event → Type 0
 IsRun plans pool actors [] = Unit {0}
-IsRun plans pool actors (e ∷ events) = (e.reply ≡ reply_to plans pool actors e.actor e.step) × IsRun plans pool (after actors e) events
+IsRun plans pool actors (e ∷ events) =
+    (e.reply ≡ reply_to plans pool actors e.actor e.step) × IsRun plans pool (after actors e) events
 
 -- the actors are sound now, and after each of these events
 abbrev pub StaysSound : List RingPlan → ℕ → List Actor → List Event → Type 0
 StaysSound plans pool actors [] = Sound tags plans pool (parties_of actors)
-StaysSound plans pool actors (e ∷ events) = Sound tags plans pool (parties_of actors) × StaysSound plans pool (after actors e) events
+StaysSound plans pool actors (e ∷ events) =
+    Sound tags plans pool (parties_of actors) × StaysSound plans pool (after actors e) events
 
 -- the buffers that an actor is given: those whose gift names it
-abbrev pub gifts_to : List ℕ → ℕ → List ℕ
-gifts_to gifts i = filter (λ b. slice_index gifts b == i) (range_with_len 0 (length gifts))
+abbrev pub buffers_given : List ℕ → ℕ → List ℕ
+buffers_given gifts i = filter (λ b. slice_index gifts b == i) (range_with_len 0 (length gifts))
 
 -- so many actors before any event, buffer b given to the actor that stands at b in the gifts
 abbrev pub opening : ℕ → List ℕ → List Actor
-opening actors gifts = map (λ i. record { party = newcomer (gifts_to gifts i); observed = None; cached = [] }) (range_with_len 0 actors)
-
--- whether a plan may be
-pub record IsLawful (plans : List RingPlan) (pool : ℕ) : Type 0 where
-  pub extents : (r : ℕ) (plan : RingPlan) → slice_get plans r ≡ Some plan → IsExtent plan.geometry
-  pub free_rings : (r : ℕ) (plan : RingPlan) → slice_get plans r ≡ Some plan → plan.free ≡ true → pool ≤ plan.geometry.capacity
+opening actors gifts =
+    map (λ i. record { party = newcomer (buffers_given gifts i); observed = None; cached = [] })
+    (range_with_len 0 actors)

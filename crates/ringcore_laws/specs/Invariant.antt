@@ -1,4 +1,5 @@
--- What each event keeps of the actors: soundness, the order of reservations, and that looks are true. It holds after every right history
+-- What each event keeps of the actors: soundness, the order of reservations, and that looks are true. It holds after
+-- every right history
 use Rattle.std.specs.Prelude.{ℕ, ◌*◌, ◌<◌, ◌≤◌, ◌≡◌, List, length, slice_get, slice_index_or, Some}
 use Rattle.geom.specs.declared.plan.Mode.TheVariants.{Hts}
 use Rattle.geom.specs.declared.plan.RingPlan.{RingPlan}
@@ -14,7 +15,8 @@ use Rattle.ringcore_laws.specs.History.{Actor, tags, parties_of, other_side, pos
 -- a look that is true: an HTS word with nothing reserved, and a tail that was there
 pub record TrueObserved {I : Type 0} (plans : List RingPlan) (parties : List (Party I)) (s : Observed) : Type 0 where
   pub known : s.ring < length plans
-  pub whole : (plan : RingPlan) → slice_get plans s.ring ≡ Some plan → mode_of plan s.side ≡ Hts → (q : ℕ) × (s.looked_at ≡ q * RESERVED)
+  pub whole : (plan : RingPlan) → slice_get plans s.ring ≡ Some plan → mode_of plan s.side ≡ Hts → (q : ℕ)
+      × (s.looked_at ≡ q * RESERVED)
   pub tail_seen : (t : ℕ) → s.tail_seen ≡ Some t → t ≤ (side_of parties s.ring (other_side s.side)).len
 
 -- a look stands at or below the position that the own word of its side shows now

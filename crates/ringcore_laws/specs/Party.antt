@@ -1,4 +1,5 @@
--- A party to the rings: an actor of the core, or a hand of a fabric. It has its spans of positions, and the buffers that it was given.
+-- A party to the rings: an actor of the core, or a hand of a fabric. It has its spans of positions, and the buffers
+-- that it was given.
 use Rattle.std.specs.Prelude.{ℕ, Bool, true, false, ◌&&◌, ◌==◌, nat_lt, nat_le, ◌+◌, List, [], ◌∷◌, ◌++◌, None, Some}
 use Rattle.geom.specs.declared.plan.Side.{Side}
 use Rattle.geom.specs.declared.plan.Side.TheVariants.{Put, Take}

@@ -34,13 +34,14 @@ places_with b i (a ∷ actors) = place_with b i a ++ places_with b (i + 1) actor
 
 -- all places of a buffer: on so many rings, and with the actors
 abbrev pub all_places : ℕ → List Actor → ℕ → List Place
-all_places rings actors b = flat_map (places_on b (parties_of actors)) (range_with_len 0 rings) ++ places_with b 0 actors
+all_places rings actors b =
+    flat_map (places_on b (parties_of actors)) (range_with_len 0 rings) ++ places_with b 0 actors
 
 abbrev pub first_place : List Place → Place
 first_place [] = Nowhere
-first_place (x ∷ places) = x
+first_place (x ∷ rest) = x
 
--- The place of a buffer. After every list of steps a buffer of the pool has exactly one, any other number none: so the first is
--- the only one
+-- The place of a buffer. After every list of steps a buffer of the pool has exactly one, any other number none: so the
+-- first is the only one
 abbrev pub place : ℕ → List Actor → ℕ → Place
 place rings actors b = first_place (all_places rings actors b)

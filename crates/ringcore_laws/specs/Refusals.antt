@@ -1,5 +1,6 @@
 -- When a refusal is true, of the events before it
-use Rattle.std.specs.Prelude.{ℕ, Bool, true, false, ◌&&◌, ◌==◌, ◌+◌, ◌-◌, ◌<◌, ◌≡◌, ◌≢◌, if◌then◌else◌, List, [], ◌∷◌, slice_get, Option, Some, None}
+use Rattle.std.specs.Prelude.{ℕ, Bool, true, false, ◌&&◌, ◌==◌, ◌+◌, ◌-◌, ◌<◌, ◌≡◌, ◌≢◌, if◌then◌else◌, List, [], ◌∷◌}
+use Rattle.std.specs.Prelude.{slice_get, Option, Some, None}
 use Rattle.geom.specs.declared.plan.How.{How}
 use Rattle.geom.specs.declared.plan.How.TheVariants.{Bulk, Burst}
 use Rattle.geom.specs.declared.plan.Side.{Side}
@@ -31,13 +32,15 @@ is_room_of i e = (e.actor == i) && is_room_answer e.step e.reply
 -- the actors right before the last such event
 abbrev pub at_last_room : List Actor → Option (List Actor) → ℕ → List Event → Option (List Actor)
 at_last_room actors found i [] = found
-at_last_room actors found i (e ∷ events) = at_last_room (after actors e) (if is_room_of i e then Some actors else found) i events
+at_last_room actors found i (e ∷ events) =
+    at_last_room (after actors e) (if is_room_of i e then Some actors else found) i events
 
 -- 2. What makes a refusal true
 
 -- the room that there is on a side
 abbrev pub room_on : RingPlan → List (Party Item) → ℕ → Side → ℕ
-room_on plan parties ring Put = plan.geometry.capacity + (side_of parties ring Take).len - (side_of parties ring Put).reach
+room_on plan parties ring Put =
+    plan.geometry.capacity + (side_of parties ring Take).len - (side_of parties ring Put).reach
 room_on plan parties ring Take = (side_of parties ring Put).len - (side_of parties ring Take).reach
 
 abbrev pub IsTooLittle : How → ℕ → ℕ → Type 0
@@ -47,7 +50,8 @@ IsTooLittle Burst count room = room ≡ 0
 -- NoRoom: at the actor's last question for room there was too little
 abbrev pub HadNoRoom : RingPlan → List Actor → List Event → ℕ → ℕ → Side → How → ℕ → Type 0
 HadNoRoom plan actors events i ring side how count =
-    (past : List Actor) × (at_last_room actors None i events ≡ Some past) × IsTooLittle how count (room_on plan (parties_of past) ring side)
+    (past : List Actor) × (at_last_room actors None i events ≡ Some past)
+    × IsTooLittle how count (room_on plan (parties_of past) ring side)
 
 -- Contended: the own word is another one than the actor looked at
 abbrev pub HasMoved : RingPlan → List Actor → ℕ → ℕ → Side → ℕ → Type 0
@@ -58,20 +62,23 @@ HasMoved plan actors i ring side word =
 -- Busy: another actor's span of the side is open
 abbrev pub IsTaken : List Actor → ℕ → ℕ → Side → Type 0
 IsTaken actors i ring side =
-    (j : ℕ) × (other : Actor) × (span : Span) × (j ≢ i) × (slice_get actors j ≡ Some other) × (other.party.span ≡ Some span)
+    (j : ℕ) × (other : Actor) × (span : Span) × (j ≢ i) × (slice_get actors j ≡ Some other)
+    × (other.party.span ≡ Some span)
     × (is_on span.ring span.side ring side ≡ true)
 
 -- NotYet: a span of the own side with a lower start is open
 abbrev pub HasEarlier : List Actor → ℕ → Type 0
 HasEarlier actors i =
     (a : Actor) × (own : Span) × (j : ℕ) × (other : Actor) × (span : Span)
-    × (slice_get actors i ≡ Some a) × (a.party.span ≡ Some own) × (slice_get actors j ≡ Some other) × (other.party.span ≡ Some span)
+    × (slice_get actors i ≡ Some a) × (a.party.span ≡ Some own) × (slice_get actors j ≡ Some other)
+    × (other.party.span ≡ Some span)
     × (is_on span.ring span.side own.ring own.side ≡ true) × (span.start < own.start)
 
 -- no put into a free ring was answered NoRoom
 abbrev pub PutsFindRoom : List RingPlan → List Event → Type 0
 PutsFindRoom plans [] = Unit {0}
 PutsFindRoom plans (e ∷ events) =
-    ((ring : ℕ) (how : How) (count room : ℕ) (plan : RingPlan) → e.step ≡ Reserve ring Put how count → e.reply ≡ NoRoom room
+    ((ring : ℕ) (how : How) (count room : ℕ) (plan : RingPlan) → e.step ≡ Reserve ring Put how count
+    → e.reply ≡ NoRoom room
     → slice_get plans ring ≡ Some plan → plan.free ≡ false)
     × PutsFindRoom plans events

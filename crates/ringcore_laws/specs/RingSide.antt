@@ -1,5 +1,7 @@
--- One side of a ring as the spans of all parties make it: which items were settled at which position, and what is reserved
-use Rattle.std.specs.Prelude.{ℕ, ◌&&◌, nat_le, ◌+◌, ◌-◌, ◌<◌, ◌≤◌, ◌≡◌, max, if◌then◌else◌, List, [], ◌∷◌, length, slice_get, Option, Some, None}
+-- One side of a ring as the spans of all parties make it: which items were settled at which position, and what is
+-- reserved
+use Rattle.std.specs.Prelude.{ℕ, ◌&&◌, nat_le, ◌+◌, ◌-◌, ◌<◌, ◌≤◌, ◌≡◌, max, if◌then◌else◌, List, [], ◌∷◌, length}
+use Rattle.std.specs.Prelude.{slice_get, Option, Some, None}
 use Rattle.std.specs.List.{flat_map, sum_by, range_with_len}
 use Rattle.std.specs.Option.{option_to_list}
 use Rattle.geom.specs.declared.plan.Side.{Side}
@@ -50,30 +52,31 @@ module _ {I : Type 0} where
   abbrev pub settled_end : ℕ → Side → Settled I → ℕ
   settled_end ring side s = if is_on s.ring s.side ring side then s.start + length s.items else 0
 
-  unfoldable pub items_of : ℕ → Side → ℕ → Party I → List I
-  items_of ring side p party = flat_map (settled_at ring side p) party.settled
+  unfoldable pub party_items : ℕ → Side → ℕ → Party I → List I
+  party_items ring side p party = flat_map (settled_at ring side p) party.settled
 
-  unfoldable pub count_of : ℕ → Side → Party I → ℕ
-  count_of ring side party = sum_by (settled_count ring side) party.settled
+  unfoldable pub party_count : ℕ → Side → Party I → ℕ
+  party_count ring side party = sum_by (settled_count ring side) party.settled
 
-  unfoldable pub end_of : ℕ → Side → Party I → ℕ
-  end_of ring side party = max (greatest (settled_end ring side) party.settled) (span_end ring side party.span)
+  unfoldable pub party_end : ℕ → Side → Party I → ℕ
+  party_end ring side party = max (greatest (settled_end ring side) party.settled) (span_end ring side party.span)
 
   -- a side of a ring, by the spans of all parties
   unfoldable pub side_of : List (Party I) → ℕ → Side → RingSide I
   side_of parties ring side = record {
-    items_at = λ p. flat_map (items_of ring side p) parties;
-    len = sum_by (count_of ring side) parties;
+    items_at = λ p. flat_map (party_items ring side p) parties;
+    len = sum_by (party_count ring side) parties;
     openers = λ p. sum_by (λ party. span_at ring side p party.span) parties;
     open_count = sum_by (λ party. span_count ring side party.span) parties;
-    reach = greatest (end_of ring side) parties;
+    reach = greatest (party_end ring side) parties;
   }
 
   -- the settled items in order of position
   unfoldable pub listed : RingSide I → List I
   listed l = flat_map l.items_at (range_with_len 0 l.len)
 
-  -- The positions with a settled item are 0, 1, 2 and so on, each with one. So `listed` has each settled item at its position
+  -- The positions with a settled item are 0, 1, 2 and so on, each with one. So `listed` has each settled item at its
+  -- position
   pub record IsGapless (l : RingSide I) : Type 0 where
     pub one : (p : ℕ) → p < l.len → length (l.items_at p) ≡ 1
     pub none : (p : ℕ) → l.len ≤ p → l.items_at p ≡ []

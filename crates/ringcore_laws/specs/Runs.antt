@@ -1,6 +1,7 @@
 -- Runs of the machine: the history of a list of steps, and what the headline says of it
-use Rattle.std.specs.Prelude.{ℕ, ◌<◌, ◌≤◌, ◌≡◌, Bool, true, false, List, [], ◌∷◌, length, slice_get, slice_index, Some, None}
-use Rattle.geom.specs.Extent.{IsExtent}
+use Rattle.std.specs.Prelude.{ℕ, ◌<◌, ◌≤◌, ◌≡◌, Bool, true, false, List, [], ◌∷◌, map, length, slice_get, slice_index}
+use Rattle.std.specs.Prelude.{Some, None}
+use Rattle.geom.specs.Fit.{AllFit}
 use Rattle.geom.specs.declared.plan.RingPlan.{RingPlan}
 use Rattle.ringcore_laws.specs.declared.protocol.Step.{Step}
 use Rattle.ringcore_laws.specs.declared.protocol.Reply.{Reply}
@@ -15,9 +16,8 @@ pub record IsPlan (plans : List RingPlan) (actors : ℕ) (gifts : List ℕ) : Ty
   pub few_actors : actors ≤ 64
   pub few_buffers : length gifts ≤ 65536
   pub to_actors : (b : ℕ) → b < length gifts → slice_index gifts b < actors
-  pub extents : (r : ℕ) (plan : RingPlan) → slice_get plans r ≡ Some plan → IsExtent plan.geometry
-  -- all buffers fit into each free ring
-  pub free_rings : (r : ℕ) (plan : RingPlan) → slice_get plans r ≡ Some plan → plan.free ≡ true → length gifts ≤ plan.geometry.capacity
+  -- each ring may have its size, and all buffers fit into each free ring
+  pub rings : AllFit plans (length gifts)
 
 -- the history of a list of steps, each an actor and what it does: each step with the reply to it
 abbrev pub history_of : List RingPlan → ℕ → List Actor → List (ℕ × Step) → List Event
@@ -25,6 +25,10 @@ history_of plans pool actors [] = []
 history_of plans pool actors (s ∷ steps) =
     let e : Event = record { actor = s.0; step = s.1; reply = reply_to plans pool actors s.0 s.1 } in
     e ∷ history_of plans pool (after actors e) steps
+
+-- the steps of events, each with its actor
+abbrev pub steps_of : List Event → List (ℕ × Step)
+steps_of events = map (λ e. (e.actor, e.step)) events
 
 abbrev pub is_grant : Reply → Bool
 is_grant (Granted start count left) = true

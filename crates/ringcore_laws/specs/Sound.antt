@@ -1,5 +1,6 @@
 -- When parties share rings and buffers soundly
-use Rattle.std.specs.Prelude.{ℕ, Bool, ◌&&◌, nat_le, nat_lt, ◌==◌, ◌+◌, ◌-◌, ◌%◌, ◌<◌, ◌≤◌, ◌≡◌, if◌then◌else◌, List, [], ◌++◌, length, drop, slice_get, slice_index_or, Some}
+use Rattle.std.specs.Prelude.{ℕ, Bool, ◌&&◌, nat_le, nat_lt, ◌==◌, ◌+◌, ◌-◌, ◌%◌, ◌<◌, ◌≤◌, ◌≡◌, if◌then◌else◌, List}
+use Rattle.std.specs.Prelude.{[], ◌++◌, length, drop, slice_get, slice_index_or, Some}
 use Rattle.std.specs.List.{sum_by, count_by, range_with_len}
 use Rattle.geom.specs.declared.plan.Side.{Side}
 use Rattle.geom.specs.declared.plan.Side.TheVariants.{Put, Take}
@@ -18,7 +19,8 @@ module _ {I : Type 0} where
   abbrev pub is_queued : RingSide I → RingSide I → ℕ → Bool
   is_queued put take p = nat_le take.len p && nat_lt p put.len
 
-  -- how often a position's slot is claimed: by each open span that holds it, and by a queued item that no open take holds
+  -- how often a position's slot is claimed: by each open span that holds it, and by a queued item that no open take
+  -- holds
   unfoldable pub claims : RingSide I → RingSide I → ℕ → ℕ
   claims put take p = put.openers p + take.openers p + (if is_queued put take p && (take.openers p == 0) then 1 else 0)
 
@@ -65,16 +67,18 @@ module _ {I : Type 0} (tags : I → List ℕ) where
   abbrev pub in_ring : ℕ → List (Party I) → ℕ → ℕ
   in_ring b parties ring = occurrences_in b (queue parties ring)
 
-  -- the places of a buffer: with parties, and on rings. A sum of natural numbers is 1 just where one of them is 1 and all others are 0
-  unfoldable pub places : ℕ → ℕ → List (Party I) → ℕ
-  places rings b parties = sum_by (holds b) parties + sum_by (in_ring b parties) (range_with_len 0 rings)
+  -- the places of a buffer: with parties, and on rings. A sum of natural numbers is 1 just where one of them is 1 and
+  -- all others are 0
+  unfoldable pub place_count : ℕ → ℕ → List (Party I) → ℕ
+  place_count rings b parties = sum_by (holds b) parties + sum_by (in_ring b parties) (range_with_len 0 rings)
 
-  -- what holds of the buffers: none is put more often than it was had, and each of the pool has one place, any other number none
+  -- what holds of the buffers: none is put more often than it was had, and each of the pool has one place, any other
+  -- number none
   pub record SoundBuffers (rings pool : ℕ) (parties : List (Party I)) : Type 0 where
     pub never_below_none : (i : ℕ) (d : Party I) (b : ℕ) → i < length parties
         → let party = slice_index_or parties i d in moved Put b party ≤ occurrences b party.given + moved Take b party
-    pub one_place : (b : ℕ) → b < pool → places rings b parties ≡ 1
-    pub no_place : (b : ℕ) → pool ≤ b → places rings b parties ≡ 0
+    pub one_place : (b : ℕ) → b < pool → place_count rings b parties ≡ 1
+    pub no_place : (b : ℕ) → pool ≤ b → place_count rings b parties ≡ 0
 
   -- no slot and no buffer has two holders, nothing is lost, and what was dequeued is a beginning of what was published
   pub record Sound (plans : List RingPlan) (pool : ℕ) (parties : List (Party I)) : Type 0 where

@@ -7,6 +7,7 @@ ghost use Rattle.geom.specs.declared.plan.How.{How};
 ghost use Rattle.geom.specs.declared.plan.RingPlan.{RingPlan};
 ghost use Rattle.geom.specs.declared.plan.Side.{Side};
 ghost use Rattle.geom.specs.declared.plan.Side.TheVariants.{Put, Take};
+ghost use Rattle.geom.specs.Fit.{AllFit};
 ghost use Rattle.ringcore_laws.specs.declared.protocol.Reply.TheVariants.{Busy, Contended, NoRoom, NotYet};
 ghost use Rattle.ringcore_laws.specs.declared.protocol.Step.TheVariants.{Look, Reserve, SettlePut, SettleTake};
 ghost use Rattle.ringcore_laws.specs.HeadTailRule.{HeadTailRule};
@@ -19,9 +20,9 @@ ghost use Rattle.ringcore_laws.specs.declared.protocol.Span.{Span};
 ghost use Rattle.ringcore_laws.specs.Moves.{IsReservable, Owns, reserved_by, settled_by};
 ghost use Rattle.ringcore_laws.specs.RingSide.{side_of};
 ghost use Rattle.ringcore_laws.specs.Sound.{Sound, queue};
-ghost use Rattle.ringcore_laws.specs.History.{Actor, Event, IsRun, StaysSound, IsLawful, after, after_all, opening, parties_of, reply_to, tags};
+ghost use Rattle.ringcore_laws.specs.History.{Actor, Event, IsRun, StaysSound, after, after_all, opening, parties_of, reply_to, tags};
 ghost use Rattle.ringcore_laws.specs.Place.{all_places};
-ghost use Rattle.ringcore_laws.specs.Runs.{IsPlan, OneSpanEach, history_of, is_done, is_grant};
+ghost use Rattle.ringcore_laws.specs.Runs.{IsPlan, OneSpanEach, history_of, is_done, is_grant, steps_of};
 
 /// Every list of steps is sound: before the first event and after each, no slot and no buffer has two holders, no two
 /// actors differ on the item at a position, what was dequeued from each ring is a beginning of what was published
@@ -94,10 +95,17 @@ pub fn a_free_ring_has_room()
         → reply_to plans (length gifts) now i (Reserve ring Put how count) ≢ NoRoom room }
 {}
 
+/// A history in which each reply is the one to its step is the history of its steps, so that what is said here of lists
+/// of steps is said of it.
+pub fn a_right_history_is_that_of_its_steps()
+    ensures { (plans : List RingPlan) (pool : ℕ) (actors : List Actor) (events : List Event)
+        → IsRun plans pool actors events → events ≡ history_of plans pool actors (steps_of events) }
+{}
+
 /// The same said of histories that are given: where each reply is the one to its step, the history is sound throughout.
 pub fn every_history_is_sound()
     ensures { (plans : List RingPlan) (actors : ℕ) (gifts : List ℕ) (events : List Event)
-        → IsLawful plans (length gifts)
+        → AllFit plans (length gifts)
         → ((b : ℕ) → b < length gifts → slice_index gifts b < actors)
         → IsRun plans (length gifts) (opening actors gifts) events
         → StaysSound plans (length gifts) (opening actors gifts) events }

@@ -1,15 +1,16 @@
 //! The groups: memory for one more, an entry that gets one, and an entry that gives one back.
 
-ghost use Rattle.std.specs.Prelude.{◌≡◌, ◌+◌, ◌≤◌, ◌<◌, ◌^◌, ◌↔◌, ℕ, true, false, if◌then◌else◌, OnOk, OnErr, IfErr, ◌⊎◌};
-ghost use Rattle.lpm.specs.Cell.{is_group};
-ghost use Rattle.lpm.specs.Plane.{first_at, cell_at, used_of, Grows, Regroups};
+ghost use Rattle.std.specs.Prelude.{◌≡◌, ◌+◌, ◌≤◌, ◌<◌, ◌^◌, ◌↔◌, ℕ, true, false, if◌then◌else◌, OnOk, OnErr, IfErr};
+ghost use Rattle.std.specs.Prelude.{◌⊎◌};
+ghost use Rattle.lpm.specs.TableEntry.{is_group};
+ghost use Rattle.lpm.specs.TwoLevels.{first_at, entry_at, used_of, Grows, Regroups};
 ghost use Rattle.lpm.specs.Prefixes.{size_of};
 
 use super::Levels;
 use crate::fault::RouteFault;
-use crate::paint::fill;
+use crate::overwrite::fill;
+use crate::packed_entry::PackedEntry;
 use crate::places::{place, size};
-use crate::slot::Slot;
 use std::alloc::AllocError;
 
 impl Levels {
@@ -27,14 +28,14 @@ impl Levels {
         let made = self.made();
         let length = self.groups.len() + size(self.bits);
         self.free.reserve(made + 1)?;
-        self.groups.resize(length, Slot::none())?;
+        self.groups.resize(length, PackedEntry::none())?;
         self.free.push_reserved(made as u32);
         Ok(())
     }
 
     /// Gives an entry a free group, each place of which says what the entry said.
     fn open_group(&mut self, first: usize)
-        requires entry { first < 2 ^ self.old.bits }
+        requires first { first < 2 ^ self.old.bits }
         requires plain { is_group (first_at self.old first) ≡ false }
         requires room { 0 < self.old.free }
         ensures used { used_of self.new ≡ used_of self.old + 1 }
@@ -44,22 +45,22 @@ impl Levels {
         let start = place(group, 0, self.bits);
         let end = place(group, size(self.bits), self.bits);
         fill(&mut self.groups, start, end, self.first[first]);
-        self.first[first] = Slot::group(group);
+        self.first[first] = PackedEntry::group(group);
     }
 
     /// Takes the group of an entry back, where each of its places says the same.
     pub fn close_group(&mut self, first: usize)
-        requires entry { first < 2 ^ self.old.bits }
+        requires first { first < 2 ^ self.old.bits }
         requires grouped { is_group (first_at self.old first) ≡ true }
-        requires plain { is_group (cell_at self.old first 0) ≡ false }
+        requires plain { is_group (entry_at self.old first 0) ≡ false }
         requires alike { (low : ℕ) → low < size_of self.old.bits
-            → cell_at self.old first low ≡ cell_at self.old first 0 }
+            → entry_at self.old first low ≡ entry_at self.old first 0 }
         ensures used { used_of self.new + 1 ≡ used_of self.old }
         ensures closes { Regroups self.old self.new first false }
     {
         let group = self.first[first].number();
-        let slot = self.at(first, 0);
-        self.first[first] = slot;
+        let entry = self.in_group(group, 0);
+        self.first[first] = entry;
         self.free.push_reserved(group);
     }
 
@@ -89,7 +90,7 @@ impl Levels {
 
     /// Gives the entry a group, if it has none.
     pub fn ensure_group(&mut self, first: usize)
-        requires entry { first < 2 ^ self.old.bits }
+        requires first { first < 2 ^ self.old.bits }
         requires room { is_group (first_at self.old first) ≡ false → 0 < self.old.free }
         ensures used { used_of self.new ≡ used_of self.old + (if is_group (first_at self.old first) then 0 else 1) }
         ensures opens { Regroups self.old self.new first true }

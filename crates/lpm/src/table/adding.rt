@@ -6,9 +6,9 @@ ghost use Rattle.lpm.specs.Routes.{Accepts, HasMembers, NeedsTooMany, with_route
 
 use super::{MAX_DEPTH, Table};
 use crate::fault::RouteFault;
+use crate::packed_entry::PackedEntry;
 use crate::places::first_of;
 use crate::prefix::Prefix;
-use crate::slot::Slot;
 
 /// One more than the greatest next hop.
 const HOPS: u32 = 1 << 24;
@@ -57,7 +57,8 @@ impl Table {
     {
         let prefix = Prefix::of(addr, depth);
         self.members.insert(prefix, hop)?;
-        self.levels.paint(prefix, Slot::route(depth, hop));
+        self.levels
+            .overwrite(prefix, PackedEntry::route(depth, hop));
         Ok(())
     }
 
@@ -76,7 +77,8 @@ impl Table {
         self.levels.reserve_group(first)?;
         self.members.insert(prefix, hop)?;
         self.levels.ensure_group(first);
-        self.levels.paint(prefix, Slot::route(depth, hop));
+        self.levels
+            .overwrite(prefix, PackedEntry::route(depth, hop));
         Ok(())
     }
 }

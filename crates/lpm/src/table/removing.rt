@@ -48,7 +48,7 @@ impl Table {
         let prefix = Prefix::of(addr, depth);
         self.members.remove(prefix)?;
         let next = self.members.longest(addr, depth - 1);
-        self.levels.paint(prefix, next);
+        self.levels.overwrite(prefix, next);
         Ok(())
     }
 
@@ -68,7 +68,7 @@ impl Table {
         let first = first_of(prefix.address, bits);
         self.members.remove(prefix)?;
         let next = self.members.longest(addr, depth - 1);
-        self.levels.paint(prefix, next);
+        self.levels.overwrite(prefix, next);
         if !self.members.has_deeper(prefix.address, bits) {
             self.levels.close_group(first);
         }

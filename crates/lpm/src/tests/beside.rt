@@ -1,10 +1,10 @@
 //! The levels beside a plain list of the same routes, on pseudo-random routes: both answer alike.
 
-ghost use Rattle.std.specs.Prelude.{◌≡◌, ◌<◌, ◌≤◌, ◌⊎◌};
+ghost use Rattle.std.specs.Prelude.{◌≡◌, ◌⊎◌};
 
-use crate::example::read;
+use crate::example::{look_up_two, read};
 use crate::plain::Plain;
-use crate::tests::add;
+use crate::tests::calls::{add, lookup, remove};
 use crate::{RouteFault, Table};
 use std::alloc::{AllocError, Global};
 use std::process::Abort;
@@ -50,39 +50,50 @@ impl Random {
     }
 }
 
-/// Adds to the table as to the list, once more where memory was refused.
-fn add_to_both(rt: &impl Abort, table: &mut Table, plain: &mut Plain, random: &mut Random)
-    ensures { table.new.bits ≡ table.old.bits }
-{
-    let (addr, depth, hop) = (random.address(), random.depth(), random.hop());
-    let answer = add(table, addr, depth, hop);
-    let mut expected = plain.add(addr, depth, hop);
-    if expected == Err(RouteFault::Memory) {
-        expected = plain.add(addr, depth, hop);
+/// Adds to the list, once more where memory was refused.
+fn add_plain(plain: &mut Plain, addr: u32, depth: u8, hop: u32) -> Result<(), RouteFault> {
+    let answer = plain.add(addr, depth, hop);
+    if answer == Err(RouteFault::Memory) {
+        plain.add(addr, depth, hop)
+    } else {
+        answer
     }
-    assert_eq!(rt; answer, expected, "add {addr:08x}/{depth}");
 }
 
-fn remove_from_both(rt: &impl Abort, table: &mut Table, plain: &mut Plain, random: &mut Random)
-    ensures { table.new.bits ≡ table.old.bits }
-{
+fn add_to_both(rt: &impl Abort, table: &mut Table, plain: &mut Plain, random: &mut Random) {
+    let (addr, depth, hop) = (random.address(), random.depth(), random.hop());
+    assert_eq!(rt;
+        add(table, addr, depth, hop),
+        add_plain(plain, addr, depth, hop),
+        "add {addr:08x}/{depth}"
+    );
+}
+
+/// As the list's call, without its clauses.
+fn remove_plain(plain: &mut Plain, addr: u32, depth: u8) -> Result<(), RouteFault> {
+    plain.remove(addr, depth)
+}
+
+fn remove_from_both(rt: &impl Abort, table: &mut Table, plain: &mut Plain, random: &mut Random) {
     let (addr, depth) = (random.address(), random.depth());
     assert_eq!(rt;
-        table.remove(addr, depth),
-        plain.remove(addr, depth),
+        remove(table, addr, depth),
+        remove_plain(plain, addr, depth),
         "remove {addr:08x}/{depth}"
     );
 }
 
-fn look_up_in_both(rt: &impl Abort, table: &Table, bits: u8, plain: &Plain, random: &mut Random)
-    requires level { bits ≡ table.now.bits }
-    requires some { 0 < bits }
-    requires most { bits ≤ 24 }
-{
+fn look_up_in_both(rt: &impl Abort, table: &Table, plain: &Plain, random: &mut Random) {
     let addr = random.address();
+    let other = random.address();
     let expected = plain.lookup(addr);
-    assert_eq!(rt; table.lookup(addr), expected, "{addr:08x}");
-    assert_eq!(rt; read(table, bits, addr), expected, "entry of {addr:08x}");
+    assert_eq!(rt;
+        look_up_two(table, other, addr),
+        (plain.lookup(other), expected),
+        "{other:08x} and {addr:08x}"
+    );
+    assert_eq!(rt; lookup(table, addr), expected, "{addr:08x}");
+    assert_eq!(rt; read(table, addr), expected, "entry of {addr:08x}");
 }
 
 /// Makes the calls on a table and on a list.
@@ -100,9 +111,9 @@ fn compare(
     let mut random = Random { state: seed };
     for _ in 0..CALLS {
         add_to_both(rt, &mut table, &mut plain, &mut random);
-        look_up_in_both(rt, &table, bits, &plain, &mut random);
+        look_up_in_both(rt, &table, &plain, &mut random);
         remove_from_both(rt, &mut table, &mut plain, &mut random);
-        look_up_in_both(rt, &table, bits, &plain, &mut random);
+        look_up_in_both(rt, &table, &plain, &mut random);
     }
     Ok(())
 }

@@ -5,8 +5,11 @@ ghost use Rattle.geom.specs.Plan.{mode_of};
 ghost use Rattle.ringcore_laws.specs.declared.contents.Item.{Item as AnItem};
 ghost use Rattle.ringcore_laws.specs.declared.protocol.Reply.TheVariants.{NoSpan};
 ghost use Rattle.ringcore_laws.specs.RingSide.{RingSide};
+ghost use Rattle.ringcore_laws.specs.HeadTailRule.{RuledSide};
 ghost use Rattle.ringcore_laws.specs.History.{Actor, look_reply, room_reply, reserve_seen as seen_reply, seen_on, other_side};
-ghost use Rattle.ringcore.specs.Agree.{SideAgrees, TailFits, words_of, member_looked, member_asked, member_tried, reserve_answer, ring_tried, put_answer, take_answer, PutResult, TakeResult, StashResult, UnstashResult};
+ghost use Rattle.ringcore.specs.Agree.{WordsAgree};
+ghost use Rattle.ringcore.specs.Changes.{side_words, member_looked, member_asked, member_tried, ring_tried, PutResult, TakeResult, StashResult, UnstashResult};
+ghost use Rattle.ringcore.specs.Replies.{TailFits, reserve_answer, put_answer, take_answer};
 ghost use Rattle.ringcore.specs.Histories.{IsUnchanged};
 ghost use Rattle.ringcore.specs.Stepping.{BothSet, FoundAt, MemberAt, RingAt, SameCounts, SamePlans, SameRings, SetMember, SetRing};
 
@@ -32,7 +35,8 @@ impl World {
         ensures member { MemberAt self.old actor (λ m.
             SetMember self.old self.new actor (member_looked m ring side result)) }
         ensures reply { FoundAt self.old actor ring (λ m plan r. (l : RingSide AnItem) (a : Actor)
-            → SideAgrees (mode_of plan side) l (words_of r side) → a.party.span ≡ m.span
+            → RuledSide (mode_of plan side) l → WordsAgree (mode_of plan side) l (side_words r side)
+            → a.party.span ≡ m.span
             → result ≡ look_reply (mode_of plan side) l a) }
     {
         look(
@@ -52,7 +56,7 @@ impl World {
         ensures kept { SameRings self.old self.new }
         ensures member { MemberAt self.old actor (λ m. SetMember self.old self.new actor (member_asked m result)) }
         ensures reply { MemberAt self.old actor (λ m. RingAt self.old ring (λ r. (l : RingSide AnItem) (a : Actor)
-            → l.len ≡ (words_of r (other_side side)).tail → a.party.span ≡ m.span → a.observed ≡ m.observed
+            → l.len ≡ (side_words r (other_side side)).tail → a.party.span ≡ m.span → a.observed ≡ m.observed
             → result ≡ room_reply ring side l a)) }
     {
         room(&self.rings[ring], ring, side, &mut self.members[actor])
@@ -76,7 +80,8 @@ impl World {
             SetMember self.old self.new actor (member_tried m ring side result)) }
         ensures ring { RingAt self.old ring (λ r. SetRing self.old self.new ring (ring_tried r side result)) }
         ensures reply { FoundAt self.old actor ring (λ m plan r. (l : RingSide AnItem)
-            → SideAgrees (mode_of plan side) l (words_of r side) → TailFits plan m.observed
+            → RuledSide (mode_of plan side) l → WordsAgree (mode_of plan side) l (side_words r side)
+            → TailFits plan m.observed
             → result ≡ (if is_some m.span then NoSpan
             else seen_reply plan side how count l (vec_len m.buffers) (seen_on ring side m.observed))) }
     {

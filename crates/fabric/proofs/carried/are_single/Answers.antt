@@ -4,7 +4,8 @@ use Rattle.fabric.proofs.carried.are_single.Goals as goal
 
 pub loop-i-preserved : goal.loop-i-preserved
 loop-i-preserved g c = record {
-  all = single_step g.T.Tagged.numbers c.args.items.now c.loop-i.i c.loop-i.invariant.all (ap length (sym c.numbers_at.ensures) ∙ (sym c.len.ensures.value ∙ c.if-len-ne1.false));
+  all = single_step g.T.Tagged.numbers c.args.items.now c.loop-i.i c.loop-i.invariant.all
+      (ap length (sym c.numbers_at.ensures) ∙ (sym c.len.ensures.value ∙ c.if-len-ne1.false));
 }
 
 pub returns-then-len-ne1 : goal.returns-then-len-ne1

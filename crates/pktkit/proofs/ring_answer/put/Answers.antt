@@ -10,7 +10,7 @@ returns-clause-ring c =
     let queue : c.in_ok-queue.queue.items ≡ c.args.items.now = search rules in
     let count : c.put-moved.result.count ≡ granted c.args.how (length c.args.items.now) (ring.capacity - length ring.items) =
     c.put-moved.ensures.count ∙ ap (λ items. granted c.args.how (length items) (ring.capacity - length ring.items)) queue in
-    on_ok_always c.two_numbers.result
+    on_ok_always c.write_two_numbers.result
     (ap ring_contents c.put-moved.ensures.queued
     ∙ ap (λ items. ring_contents record ring { items = ring.items ++ take c.put-moved.result.count items }) queue
     ∙ put_contents ring c.args.how c.args.items.now c.put-moved.result.count count)

@@ -1,9 +1,9 @@
 use Rattle.std.proofs.Common.{◌≡◌, ◌∙◌, ◌++◌, ap, take, length, drop, append_assoc, codes, decimal}
 use Rattle.std.proofs.lemmas.Result.{on_ok_weaker}
 use Rattle.ringcore.specs.Fifo.{Fifo}
-use Rattle.pktkit.specs.RingReplies.{ring_contents, items_text}
+use Rattle.pktkit.specs.RingReplies.{ring_contents, words_text}
 use Rattle.pktkit.proofs.Contents.{take_contents, take_text-texts, on_ok_always}
-use Rattle.pktkit.specs.Text.{texts}
+use Rattle.lines.specs.Text.{texts}
 use Rattle.pktkit.proofs.ring_answer.take.Goals as goal
 
 pub returns-clause-ring : goal.returns-clause-ring
@@ -24,7 +24,7 @@ returns-clause-text c =
     moved.ensures.left ∙ ap (λ (q : Fifo _). length q.items) moved.ensures.queued in
     on_ok_weaker c.list.result (λ listed.
     listed
-    ∙ ap (λ xs. xs ++ items_text (texts c.as_slice.result.now)) c.in_ok-two_numbers.ensures
-    ∙ append_assoc old head (items_text (texts c.as_slice.result.now))
+    ∙ ap (λ xs. xs ++ words_text (texts c.as_slice.result.now)) c.in_ok-write_two_numbers.ensures
+    ∙ append_assoc old head (words_text (texts c.as_slice.result.now))
     ∙ ap (λ xs. old ++ xs) (take_text-texts ring c.args.how c.args.n moved.moved.count moved.moved.left c.as_slice.result.now moved.ensures.count left given))
     c.list.ensures

@@ -4,11 +4,12 @@ use Rattle.std.specs.Str.Lines.{strip_carriage_return}
 use Rattle.std.proofs.lemmas.List.{length-map, length_push}
 use Rattle.std.proofs.lemmas.Iterator.Consumers.{YieldsList-turn, YieldsList-end}
 use Rattle.std.proofs.lemmas.Iterator.Splits.{YieldsList-from_slice_split}
-use Rattle.pktkit.specs.Text.{lines_of, words_of}
-use Rattle.pktkit.specs.RingReplies.{reply_to, state_of, IsAnsweredTo, IsFirstBad}
-use Rattle.pktkit.specs.declared.text.TextFault.TheVariants.{BadLine}
-use Rattle.pktkit.proofs.Lines.{line_there, at_number}
-use Rattle.pktkit.proofs.RingRuns.{answered_more, ring_after-more, first_bad}
+use Rattle.lines.specs.Text.{lines_of, words_of}
+use Rattle.lines.specs.Files.{is_admitted, reply_at, state_past, left_by, IsAnsweredTo, IsFirstBad}
+use Rattle.pktkit.specs.RingReplies.{RingState, contents, ring_file}
+use Rattle.lines.specs.declared.fault.TextFault.TheVariants.{BadLine}
+use Rattle.lines.proofs.Lines.{line_there, at_number}
+use Rattle.lines.proofs.Runs.{answered_more, left_more, first_bad}
 use Rattle.pktkit.proofs.ring_text.ring_text.Goals as goal
 
 pub returns-in_err-answer_line-clause-first_bad : goal.returns-in_err-answer_line-clause-first_bad
@@ -21,8 +22,12 @@ returns-in_err-answer_line-clause-first_bad c = λ n fault.
     let here = line_there bytes c.in-Some.line.now c.without_return.result.now number part c.without_return.ensures in
     let refused : c.answer_line.result ≡ Err (BadLine n) = search rules in
     let told = c.answer_line.ensures.number n refused in
-    subst (λ (m : ℕ). IsFirstBad m (lines_of bytes)) (sym told)
-    (first_bad (lines_of bytes) number c.without_return.result.now here.0 here.1 (c.answer_line.ensures.bad n refused))
+    let line = c.without_return.result.now in
+    subst (λ (m : ℕ). IsFirstBad ring_file m (lines_of bytes)) (sym told)
+    (first_bad ring_file (lines_of bytes) number line c.args.out.now.items c.loop-line.out.items here.0 here.1
+    c.loop-line.invariant.1
+    (ap (λ (s : RingState). is_admitted ring_file s (words_of line)) (sym c.loop-line.invariant.2)
+    ∙ c.answer_line.ensures.bad n refused))
 
 pub loop-line-preserved : goal.loop-line-preserved
 loop-line-preserved c =
@@ -39,12 +44,15 @@ loop-line-preserved c =
     let before = so_far.0 in
     let gained : c.extend_from_slice.new.self.items ≡ c.loop-line.out.items ++ c.as_slice.result.now = search rules in (
       omega arith,
-      answered_more (lines_of bytes) number line c.args.out.now.items c.loop-line.out.items c.extend_from_slice.new.self.items here.0 here.1
-          so_far.1 answered.lawful
+      answered_more ring_file (lines_of bytes) number line c.args.out.now.items c.loop-line.out.items
+          c.extend_from_slice.new.self.items here.0 here.1 so_far.1
+          (ap (λ (s : RingState). is_admitted ring_file s (words_of line)) (sym so_far.2) ∙ answered.admitted)
           (gained
           ∙ ap (λ xs. c.loop-line.out.items ++ xs)
-          (c.as_slice.ensures.value ∙ answered.reply ∙ ap (λ s. reply_to s (words_of line)) so_far.2)),
-      answered.ring ∙ ap (λ s. state_of s (words_of line)) so_far.2 ∙ sym (ring_after-more (lines_of bytes) number line here.0 here.1),
+          (c.as_slice.ensures.value ∙ answered.reply
+          ∙ ap (λ (s : RingState). reply_at ring_file s (words_of line)) so_far.2)),
+      answered.ring ∙ ap (λ (s : RingState). state_past ring_file s (words_of line)) so_far.2
+          ∙ sym (left_more ring_file (lines_of bytes) number line here.0 here.1),
     )
 
 pub returns-clause-ok : goal.returns-clause-ok
@@ -52,5 +60,6 @@ returns-clause-ok c =
     let bytes = c.args.bytes.now in
     let road = YieldsList-from_slice_split _ (λ b. b == 10) bytes (search rules) (search rules) (search rules) (λ x b q k. search (rules, tests)) in
     let end = YieldsList-end road c.loop-line.yielded _ c.loop-line.yielded_by _ _ c.in-None.is c.next.ensures.steps in
-    let all : c.loop-line.number ≡ length (lines_of bytes) = c.loop-line.invariant.0 ∙ end.1 ∙ sym (length-map (slice_split (λ b. b == 10) bytes) strip_carriage_return) in
-    subst (λ (k : ℕ). IsAnsweredTo k (lines_of bytes) c.args.out.now.items c.loop-line.out.items) all c.loop-line.invariant.1
+    let all : c.loop-line.number ≡ length (lines_of bytes) =
+    c.loop-line.invariant.0 ∙ end.1 ∙ sym (length-map (slice_split (λ b. b == 10) bytes) strip_carriage_return) in
+    subst (λ (k : ℕ). IsAnsweredTo ring_file k (lines_of bytes) c.args.out.now.items c.loop-line.out.items) all c.loop-line.invariant.1

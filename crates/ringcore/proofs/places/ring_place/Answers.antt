@@ -34,8 +34,10 @@ returns-in-Some c = λ bounded.
     let ring = c.index-rings-number.result in
     let fits = small c.args.rings.now c.loop-number.number ring bounded c.loop-number-test.true c.index-rings-number.is in
     let queue = c.deref.ensures.value in
-    let one : Some c.in-Some.position ≡ first (positions_from c.args.b ring.take.tail c.deref.result.now) = sym c.in-Some.is ∙ c.queued_position.ensures (omega (arith, fits, ap length queue)) in
-    some_here c.loop-number.number c.in-Some.position (positions_from c.args.b ring.take.tail ring.queue.items) _ (sym (one ∙ found c.args.b ring c.deref.result.now queue))
+    let one : Some c.in-Some.position ≡ first (positions_from c.args.b ring.take.tail c.deref.result.now) =
+    sym c.in-Some.is ∙ c.queued_position.ensures (omega (arith, fits, ap length queue)) in
+    some_here c.loop-number.number c.in-Some.position (positions_from c.args.b ring.take.tail ring.queue.items) _
+    (sym (one ∙ found c.args.b ring c.deref.result.now queue))
     ∙ sym (c.loop-number.invariant bounded ∙ left c.args.b c.loop-number.number c.args.rings.now ring c.loop-number-test.true c.index-rings-number.is)
 
 pub loop-number-preserved : goal.loop-number-preserved
@@ -43,7 +45,8 @@ loop-number-preserved c = λ bounded.
     let ring = c.index-rings-number.result in
     let fits = small c.args.rings.now c.loop-number.number ring bounded c.loop-number-test.true c.index-rings-number.is in
     let queue = c.deref.ensures.value in
-    let none : None ≡ first (positions_from c.args.b ring.take.tail c.deref.result.now) = sym c.in_default.is ∙ c.queued_position.ensures (omega (arith, fits, ap length queue)) in
+    let none : None ≡ first (positions_from c.args.b ring.take.tail c.deref.result.now) =
+    sym c.in_default.is ∙ c.queued_position.ensures (omega (arith, fits, ap length queue)) in
     c.loop-number.invariant bounded
     ∙ (left c.args.b c.loop-number.number c.args.rings.now ring c.loop-number-test.true c.index-rings-number.is
     ∙ none_here c.loop-number.number (positions_from c.args.b ring.take.tail ring.queue.items) _ (sym (none ∙ found c.args.b ring c.deref.result.now queue)))

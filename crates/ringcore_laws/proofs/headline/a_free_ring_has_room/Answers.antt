@@ -13,4 +13,4 @@ returns c = λ plans actors gifts steps plan.
     let events = history_of plans (length gifts) start steps in
     λ i ring how count room p there free.
     never_no_room plans (length gifts) (after_all start events) (λ j. at_last_room start None j events) (standing_after plans actors gifts steps plan)
-    i ring Put how count p there room refl free (plan.free_rings ring p there free)
+    i ring Put how count p there room refl free ((plan.rings ring p there).free_rings free)

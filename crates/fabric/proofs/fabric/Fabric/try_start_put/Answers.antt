@@ -6,10 +6,11 @@ use Rattle.geom.specs.declared.plan.Side.TheVariants.{Put}
 use Rattle.ringcore_laws.specs.History.{position_of}
 use Rattle.fabric_laws.specs.Kinds.{run}
 use Rattle.fabric_laws.specs.Words.{slot_at}
-use Rattle.fabric.specs.Starts.{Judges, MayAsk, Refuses, Starts}
+use Rattle.fabric.specs.Starts.{RefusesCount, MayAsk, RefusesStart, Starts}
 use Rattle.fabric.specs.declared.hand.StartFault.TheVariants.{BadCount, Contended}
 use Rattle.fabric.specs.Views.{span_of}
-use Rattle.fabric.proofs.Starting.{alive_on, bad_judged, bad_put, contended, few_buffers, has_seen, idle_on, judged, may_put, put_room, row_on, row_opened, same_ring, shape_at, started, well_on, well_opened}
+use Rattle.fabric.proofs.Starting.{alive_on, bad_count, bad_put, contended, few_buffers, has_seen, idle_on, count_refused, may_put, put_room, row_on}
+use Rattle.fabric.proofs.Starting.{row_opened, same_ring, shape_at, started, well_on, well_opened}
 use Rattle.fabric.proofs.fabric.Fabric.try_start_put.Goals as goal
 
 pub returns-then-is_bad_count-clause-refused : goal.returns-then-is_bad_count-clause-refused
@@ -18,26 +19,34 @@ returns-then-is_bad_count-clause-refused g c =
     let at = shape_at f.plan.rings.items f.shapes.items c.args.ring c.index.result.now f.laid c.requires.ring c.index.ensures in (
       c.requires.hand,
       λ plan there.
-          subst (λ p. Refuses g.T.Tagged.numbers g.row.N c.args.how c.args.n c.args.ring Put p c.args.hand.share.seat.me.0 c.args.hand.share.seat.me.0 BadCount)
+          subst (λ p. RefusesStart g.T.Tagged.numbers g.row.N c.args.how c.args.n c.args.ring Put p c.args.hand.share.seat.me.0 c.args.hand.share.seat.me.0
+          BadCount)
           (same_ring f.plan.rings.items c.args.ring c.index.result.now.plan plan at.0 there)
-          (bad_put g.T.Tagged.numbers g.row.N c.args.n c.args.ring c.args.ring c.args.how c.args.hand.share.seat.me.0 c.args.hand.share.owned c.index.result.now.plan c.args.hand.share.row
+          (bad_put g.T.Tagged.numbers g.row.N c.args.n c.args.ring c.args.ring c.args.how c.args.hand.share.seat.me.0 c.args.hand.share.owned
+          c.index.result.now.plan c.args.hand.share.row
           (c.is_bad_count.ensures.bad c.if-is_bad_count.true)),
     )
 
 pub aim-requires : goal.aim-requires
 aim-requires g c =
     let f = c.args.self.now in
-    let at = shape_at f.plan.rings.items f.shapes.items c.args.ring c.index.result.now f.laid c.requires.ring c.index.ensures in
-    (search rules, (c.requires.hand.0, (at.0, (c.requires.hand.1, (c.args.hand.share.alive, c.args.hand.idle)))))
+    let at = shape_at f.plan.rings.items f.shapes.items c.args.ring c.index.result.now f.laid c.requires.ring c.index.ensures in (
+      search rules,
+      (
+        record { table = c.requires.hand.0; plans = c.requires.hand.1; pool = c.requires.hand.2; alive = c.args.hand.share.alive },
+        c.args.hand.idle,
+      ),
+    )
 
 pub returns-in-Err-clause-refused : goal.returns-in-Err-clause-refused
 returns-in-Err-clause-refused g c =
     let f = c.args.self.now in
     let at = shape_at f.plan.rings.items f.shapes.items c.args.ring c.index.result.now f.laid c.requires.ring c.index.ensures in
     let k = c.aim.ensures.kept in (
-      (c.aim.ensures.fabric.0 ∙ c.requires.hand.0, k.plans ∙ c.requires.hand.1, k.pool ∙ c.requires.hand.2),
+      (c.aim.ensures.seat.0.0 ∙ c.requires.hand.0, k.plans ∙ c.requires.hand.1, k.pool ∙ c.requires.hand.2),
       λ plan there.
-          subst (λ p. Refuses g.T.Tagged.numbers g.row.N c.args.how c.args.n c.args.ring Put p c.args.hand.share.seat.me.0 c.aim.new.seat.me.0 c.in-Err.fault)
+          subst (λ p. RefusesStart g.T.Tagged.numbers g.row.N c.args.how c.args.n c.args.ring Put p c.args.hand.share.seat.me.0 c.aim.new.seat.me.0
+          c.in-Err.fault)
           (same_ring f.plan.rings.items c.args.ring c.index.result.now.plan plan at.0 there) (c.in-Err.ensures.err),
     )
 
@@ -54,25 +63,22 @@ reserve_put-found-requires g c =
     let tags = g.T.Tagged.numbers in (
       search rules,
       (
-        c.aim.ensures.fabric.0 ∙ c.requires.hand.0,
+        record {
+          table = c.aim.ensures.seat.0.0 ∙ c.requires.hand.0;
+          plans = k.plans ∙ c.requires.hand.1;
+          pool = k.pool ∙ c.requires.hand.2;
+          alive = alive_on tags v w k c.args.hand.share.alive;
+        },
         (
-          at.0,
+          idle_on tags v w k c.args.hand.idle,
           (
-            (k.plans ∙ c.requires.hand.1, k.pool ∙ c.requires.hand.2),
+            (q.tail, has_seen tags c.args.ring Put p v w q a.0, put_room tags c.args.ring Put p v w q c.in-Ok.aim.1 refl a.0 a.2 a.4),
             (
-              alive_on tags v w k c.args.hand.share.alive,
+              a.2,
               (
-                idle_on tags v w k c.args.hand.idle,
-                (
-                  (q.tail, has_seen tags c.args.ring Put p v w q a.0, put_room tags c.args.ring Put p v w q c.in-Ok.aim.1 refl a.0 a.2 a.4),
-                  (
-                    a.2,
-                    (
-                      subst (λ z. z + c.in-Ok.aim.1 ≤ LAST) a.0.1 a.5,
-                      few_buffers tags c.in-Ok.aim.1 c.args.n v w c.args.hand.share.owned p c.args.hand.share.row k a.3 (c.is_bad_count.ensures.good c.if-is_bad_count.false).2,
-                    ),
-                  ),
-                ),
+                subst (λ z. z + c.in-Ok.aim.1 ≤ LAST) a.0.1 a.5,
+                few_buffers tags c.in-Ok.aim.1 c.args.n v w c.args.hand.share.owned p c.args.hand.share.row k a.3
+                    (c.is_bad_count.ensures.good c.if-is_bad_count.false).2,
               ),
             ),
           ),
@@ -90,14 +96,16 @@ returns-then-found-probe-clause-refused g c =
     let a = c.in-Ok.ensures.ok in
     let lost = c.reserve_put-found.ensures.lost c.if-found-probe.true in (
       (
-        c.reserve_put-found.ensures.fabric.0 ∙ (c.aim.ensures.fabric.0 ∙ c.requires.hand.0),
+        c.reserve_put-found.ensures.seat.0 ∙ (c.aim.ensures.seat.0.0 ∙ c.requires.hand.0),
         ap (λ z. z.plans) lost.0 ∙ (k.plans ∙ c.requires.hand.1),
         ap (λ z. z.pool) lost.0 ∙ (k.pool ∙ c.requires.hand.2),
       ),
       λ plan there.
-          subst (λ p. Refuses g.T.Tagged.numbers g.row.N c.args.how c.args.n c.args.ring Put p v c.reserve_put-found.new.seat.me.0 (Contended c.reserve_put-found.result))
+          subst (λ p. RefusesStart g.T.Tagged.numbers g.row.N c.args.how c.args.n c.args.ring Put p v c.reserve_put-found.new.seat.me.0
+          (Contended c.reserve_put-found.result))
           (same_ring f.plan.rings.items c.args.ring c.index.result.now.plan plan at.0 there)
-          (contended g.T.Tagged.numbers c.args.ring Put c.index.result.now.plan g.row.N c.args.n c.args.how v w c.reserve_put-found.new.seat.me.0 c.in-Ok.aim.0 c.in-Ok.aim.1 c.reserve_put-found.result
+          (contended g.T.Tagged.numbers c.args.ring Put c.index.result.now.plan g.row.N c.args.n c.args.how v w c.reserve_put-found.new.seat.me.0 c.in-Ok.aim.0
+          c.in-Ok.aim.1 c.reserve_put-found.result
           a.0 a.1 a.2 c.if-found-probe.true lost.0),
     )
 
@@ -128,16 +136,15 @@ invariant_of-result-3 g c =
     let m = c.in-Ok.aim.1 in
     let won = c.reserve_put-found.ensures.won c.if-found-probe.false in
     record {
-      table = c.reserve_put-found.ensures.fabric.0 ∙ (c.aim.ensures.fabric.0 ∙ c.requires.hand.0);
+      table = c.reserve_put-found.ensures.seat.0 ∙ (c.aim.ensures.seat.0.0 ∙ c.requires.hand.0);
       plans = (ap (λ z. z.plans) won.0 ∙ (k.plans ∙ c.requires.hand.1), ap (λ z. z.pool) won.0 ∙ (k.pool ∙ c.requires.hand.2));
-      in_plan = at;
       span = ap (λ z. z.party.span) won.0 ∙ ap (λ n. Some (span_of c.args.ring Put n m)) (sym a.0.1);
       slots = won.1
-          ∙ (ap (λ l. run (slot_at f.plan.rings.items c.args.ring p) (position_of p.put c.in-Ok.aim.0.word) (replicate m None) ++ l) (c.aim.ensures.fabric.2 ∙ c.args.hand.no_slots)
+          ∙ (ap (λ l. run (slot_at f.plan.rings.items c.args.ring p) (position_of p.put c.in-Ok.aim.0.word) (replicate m None) ++ l)
+          (c.aim.ensures.seat.1 ∙ c.args.hand.no_slots)
           ∙ (append-nil (run (slot_at f.plan.rings.items c.args.ring p) (position_of p.put c.in-Ok.aim.0.word) (replicate m None))
           ∙ ap (λ n. run (slot_at f.plan.rings.items c.args.ring p) n (replicate m None)) (sym a.0.1)));
       fits = omega (arith, a.3, (c.is_bad_count.ensures.good c.if-is_bad_count.false).1);
-      last = a.5;
     }
 
 pub returns-clause-started : goal.returns-clause-started
@@ -151,23 +158,29 @@ returns-clause-started g c =
       refl,
       refl,
       λ plan there.
-          subst (λ p. Starts g.T.Tagged.numbers c.args.how c.args.n c.args.ring Put p v c.in-Ok.aim.0.start c.in-Ok.aim.1 (c.in-Ok.aim.0.room - c.in-Ok.aim.1) [] c.reserve_put-found.new.seat.me.0)
+          subst (λ p. Starts g.T.Tagged.numbers c.args.how c.args.n c.args.ring Put p v c.in-Ok.aim.0.start c.in-Ok.aim.1 (c.in-Ok.aim.0.room - c.in-Ok.aim.1)
+          [] c.reserve_put-found.new.seat.me.0)
           (same_ring f.plan.rings.items c.args.ring c.index.result.now.plan plan at.0 there)
-          (started g.T.Tagged.numbers c.args.ring Put c.index.result.now.plan c.args.n c.args.how v w c.reserve_put-found.new.seat.me.0 c.in-Ok.aim.0 c.in-Ok.aim.1 (c.in-Ok.aim.0.room - c.in-Ok.aim.1) [] a.0 a.1 a.2 a.5 refl won.0),
+          (started g.T.Tagged.numbers c.args.ring Put c.index.result.now.plan c.args.n c.args.how v w c.reserve_put-found.new.seat.me.0 c.in-Ok.aim.0
+          c.in-Ok.aim.1 (c.in-Ok.aim.0.room - c.in-Ok.aim.1) [] a.0 a.1 a.2 a.5 refl won.0),
     )
 
-pub returns-then-is_bad_count-clause-judged : goal.returns-then-is_bad_count-clause-judged
-returns-then-is_bad_count-clause-judged g c plan there =
+pub returns-then-is_bad_count-clause-asked : goal.returns-then-is_bad_count-clause-asked
+returns-then-is_bad_count-clause-asked g c plan there =
     let f = c.args.self.now in
     let h = c.args.hand.share in
     let tags = g.T.Tagged.numbers in
     let p = c.index.result.now.plan in
     let at = shape_at f.plan.rings.items f.shapes.items c.args.ring c.index.result.now f.laid c.requires.ring c.index.ensures in
-    let bad = bad_put tags g.row.N c.args.n c.args.ring c.args.ring c.args.how h.seat.me.0 h.owned p h.row (c.is_bad_count.ensures.bad c.if-is_bad_count.true) in
-    (tt, subst (λ z. Judges tags g.row.N c.args.n Put z h.seat.me.0 BadCount) (same_ring f.plan.rings.items c.args.ring p plan at.0 there) (bad_judged tags g.row.N c.args.n Put p h.seat.me.0 bad.0))
+    let bad =
+    bad_put tags g.row.N c.args.n c.args.ring c.args.ring c.args.how h.seat.me.0 h.owned p h.row (c.is_bad_count.ensures.bad c.if-is_bad_count.true) in (
+      tt,
+      subst (λ z. RefusesCount tags g.row.N c.args.n Put z h.seat.me.0 BadCount) (same_ring f.plan.rings.items c.args.ring p plan at.0 there)
+          (bad_count tags g.row.N c.args.n Put p h.seat.me.0 bad.0),
+    )
 
-pub returns-in-Err-clause-judged : goal.returns-in-Err-clause-judged
-returns-in-Err-clause-judged g c plan there =
+pub returns-in-Err-clause-asked : goal.returns-in-Err-clause-asked
+returns-in-Err-clause-asked g c plan there =
     let f = c.args.self.now in
     let h = c.args.hand.share in
     let tags = g.T.Tagged.numbers in
@@ -175,12 +188,12 @@ returns-in-Err-clause-judged g c plan there =
     let at = shape_at f.plan.rings.items f.shapes.items c.args.ring c.index.result.now f.laid c.requires.ring c.index.ensures in
     let may = may_put tags g.row.N c.args.n h.seat.me.0 h.owned p h.row (c.is_bad_count.ensures.good c.if-is_bad_count.false) in (
       tt,
-      subst (λ z. Judges tags g.row.N c.args.n Put z h.seat.me.0 c.in-Err.fault) (same_ring f.plan.rings.items c.args.ring p plan at.0 there)
-          (judged tags g.row.N c.args.n c.args.ring c.args.how Put p h.seat.me.0 c.aim.new.seat.me.0 c.in-Err.fault may c.in-Err.ensures.err),
+      subst (λ z. RefusesCount tags g.row.N c.args.n Put z h.seat.me.0 c.in-Err.fault) (same_ring f.plan.rings.items c.args.ring p plan at.0 there)
+          (count_refused tags g.row.N c.args.n c.args.ring c.args.how Put p h.seat.me.0 c.aim.new.seat.me.0 c.in-Err.fault may c.in-Err.ensures.err),
     )
 
-pub returns-then-found-probe-clause-judged : goal.returns-then-found-probe-clause-judged
-returns-then-found-probe-clause-judged g c plan there =
+pub returns-then-found-probe-clause-asked : goal.returns-then-found-probe-clause-asked
+returns-then-found-probe-clause-asked g c plan there =
     let f = c.args.self.now in
     let h = c.args.hand.share in
     let tags = g.T.Tagged.numbers in
@@ -189,8 +202,8 @@ returns-then-found-probe-clause-judged g c plan there =
     let may = may_put tags g.row.N c.args.n h.seat.me.0 h.owned p h.row (c.is_bad_count.ensures.good c.if-is_bad_count.false) in
     (tt, subst (λ z. MayAsk tags g.row.N c.args.n Put z h.seat.me.0) (same_ring f.plan.rings.items c.args.ring p plan at.0 there) may)
 
-pub returns-clause-judged : goal.returns-clause-judged
-returns-clause-judged g c plan there =
+pub returns-clause-asked : goal.returns-clause-asked
+returns-clause-asked g c plan there =
     let f = c.args.self.now in
     let h = c.args.hand.share in
     let tags = g.T.Tagged.numbers in
@@ -198,3 +211,11 @@ returns-clause-judged g c plan there =
     let at = shape_at f.plan.rings.items f.shapes.items c.args.ring c.index.result.now f.laid c.requires.ring c.index.ensures in
     let may = may_put tags g.row.N c.args.n h.seat.me.0 h.owned p h.row (c.is_bad_count.ensures.good c.if-is_bad_count.false) in
     (subst (λ z. MayAsk tags g.row.N c.args.n Put z h.seat.me.0) (same_ring f.plan.rings.items c.args.ring p plan at.0 there) may, tt)
+
+pub invariant_of-target : goal.invariant_of-target
+invariant_of-target g c =
+    let f = c.args.self.now in
+    record { in_plan = shape_at f.plan.rings.items f.shapes.items c.args.ring c.index.result.now f.laid c.requires.ring c.index.ensures }
+
+pub invariant_of-place : goal.invariant_of-place
+invariant_of-place g c = record { last = c.in-Ok.ensures.ok.5 }

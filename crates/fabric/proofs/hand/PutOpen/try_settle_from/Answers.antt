@@ -6,7 +6,7 @@ use Rattle.geom.specs.declared.plan.Side.TheVariants.{Put}
 use Rattle.ringcore_laws.specs.Party.{with_settled}
 use Rattle.fabric_laws.specs.Kinds.{IsHeldOnce}
 use Rattle.fabric.specs.Views.{span_of}
-use Rattle.fabric.specs.Items.{somes}
+use Rattle.burst.specs.Items.{somes}
 use Rattle.fabric.specs.Owned.{IsRow, cleared, marked}
 use Rattle.fabric.specs.Settles.{IsCount}
 use Rattle.fabric.proofs.Holding.{not_yours, put_owns, put_row}
@@ -17,10 +17,15 @@ use Rattle.fabric.proofs.hand.PutOpen.try_settle_from.Goals as goal
 pub returns-then-not-may_put-clause-refused : goal.returns-then-not-may_put-clause-refused
 returns-then-not-may_put-clause-refused g c =
     let o = c.args.self in
-    let count = subst (λ n. IsCount o.shape.plan.put n o.count) c.len.ensures.value (c.is_count.ensures.good c.if-not-is_count.false) in (
-      (refl, refl, refl, refl, refl),
+    let count = subst (λ n. IsCount o.ring.shape.plan.put n o.place.count) c.len.ensures.value (c.is_count.ensures.good c.if-not-is_count.false) in (
+      (refl, refl, refl),
       refl,
-      (count, not_yours g.T.Tagged.numbers o.shape.plan o.share.seat.me.0 o.share.owned c.args.items.now o.share.row (c.may_put.ensures.other c.if-not-may_put.true), refl),
+      (
+        count,
+        not_yours g.T.Tagged.numbers o.ring.shape.plan o.share.seat.me.0 o.share.owned c.args.items.now o.share.row
+            (c.may_put.ensures.other c.if-not-may_put.true),
+        refl,
+      ),
     )
 
 pub publish-requires : goal.publish-requires
@@ -30,33 +35,24 @@ publish-requires g c =
     let cells = c.items.inside.cells in
     let mine = c.may_put.ensures.mine c.if-not-may_put.false in
     let long = sym (ap length c.items.view_is) ∙ packed_long cells c.items.invariant in
-    let count = subst (λ n. IsCount o.shape.plan.put n o.count) (c.len.ensures.value ∙ long) (c.is_count.ensures.good c.if-not-is_count.false) in
+    let count = subst (λ n. IsCount o.ring.shape.plan.put n o.place.count) (c.len.ensures.value ∙ long) (c.is_count.ensures.good c.if-not-is_count.false) in
     let owns = put_owns tags o.share.seat.me.0.pool o.share.seat.me.0.party o.share.owned o.share.row c.args.items.now mine.1 in (
       search rules,
       (
         search rules,
         (
-          o.table,
+          record { table = o.table; plans = o.plans.0; pool = o.plans.1; alive = o.share.alive },
           (
-            o.in_plan.0,
+            o.fits,
             (
-              o.in_plan.1,
+              c.items.invariant,
               (
-                o.share.alive,
+                count,
                 (
-                  o.last,
+                  o.span,
                   (
-                    o.fits,
-                    (
-                      c.items.invariant,
-                      (
-                        count,
-                        (
-                          o.span,
-                          (subst (λ l. Owns tags o.share.seat.me.0.party l) (sym c.items.view_is) owns, ((λ free. subst (λ l. AreSingle tags l) (sym c.items.view_is) (mine.2 free)), o.slots)),
-                        ),
-                      ),
-                    ),
+                    subst (λ l. Owns tags o.share.seat.me.0.party l) (sym c.items.view_is) owns,
+                    ((λ free. subst (λ l. AreSingle tags l) (sym c.items.view_is) (mine.2 free)), o.slots),
                   ),
                 ),
               ),
@@ -66,24 +62,29 @@ publish-requires g c =
       ),
     )
 
-pub invariant_of-result : goal.invariant_of-result
-invariant_of-result g c =
+pub invariant_of-result-in_default : goal.invariant_of-result-in_default
+invariant_of-result-in_default g c =
     let o = c.args.self in
     let tags = g.T.Tagged.numbers in
     let mine = c.may_put.ensures.mine c.if-not-may_put.false in
     let done = c.in_default.ensures.done in
-    let row = put_row tags o.share.seat.me.0.pool o.share.seat.me.0.party o.share.owned o.share.row c.args.items.now o.ring o.start o.count mine.1 in
+    let row =
+    put_row tags o.share.seat.me.0.pool o.share.seat.me.0.party o.share.owned o.share.row c.args.items.now o.ring.index o.place.start o.place.count
+    mine.1 in
     record {
       counted = o.share.counted ∙ ap (λ v. v.parts) (sym done.0);
       alive = subst (λ v. 0 < v.parts) (sym done.0) o.share.alive;
       well = done.2;
       row = subst (λ v. IsRow tags v.pool v.party c.may_put.new.owned) (sym done.0)
-          (subst (λ r. IsRow tags o.share.seat.me.0.pool (with_settled o.share.seat.me.0.party (span_of o.ring Put o.start o.count) (somes c.items.inside.cells)) r) (sym mine.0) (subst (λ l. IsRow tags o.share.seat.me.0.pool (with_settled o.share.seat.me.0.party (span_of o.ring Put o.start o.count) l) (cleared o.share.owned (flat_map tags c.args.items.now)))
+          (subst (λ r. IsRow tags o.share.seat.me.0.pool (with_settled o.share.seat.me.0.party (span_of o.ring.index Put o.place.start o.place.count)
+          (somes c.items.inside.cells)) r) (sym mine.0) (subst (λ l. IsRow tags o.share.seat.me.0.pool
+          (with_settled o.share.seat.me.0.party (span_of o.ring.index Put o.place.start o.place.count) l)
+          (cleared o.share.owned (flat_map tags c.args.items.now)))
           (sym c.items.view_is) row));
     }
 
-pub invariant_of-span-2 : goal.invariant_of-span-2
-invariant_of-span-2 g c =
+pub invariant_of-share-2 : goal.invariant_of-share-2
+invariant_of-share-2 g c =
     let o = c.args.self in
     let tags = g.T.Tagged.numbers in
     let mine = c.may_put.ensures.mine c.if-not-may_put.false in
@@ -98,15 +99,16 @@ invariant_of-span-2 g c =
       counted = o.share.counted ∙ ap (λ v. v.parts) (sym early.2);
       alive = subst (λ v. 0 < v.parts) (sym early.2) o.share.alive;
       well = subst (λ v. IsHeldOnce tags v.pool v.party) (sym early.2) o.share.well;
-      row = subst (λ v. IsRow tags v.pool v.party c.own.new.self) (sym early.2) (subst (IsRow tags o.share.seat.me.0.pool o.share.seat.me.0.party) (sym back) o.share.row);
+      row = subst (λ v. IsRow tags v.pool v.party c.own.new.self) (sym early.2)
+          (subst (IsRow tags o.share.seat.me.0.pool o.share.seat.me.0.party) (sym back) o.share.row);
     }
 
 pub returns-clause-refused : goal.returns-clause-refused
 returns-clause-refused g c =
     let o = c.args.self in
     let early = c.in-Some.ensures.early in
-    let count = subst (λ n. IsCount o.shape.plan.put n o.count) c.len.ensures.value (c.is_count.ensures.good c.if-not-is_count.false) in (
-      (refl, refl, refl, refl, refl),
+    let count = subst (λ n. IsCount o.ring.shape.plan.put n o.place.count) c.len.ensures.value (c.is_count.ensures.good c.if-not-is_count.false) in (
+      (refl, refl, refl),
       ap somes early.4 ∙ c.items.view_is,
-      (early.0, count_whole o.shape.plan.put (length c.args.items.now) o.count early.0 count, early.1, early.2),
+      (early.0, count_whole o.ring.shape.plan.put (length c.args.items.now) o.place.count early.0 count, early.1, early.2),
     )

@@ -1,7 +1,7 @@
 use Rattle.std.proofs.Common.{◌≡◌, ◌+◌, ◌-◌, ◌*◌, ◌/◌, ◌^◌, ap, ◌∙◌, arith}
 use Rattle.std.proofs.lemmas.Nat.{shl-shr}
-use Rattle.lpm.specs.Laid.{made_of}
-use Rattle.lpm.specs.Plane.{Plane, used_of}
+use Rattle.lpm.specs.Allocated.{made_of}
+use Rattle.lpm.specs.TwoLevels.{TwoLevels, used_of}
 use Rattle.lpm.specs.Prefixes.{size_of}
 use Rattle.lpm.proofs.levels.Levels.made.Goals as goal
 
@@ -11,4 +11,4 @@ returns c =
     (arith, c.self.invariant.made) in
     ap (λ n. n / 2 ^ (32 - c.self.inside.bits)) whole
     ∙ shl-shr (made_of c.self.inside.first.items c.self.inside.free.items) (32 - c.self.inside.bits)
-    ∙ ap (λ (p : Plane). used_of p + p.free) c.self.view_is
+    ∙ ap (λ (p : TwoLevels). used_of p + p.free) c.self.view_is

@@ -1,6 +1,6 @@
 use Rattle.std.proofs.Common.{◌≡◌, Some, None, sym, ap, ◌∙◌, subst, arith}
 use Rattle.std.specs.FinMap as map
-use Rattle.lpm.specs.Cell.{cell, hop_of}
+use Rattle.lpm.specs.TableEntry.{entry_of, hop_of}
 use Rattle.lpm.specs.Prefixes.{prefix_of}
 use Rattle.lpm.specs.Match.{IsLongestMatch, longest, lookup_in}
 use Rattle.lpm.proofs.Longest.{longest-here, longest-shorter, longest-zero}
@@ -13,7 +13,7 @@ returns-in-Some-clause-value c =
     ap (map.get c.args.self.now.members) (sym c.of.ensures) ∙ sym c.get.ensures ∙ c.in-Some.is in
     sym (ap hop_of (c.loop-depth.invariant.1
     ∙ longest-here c.args.self.now.members c.args.addr c.loop-depth.depth c.in-Some.hop c.loop-depth-test.true found)
-    ∙ hop_of-some (cell c.loop-depth.depth c.in-Some.hop) (λ e. omega (arith, e)))
+    ∙ hop_of-some (entry_of c.loop-depth.depth c.in-Some.hop) (λ e. omega (arith, e)))
 
 pub returns-in-Some-clause-longest : goal.returns-in-Some-clause-longest
 returns-in-Some-clause-longest c =
@@ -22,7 +22,7 @@ returns-in-Some-clause-longest c =
     let value : lookup_in c.args.self.now.members c.args.addr ≡ Some c.in-Some.hop =
     ap hop_of (c.loop-depth.invariant.1 ∙ longest-here c.args.self.now.members c.args.addr c.loop-depth.depth c.in-Some.hop
     c.loop-depth-test.true found)
-    ∙ hop_of-some (cell c.loop-depth.depth c.in-Some.hop) (λ e. omega (arith, e)) in
+    ∙ hop_of-some (entry_of c.loop-depth.depth c.in-Some.hop) (λ e. omega (arith, e)) in
     subst (IsLongestMatch c.args.self.now.members c.args.addr) value (lookup_in_holds c.args.self.now.members c.args.addr)
 
 pub loop-depth-preserved : goal.loop-depth-preserved

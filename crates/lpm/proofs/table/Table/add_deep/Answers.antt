@@ -42,8 +42,8 @@ returns-in_err-insert-clause-no_group c =
     let memory = c.in_err-insert.ensures.memory in
     rw (p.1, p.2) (λ e. cc, λ h. let refused = no_group.1 (needs.1 (hidden h)) in cc)
 
-pub paint-requires-clause-masked : goal.paint-requires-clause-masked
-paint-requires-clause-masked c = rw c.of-prefix.ensures (masked-masked c.args.addr c.args.depth)
+pub overwrite-requires-clause-masked : goal.overwrite-requires-clause-masked
+overwrite-requires-clause-masked c = rw c.of-prefix.ensures (masked-masked c.args.addr c.args.depth)
 
 pub invariant_of-self-2 : goal.invariant_of-self-2
 invariant_of-self-2 c =
@@ -57,13 +57,13 @@ invariant_of-self-2 c =
     let change = inserts m (prefix_of c.args.addr c.args.depth) c.args.hop in
     let are = members_with m c.args.addr c.args.depth c.args.hop c.self.invariant.members c.requires.lawful c.ranges.addr.fits
     c.requires.hop in
-    let paints = rw (c.of-prefix.ensures, c.route.ensures) at c.paint.ensures.paints in
+    let overwrites = rw (c.of-prefix.ensures, c.route.ensures) at c.overwrite.ensures.overwrites in
     rw (c.in_ok-insert.ensures.ok, c.of-prefix.ensures)
-    (deep_added p c.reserve_group.new.self c.ensure_group.new.self c.paint.new.self m _ c.args.addr c.args.depth c.args.hop
+    (deep_added p c.reserve_group.new.self c.ensure_group.new.self c.overwrite.new.self m _ c.args.addr c.args.depth c.args.hop
     c.first_of-first.result
     c.self.invariant c.requires.lawful deep change are at fits c.in_ok-reserve_group.ensures.ok c.ensure_group.ensures.opens
     c.ensure_group.ensures.used
-    c.in_ok-reserve_group.ensures.within c.paint.ensures.keeps paints)
+    c.in_ok-reserve_group.ensures.within c.overwrite.ensures.keeps overwrites)
 
 pub returns-clause-no_group : goal.returns-clause-no_group
 returns-clause-no_group c =

@@ -1,5 +1,5 @@
 use Rattle.std.proofs.Common.{◌≤◌, sym, subst, refl, arith, Some}
-use Rattle.lpm.specs.Cell.{cell}
+use Rattle.lpm.specs.TableEntry.{entry_of}
 use Rattle.lpm.specs.Prefixes.{prefix_of}
 use Rattle.lpm.specs.Routes.{Routes, NeedsTooMany}
 use Rattle.lpm.proofs.Rights.{shallow_fits, right_shallow, inserts, members_with}
@@ -35,8 +35,8 @@ invariant_of-self-2 c =
     let change = inserts m (prefix_of c.args.addr c.args.depth) c.args.hop in
     let are = members_with m c.args.addr c.args.depth c.args.hop c.self.invariant.members c.requires.lawful c.ranges.addr.fits
     c.requires.hop in
-    let paints = rw (c.of-prefix.ensures, c.route.ensures) at c.paint.ensures.paints in
+    let overwrites = rw (c.of-prefix.ensures, c.route.ensures) at c.overwrite.ensures.overwrites in
     rw (c.in_ok-insert.ensures.ok, c.of-prefix.ensures)
-    (right_shallow p c.paint.new.self m _ c.args.addr c.args.depth (Some c.args.hop)
-    (cell c.args.depth c.args.hop) c.self.invariant c.requires.lawful shallow change are
-    (λ a e. refl) c.paint.ensures.keeps paints)
+    (right_shallow p c.overwrite.new.self m _ c.args.addr c.args.depth (Some c.args.hop)
+    (entry_of c.args.depth c.args.hop) c.self.invariant c.requires.lawful shallow change are
+    (λ a e. refl) c.overwrite.ensures.keeps overwrites)

@@ -1,8 +1,8 @@
 use Rattle.std.proofs.Common.{◌≡◌, ℕ, ◌^◌, ◌<◌, Some, sym, ap, ◌∙◌, subst}
-use Rattle.lpm.specs.Cell.{hop_of}
+use Rattle.lpm.specs.TableEntry.{hop_of}
 use Rattle.lpm.specs.Match.{IsLongestMatch}
 use Rattle.lpm.specs.Prefixes.{size_of}
-use Rattle.lpm.specs.Plane.{grouped_at, address_at}
+use Rattle.lpm.specs.TwoLevels.{grouped_at, address_at}
 use Rattle.lpm.specs.Routes.{Routes, group_at, address_of}
 use Rattle.lpm.proofs.Shows.{shown_group, group_matches}
 use Rattle.lpm.proofs.table.Table.group_entry.Goals as goal

@@ -1,7 +1,7 @@
 use Rattle.std.proofs.Common.{◌≡◌, ◌-◌, ◌<◌, sym, ap, ◌∙◌, subst, true, arith}
-use Rattle.lpm.specs.Cell.{is_group}
+use Rattle.lpm.specs.TableEntry.{is_group}
 use Rattle.lpm.specs.declared.prefix.Prefix.{Prefix}
-use Rattle.lpm.specs.Plane.{first_at}
+use Rattle.lpm.specs.TwoLevels.{first_at}
 use Rattle.lpm.specs.Prefixes.{first_bits, masked, prefix_of}
 use Rattle.lpm.specs.Routes.{Routes}
 use Rattle.lpm.proofs.Shallow.{longest_plain}
@@ -12,16 +12,16 @@ pub longest-next-requires-clause-members : goal.longest-next-requires-clause-mem
 longest-next-requires-clause-members c =
     rw c.in_ok-remove.ensures.ok (members_without c.self.inside.members c.of-prefix.result c.self.invariant.members)
 
-pub paint-requires-clause-plain : goal.paint-requires-clause-plain
-paint-requires-clause-plain c = rw c.longest-next.ensures
+pub overwrite-requires-clause-plain : goal.overwrite-requires-clause-plain
+overwrite-requires-clause-plain c = rw c.longest-next.ensures
     (longest_plain c.remove.new.self c.args.addr (c.args.depth - 1) (omega (arith, c.requires.lawful.1)))
 
 pub has_deeper-requires-clause-members : goal.has_deeper-requires-clause-members
 has_deeper-requires-clause-members c =
     rw c.in_ok-remove.ensures.ok (members_without c.self.inside.members c.of-prefix.result c.self.invariant.members)
 
-pub paint-requires-clause-grouped : goal.paint-requires-clause-grouped
-paint-requires-clause-grouped c =
+pub overwrite-requires-clause-grouped : goal.overwrite-requires-clause-grouped
+overwrite-requires-clause-grouped c =
     let p = c.self.inside.levels in
     let m = c.self.inside.members in
     let deep = subst (λ (t : Routes). t.bits < c.args.depth) (sym c.self.view_is) c.requires.deep in
@@ -42,7 +42,7 @@ close_group-requires-clause-grouped c =
     ∙ ap (first_bits (masked c.args.addr c.args.depth)) c.bits-bits.ensures.value in
     let fits = rw c.bits-bits.ensures.value at c.first_of-first.ensures.below in
     let there = rw c.of-prefix.ensures at c.in_ok-remove.ensures.was in
-    c.paint.ensures.keeps.kinds c.first_of-first.result
+    c.overwrite.ensures.keeps.kinds c.first_of-first.result
     ∙ had_group p m c.self.invariant c.args.addr c.args.depth c.requires.lawful deep there c.first_of-first.result at fits
 
 pub close_group-requires-clause-plain : goal.close_group-requires-clause-plain
@@ -58,12 +58,12 @@ close_group-requires-clause-plain c =
     let are = members_without m (prefix_of c.args.addr c.args.depth) c.self.invariant.members in
     let after = rw c.of-prefix.ensures at c.in_ok-remove.ensures.ok in
     let next = rw after at c.longest-next.ensures in
-    let cells = removed_places p c.paint.new.self m _ c.args.addr c.args.depth c.longest-next.result c.self.invariant c.requires.lawful
+    let entries = removed_places p c.overwrite.new.self m _ c.args.addr c.args.depth c.longest-next.result c.self.invariant c.requires.lawful
     change next
-    (rw c.of-prefix.ensures at c.paint.ensures.paints) in
+    (rw c.of-prefix.ensures at c.overwrite.ensures.overwrites) in
     let none = rw (after, ← c.first_of-first.ensures.value, c.bits-bits.ensures.value) at c.has_deeper.ensures in
     closes_plain p m c.self.invariant c.args.addr c.args.depth c.requires.lawful deep there c.first_of-first.result at fits
-    c.paint.new.self _ change are c.paint.ensures.keeps cells (sym none ∙ c.if-not-has_deeper.true)
+    c.overwrite.new.self _ change are c.overwrite.ensures.keeps entries (sym none ∙ c.if-not-has_deeper.true)
 
 pub close_group-requires-clause-alike : goal.close_group-requires-clause-alike
 close_group-requires-clause-alike c =
@@ -78,12 +78,12 @@ close_group-requires-clause-alike c =
     let are = members_without m (prefix_of c.args.addr c.args.depth) c.self.invariant.members in
     let after = rw c.of-prefix.ensures at c.in_ok-remove.ensures.ok in
     let next = rw after at c.longest-next.ensures in
-    let cells = removed_places p c.paint.new.self m _ c.args.addr c.args.depth c.longest-next.result c.self.invariant c.requires.lawful
+    let entries = removed_places p c.overwrite.new.self m _ c.args.addr c.args.depth c.longest-next.result c.self.invariant c.requires.lawful
     change next
-    (rw c.of-prefix.ensures at c.paint.ensures.paints) in
+    (rw c.of-prefix.ensures at c.overwrite.ensures.overwrites) in
     let none = rw (after, ← c.first_of-first.ensures.value, c.bits-bits.ensures.value) at c.has_deeper.ensures in
     closes_alike p m c.self.invariant c.args.addr c.args.depth c.requires.lawful deep there c.first_of-first.result at fits
-    c.paint.new.self _ change are c.paint.ensures.keeps cells (sym none ∙ c.if-not-has_deeper.true)
+    c.overwrite.new.self _ change are c.overwrite.ensures.keeps entries (sym none ∙ c.if-not-has_deeper.true)
 
 pub invariant_of-self-then-not-has_deeper : goal.invariant_of-self-then-not-has_deeper
 invariant_of-self-then-not-has_deeper c =
@@ -98,13 +98,13 @@ invariant_of-self-then-not-has_deeper c =
     let are = members_without m (prefix_of c.args.addr c.args.depth) c.self.invariant.members in
     let after = rw c.of-prefix.ensures at c.in_ok-remove.ensures.ok in
     let next = rw after at c.longest-next.ensures in
-    let cells = removed_places p c.paint.new.self m _ c.args.addr c.args.depth c.longest-next.result c.self.invariant c.requires.lawful
+    let entries = removed_places p c.overwrite.new.self m _ c.args.addr c.args.depth c.longest-next.result c.self.invariant c.requires.lawful
     change next
-    (rw c.of-prefix.ensures at c.paint.ensures.paints) in
+    (rw c.of-prefix.ensures at c.overwrite.ensures.overwrites) in
     let none = rw (after, ← c.first_of-first.ensures.value, c.bits-bits.ensures.value) at c.has_deeper.ensures in
     rw after
     (right_closed p m c.self.invariant c.args.addr c.args.depth c.requires.lawful deep there c.first_of-first.result at fits
-    c.paint.new.self _ change are c.paint.ensures.keeps cells
+    c.overwrite.new.self _ change are c.overwrite.ensures.keeps entries
     (sym none ∙ c.if-not-has_deeper.true) c.close_group.new.self c.close_group.ensures.closes c.close_group.ensures.used)
 
 pub invariant_of-self-else-not-has_deeper : goal.invariant_of-self-else-not-has_deeper
@@ -120,9 +120,9 @@ invariant_of-self-else-not-has_deeper c =
     let are = members_without m (prefix_of c.args.addr c.args.depth) c.self.invariant.members in
     let after = rw c.of-prefix.ensures at c.in_ok-remove.ensures.ok in
     let next = rw after at c.longest-next.ensures in
-    let cells = removed_places p c.paint.new.self m _ c.args.addr c.args.depth c.longest-next.result c.self.invariant c.requires.lawful
+    let entries = removed_places p c.overwrite.new.self m _ c.args.addr c.args.depth c.longest-next.result c.self.invariant c.requires.lawful
     change next
-    (rw c.of-prefix.ensures at c.paint.ensures.paints) in
+    (rw c.of-prefix.ensures at c.overwrite.ensures.overwrites) in
     let none = rw (after, ← c.first_of-first.ensures.value, c.bits-bits.ensures.value) at c.has_deeper.ensures in
     rw after (right_kept p m c.self.invariant c.args.addr c.args.depth c.requires.lawful deep there c.first_of-first.result at fits
-    c.paint.new.self _ change are c.paint.ensures.keeps cells (sym none ∙ c.if-not-has_deeper.false))
+    c.overwrite.new.self _ change are c.overwrite.ensures.keeps entries (sym none ∙ c.if-not-has_deeper.false))

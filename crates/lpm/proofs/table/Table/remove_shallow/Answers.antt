@@ -9,8 +9,8 @@ pub longest-next-requires-clause-members : goal.longest-next-requires-clause-mem
 longest-next-requires-clause-members c =
     rw c.in_ok-remove.ensures.ok (members_without c.self.inside.members c.of-prefix.result c.self.invariant.members)
 
-pub paint-requires-clause-plain : goal.paint-requires-clause-plain
-paint-requires-clause-plain c = rw c.longest-next.ensures
+pub overwrite-requires-clause-plain : goal.overwrite-requires-clause-plain
+overwrite-requires-clause-plain c = rw c.longest-next.ensures
     (longest_plain c.remove.new.self c.args.addr (c.args.depth - 1) (omega (arith, c.requires.lawful.1)))
 
 pub invariant_of-self-2 : goal.invariant_of-self-2
@@ -20,11 +20,11 @@ invariant_of-self-2 c =
     let shallow = subst (λ (t : Routes). c.args.depth ≤ t.bits) (sym c.self.view_is) c.requires.shallow in
     let change = removes m (prefix_of c.args.addr c.args.depth) in
     let after = rw c.of-prefix.ensures at c.in_ok-remove.ensures.ok in
-    let paints = rw c.of-prefix.ensures at c.paint.ensures.paints in
+    let overwrites = rw c.of-prefix.ensures at c.overwrite.ensures.overwrites in
     let next = rw after at c.longest-next.ensures in
     rw after
-    (right_shallow p c.paint.new.self m _ c.args.addr c.args.depth None c.longest-next.result c.self.invariant c.requires.lawful shallow
+    (right_shallow p c.overwrite.new.self m _ c.args.addr c.args.depth None c.longest-next.result c.self.invariant c.requires.lawful shallow
     change
     (members_without m (prefix_of c.args.addr c.args.depth) c.self.invariant.members)
     (λ a e. next ∙ next_shorter m _ c.args.addr c.args.depth None change c.requires.lawful.0 c.requires.lawful.1 a e)
-    c.paint.ensures.keeps paints)
+    c.overwrite.ensures.keeps overwrites)

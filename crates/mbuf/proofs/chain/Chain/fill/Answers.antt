@@ -1,10 +1,15 @@
-use Rattle.std.proofs.Common.{arith, ap}
+use Rattle.std.proofs.Common.{arith, ap, List}
+use Rattle.mbuf.specs.Buffer.{Buffer}
 use Rattle.mbuf.specs.Chain.{space_of}
-use Rattle.mbuf.proofs.Chains.{bytes_few, space_few}
+use Rattle.mbuf.specs.Links.{row}
+use Rattle.mbuf.proofs.Chains.{space_few}
 use Rattle.mbuf.proofs.chain.Chain.fill.Goals as goal
 
-pub fill-requires-clause-fits : goal.fill-requires-clause-fits
-fill-requires-clause-fits c = omega (arith, bytes_few _ c.source.invariant.0)
+pub space-requires : goal.space-requires
+space-requires c =
+    omega (arith, space_few (row c.self.inside.first.value) c.self.invariant.0, ap (λ (v : Buffer × List Buffer). space_of (row v)) c.deref.ensures)
 
 pub overflow_cast-self : goal.overflow_cast-self
-overflow_cast-self c = omega (arith, space_few _ c.self.invariant.0, ap space_of c.self.view_is)
+overflow_cast-self c =
+    let fits = ap (λ (v : Buffer × List Buffer). space_of (row v)) c.deref.ensures in
+    omega (arith, space_few (row c.self.inside.first.value) c.self.invariant.0, fits)

@@ -14,6 +14,6 @@ when_ok (Err x) e p = absurd (cc)
 pub invariant_of-self-2 : goal.invariant_of-self-2
 invariant_of-self-2 c =
     let next = c.self.inside.next in
-    let live = c.self.inside.shelf in
+    let live = c.self.inside.table in
     let done = when_ok c.again.result c.if-is_err.ensures.value c.again.ensures.done in
     subst (HasIds (next + 1)) (sym done) (ids_add next live (again next (share_at live c.in-Some.place)) refl c.self.invariant)

@@ -3,11 +3,12 @@ use Rattle.mbuf.specs.Buffer.{Buffer, appended}
 use Rattle.mbuf.proofs.Windows.{length_window, window_append, same_buffer}
 use Rattle.mbuf.proofs.segment.Segment.append.Goals as goal
 
-pub returns : goal.returns
-returns c =
+pub returns-clause-done : goal.returns-clause-done
+returns-clause-done c =
     let store = c.self.inside.store in
     let front = ap (λ (b : Buffer). b.headroom) c.self.view_is in
     let long = ap (λ (b : Buffer). length b.bytes) c.self.view_is in
     let behind = ap (λ (b : Buffer). b.tailroom) c.self.view_is in
     let window = length_window _ _ _ _ store.ok.0 c.self.invariant.0 in
-    rw c.copy_from_slice.ensures.after (same_buffer _ _ _ _ _ _ _ _ refl (window_append _ _ _ _ _ store.ok.0 (omega arith)) (omega arith) ∙ ap (appended c.args.bytes.now) c.self.view_is)
+    rw c.copy_from_slice.ensures.after (same_buffer _ _ _ _ _ _ _ _ refl (window_append _ _ _ _ _ store.ok.0 (omega arith)) (omega arith)
+    ∙ ap (appended c.args.bytes.now) c.self.view_is)

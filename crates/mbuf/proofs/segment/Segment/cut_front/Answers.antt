@@ -10,4 +10,5 @@ returns c =
     let long = ap (λ (b : Buffer). length b.bytes) c.self.view_is in
     let behind = ap (λ (b : Buffer). b.tailroom) c.self.view_is in
     let window = length_window _ _ _ _ store.ok.0 c.self.invariant.0 in
-    same_buffer _ _ _ _ _ _ _ _ refl (window_cut_front c.self.inside.start c.self.inside.len c.args.n store.items (omega arith)) (omega arith) ∙ ap (cut_front c.args.n) c.self.view_is
+    same_buffer _ _ _ _ _ _ _ _ refl (window_cut_front c.self.inside.start c.self.inside.len c.args.n store.items (omega arith)) (omega arith)
+    ∙ ap (cut_front c.args.n) c.self.view_is

@@ -10,4 +10,5 @@ returns c =
     let long = ap (λ (b : Buffer). length b.bytes) c.self.view_is in
     let behind = ap (λ (b : Buffer). b.tailroom) c.self.view_is in
     let window = length_window _ _ _ _ store.ok.0 c.self.invariant.0 in
-    same_buffer _ _ _ _ _ _ _ _ refl (window_set c.self.inside.start c.self.inside.len c.args.i store.items c.args.v (omega arith)) refl ∙ ap (with_byte c.args.i c.args.v) c.self.view_is
+    same_buffer _ _ _ _ _ _ _ _ refl (window_set c.self.inside.start c.self.inside.len c.args.i store.items c.args.v (omega arith)) refl
+    ∙ ap (with_byte c.args.i c.args.v) c.self.view_is

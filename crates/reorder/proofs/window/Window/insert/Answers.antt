@@ -1,6 +1,6 @@
 use Rattle.std.proofs.Common.{Some, is_some, set, ap, sym, subst, ◌∙◌, arith}
-use Rattle.reorder.specs.Places.{IsLaid, waiting_in}
-use Rattle.reorder.specs.Waiting.{IsWindow, with_item}
+use Rattle.reorder.specs.Places.{IsRowOf, waiting_in}
+use Rattle.reorder.specs.Waiting.{IsWindow, with_number}
 use Rattle.reorder.proofs.RefusalLaws.{late_only, early_only, double_here, double_refused, none_here, accepted, is_none}
 use Rattle.reorder.proofs.StepLaws.{is_window, placed, seen, laid_put, waiting_put}
 use Rattle.reorder.proofs.window.Window.insert.Goals as goal
@@ -54,7 +54,7 @@ invariant_of-self g c =
     let at = placed _ _ _ c.self.invariant c.args.seq _ _ (omega arith) c.place_of-place.ensures
     (c.len-2.ensures ∙ c.self.inside.places.ok.0) in
     let laid = laid_put _ _ _ c.self.invariant c.args.seq c.args.item (omega arith) (omega arith) in
-    subst (λ after. IsLaid after c.self.inside.head c.self.inside.next)
+    subst (λ after. IsRowOf after c.self.inside.head c.self.inside.next)
     (ap (λ place. set c.self.inside.places.items place (Some c.args.item)) (sym at) ∙ sym c.put.ensures) laid
 
 pub returns-clause-inserted : goal.returns-clause-inserted
@@ -64,4 +64,4 @@ returns-clause-inserted g c =
     ap (λ after. waiting_in after c.self.inside.next) (c.put.ensures
     ∙ ap (λ place. set c.self.inside.places.items place (Some c.args.item)) at)
     ∙ waiting_put _ _ _ c.self.invariant c.args.seq c.args.item (omega arith) (omega arith)
-    ∙ ap (λ window. with_item window c.args.seq c.args.item) c.self.view_is
+    ∙ ap (λ window. with_number window c.args.seq c.args.item) c.self.view_is

@@ -1,6 +1,6 @@
 use Rattle.std.proofs.Common.{◌+◌, ◌%◌, ◌<◌, ◌^◌, ◌-◌, is_some, set, refl, ap, sym, subst, subst₂, ◌∙◌, arith}
 use Rattle.std.specs.FinMap.{len}
-use Rattle.reorder.specs.Places.{IsLaid, waiting_in}
+use Rattle.reorder.specs.Places.{IsRowOf, waiting_in}
 use Rattle.reorder.specs.Waiting.{Waiting, after_next}
 use Rattle.reorder.proofs.StepLaws.{seen_at_head, fewer_after, next_reached, laid_after, waiting_after}
 use Rattle.reorder.proofs.window.Window.pop.Goals as goal
@@ -23,7 +23,7 @@ invariant_of-self-2 g c =
     let places = c.self.inside.places in
     let head_after = c.place_of-self-inside.ensures ∙ ap (λ size. (c.self.inside.head + 1) % size)
     (c.len.ensures ∙ places.ok.0) in
-    subst₂ (λ o head. IsLaid (set places.items c.self.inside.head o) head (c.self.inside.next + 1))
+    subst₂ (λ o head. IsRowOf (set places.items c.self.inside.head o) head (c.self.inside.next + 1))
     (sym c.take.ensures.after) (sym head_after) (laid_after _ _ _ c.self.invariant)
 
 pub returns-clause-item : goal.returns-clause-item

@@ -1,5 +1,5 @@
 use Rattle.std.proofs.Common.{ap, sym, subst, ◌∙◌, ◌%◌}
-use Rattle.reorder.specs.Places.{IsLaid}
+use Rattle.reorder.specs.Places.{IsRowOf}
 use Rattle.reorder.specs.Waiting.{Waiting, slid_to}
 use Rattle.reorder.proofs.StepLaws.{laid_later, waiting_later, slid}
 use Rattle.reorder.proofs.window.Window.slide.Goals as goal
@@ -8,7 +8,7 @@ pub invariant_of-self : goal.invariant_of-self
 invariant_of-self g c =
     let places = c.self.inside.places in
     let later = c.first_held-next.result in
-    subst (λ size. IsLaid places.items (later % size) later) (sym (c.len.ensures ∙ places.ok.0))
+    subst (λ size. IsRowOf places.items (later % size) later) (sym (c.len.ensures ∙ places.ok.0))
     (laid_later places.items _ _ c.self.invariant _ later c.first_held-next.ensures)
 
 pub returns-clause-turn : goal.returns-clause-turn

@@ -18,4 +18,5 @@ returns g c =
     let capacity : s.geometry.capacity ≡ c.args.self.now.capacity = ap (λ (q : Fifo g.row.T.Denot). q.capacity) c.self.view_is in
     let more = queued-pushed s.geometry s.slots.items s.front s.count c.slot-slot.result c.args.item c.self.invariant (omega arith) c.slot-slot.ensures.value in
     ap (λ items. let made : Fifo g.row.T.Denot = record { capacity = s.geometry.capacity; items = items } in made) more
-    ∙ ap (λ (q : Fifo g.row.T.Denot). let made : Fifo g.row.T.Denot = record { capacity = q.capacity; items = q.items ++ c.args.item ∷ [] } in made) c.self.view_is
+    ∙ ap (λ (q : Fifo g.row.T.Denot). let made : Fifo g.row.T.Denot = record { capacity = q.capacity; items = q.items ++ c.args.item ∷ [] } in made)
+    c.self.view_is

@@ -1,7 +1,7 @@
 use Rattle.std.proofs.Common.{◌≡◌, ◌∙◌, subst, refl}
 use Rattle.std.proofs.lemmas.Option.{get_or_from_slice_get}
 use Rattle.geom.specs.declared.plan.RingPlan.{RingPlan}
-use Rattle.ringcore.specs.Agree.{PutResult}
+use Rattle.ringcore.specs.Changes.{PutResult}
 use Rattle.ringcore.specs.declared.ring.Ring.{Ring}
 use Rattle.ringcore.specs.declared.member.Member.{Member}
 use Rattle.ringcore.proofs.world.World.put_step.Goals as goal
@@ -17,5 +17,6 @@ returns-clause-settled c = λ m plan r hm hp hr.
       refl,
       subst (λ (v : Member). PutResult plan v c.settle_put.new.member r c.settle_put.new.ring c.args.items c.in_ok-reply.reply) em
           (subst (λ (v : RingPlan). PutResult v c.index_mut-2.result.now c.settle_put.new.member r c.settle_put.new.ring c.args.items c.in_ok-reply.reply) ep
-          (subst (λ (v : Ring). PutResult c.index.result.now c.index_mut-2.result.now c.settle_put.new.member v c.settle_put.new.ring c.args.items c.in_ok-reply.reply) er c.in_ok-reply.ensures.settled)),
+          (subst (λ (v : Ring). PutResult c.index.result.now c.index_mut-2.result.now c.settle_put.new.member v c.settle_put.new.ring c.args.items
+          c.in_ok-reply.reply) er c.in_ok-reply.ensures.settled)),
     )

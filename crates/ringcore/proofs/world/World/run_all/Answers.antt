@@ -18,29 +18,30 @@ loop-actor-preserved c =
           (subst (λ (v : ℕ). ExistAll (vec_len old.members) v (vec_len new.plans) c.pop_front.new.self.items) (sym counts.1)
           (subst (λ (v : ℕ). ExistAll (vec_len old.members) (vec_len old.rings) v c.pop_front.new.self.items) (sym counts.2) all.3)),
       c.in_ok-reply.ensures.plans ∙ c.loop-actor.invariant.1,
-      λ pool actors lawful k agree.
-          subst (λ (v : List Reply). RunsTo c.args.self.now.plans.items pool actors c.args.entries.items v c.pop_front.new.self.items new.rings.items new.members.items)
+      λ pool actors fits k agree.
+          subst (λ (v : List Reply). RunsTo c.args.self.now.plans.items pool actors c.args.entries.items v c.pop_front.new.self.items new.rings.items
+          new.members.items)
           (sym c.in_ok-push.ensures.items)
           (run_goes_on c.args.self.now.plans.items old new pool actors c.args.entries.items c.loop-actor.replies.items c.loop-actor.rest.items
-          c.pop_front.new.self.items c.in-Some.actor c.in-Some.step c.in_ok-reply.reply c.loop-actor.invariant.1 first c.in_ok-reply.ensures.step lawful
-          (c.loop-actor.invariant.2 pool actors lawful k agree)),
+          c.pop_front.new.self.items c.in-Some.actor c.in-Some.step c.in_ok-reply.reply c.loop-actor.invariant.1 first c.in_ok-reply.ensures.step fits
+          (c.loop-actor.invariant.2 pool actors fits k agree)),
     )
 
 pub returns-in_err-reply-clause-memory : goal.returns-in_err-reply-clause-memory
 returns-in_err-reply-clause-memory c =
-    on_err_of c.from_residual.result (λ pool actors lawful k agree. (
+    on_err_of c.from_residual.result (λ pool actors fits k agree. (
       c.loop-actor.replies.items,
       c.loop-actor.rest.items,
       run_unchanged c.args.self.now.plans.items c.loop-actor.self c.step_once.new.self pool actors c.args.entries.items c.loop-actor.replies.items
-          c.loop-actor.rest.items c.in_err-reply.ensures.memory (c.loop-actor.invariant.2 pool actors lawful k agree),
+          c.loop-actor.rest.items c.in_err-reply.ensures.memory (c.loop-actor.invariant.2 pool actors fits k agree),
     ))
 
 pub returns-in_err-push-clause-memory : goal.returns-in_err-push-clause-memory
 returns-in_err-push-clause-memory c =
-    on_err_of c.from_residual-in_err-push.result (λ pool actors lawful k agree. (
+    on_err_of c.from_residual-in_err-push.result (λ pool actors fits k agree. (
       c.loop-actor.replies.items ++ c.in_ok-reply.reply ∷ [],
       c.pop_front.new.self.items,
       run_goes_on c.args.self.now.plans.items c.loop-actor.self c.step_once.new.self pool actors c.args.entries.items c.loop-actor.replies.items
           c.loop-actor.rest.items c.pop_front.new.self.items c.in-Some.actor c.in-Some.step c.in_ok-reply.reply c.loop-actor.invariant.1
-          c.in-Some.ensures.items c.in_ok-reply.ensures.step lawful (c.loop-actor.invariant.2 pool actors lawful k agree),
+          c.in-Some.ensures.items c.in_ok-reply.ensures.step fits (c.loop-actor.invariant.2 pool actors fits k agree),
     ))

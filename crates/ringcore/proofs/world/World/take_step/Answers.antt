@@ -1,7 +1,7 @@
 use Rattle.std.proofs.Common.{◌≡◌, ◌∙◌, subst, refl}
 use Rattle.std.proofs.lemmas.Option.{get_or_from_slice_get}
 use Rattle.geom.specs.declared.plan.RingPlan.{RingPlan}
-use Rattle.ringcore.specs.Agree.{TakeResult}
+use Rattle.ringcore.specs.Changes.{TakeResult}
 use Rattle.ringcore.specs.declared.ring.Ring.{Ring}
 use Rattle.ringcore.specs.declared.member.Member.{Member}
 use Rattle.ringcore.proofs.world.World.take_step.Goals as goal
@@ -17,5 +17,6 @@ returns-clause-settled c = λ m plan r hm hp hr.
       refl,
       subst (λ (v : Member). TakeResult plan v c.settle_take.new.member r c.settle_take.new.ring c.args.count c.in_ok-reply.reply) em
           (subst (λ (v : RingPlan). TakeResult v c.index_mut-2.result.now c.settle_take.new.member r c.settle_take.new.ring c.args.count c.in_ok-reply.reply) ep
-          (subst (λ (v : Ring). TakeResult c.index.result.now c.index_mut-2.result.now c.settle_take.new.member v c.settle_take.new.ring c.args.count c.in_ok-reply.reply) er c.in_ok-reply.ensures.settled)),
+          (subst (λ (v : Ring). TakeResult c.index.result.now c.index_mut-2.result.now c.settle_take.new.member v c.settle_take.new.ring c.args.count
+          c.in_ok-reply.reply) er c.in_ok-reply.ensures.settled)),
     )

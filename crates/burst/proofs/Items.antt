@@ -1,0 +1,86 @@
+-- Lists of options whose entries are all there.
+use Rattle.std.proofs.Common.{◌≡◌, ◌<◌, List, [], ◌∷◌, ◌++◌, map, length, sym, refl, ap, ◌∙◌, Option, Some, None, IsSome, IfNone, arith, ◌↔◌, rules}
+use Rattle.std.specs.Prelude.{reverse}
+use Rattle.std.specs.Option.{option_to_list}
+use Rattle.std.proofs.lemmas.List.{length-map, map-append, length-append, reverse-append, reverse-reverse}
+use Rattle.burst.specs.Items.{somes}
+
+module _ {T : Type 0} where
+  somes_of : (xs : List T) → somes (map Some xs) ≡ xs
+  somes_of [] = refl
+  somes_of (x ∷ xs) = ap (λ (l : List T). x ∷ l) (somes_of xs)
+
+  -- cells that hold the items xs, each one there
+  pub record Holds (cells : List (Option T)) (xs : List T) : Type 0 where
+    pub cells_are : cells ≡ map Some xs
+
+  pub full : (cells : List (Option T)) (xs : List T) → Holds cells xs → cells ≡ map Some (somes cells)
+  full cells xs h = h.cells_are ∙ ap (map Some) (sym (somes_of xs) ∙ ap somes (sym h.cells_are))
+
+  pub seen : (cells : List (Option T)) (xs : List T) → Holds cells xs → somes cells ≡ xs
+  seen cells xs h = ap somes h.cells_are ∙ somes_of xs
+
+  pub held : (cells : List (Option T)) (xs : List T) → cells ≡ map Some (somes cells) → somes cells ≡ xs → Holds cells xs
+  held cells xs e f = record { cells_are = e ∙ ap (map Some) f }
+
+  pub length_held : (cells : List (Option T)) (xs : List T) → Holds cells xs → length cells ≡ length xs
+  length_held cells xs h = ap length h.cells_are ∙ length-map xs Some
+
+  pub pushed : (cells : List (Option T)) (xs : List T) (x : T) (later : List (Option T)) → Holds cells xs → later ≡ cells ++ Some x ∷ []
+      → Holds later (xs ++ x ∷ [])
+  pushed cells xs x later h e = record { cells_are = e ∙ ap (λ (l : List (Option T)). l ++ Some x ∷ []) h.cells_are ∙ sym (map-append Some xs (x ∷ [])) }
+
+  map_reverse : (xs : List T) → ◌≡◌ {A = List (Option T)} (reverse (map Some xs)) (map Some (reverse xs))
+  map_reverse [] = refl
+  map_reverse (x ∷ xs) =
+      reverse-append (Some x ∷ []) (map Some xs) ∙ ap (λ (l : List (Option T)). l ++ Some x ∷ []) (map_reverse xs) ∙ sym (map-append Some (reverse xs) (x ∷ []))
+      ∙ ap (map Some) (sym (reverse-append (x ∷ []) xs))
+
+  pub turned : (cells : List (Option T)) (xs : List T) (later : List (Option T)) → Holds cells xs → later ≡ reverse cells → Holds later (reverse xs)
+  turned cells xs later h e = record { cells_are = e ∙ ap reverse h.cells_are ∙ map_reverse xs }
+
+  -- what a list of items is before and after its last one went
+  pub record Pops (xs : List T) (cells : List (Option T)) (cell : Option T) : Type 0 where
+    pub rest : List T
+    pub item : T
+    pub is : cell ≡ Some item
+    pub holds : Holds cells rest
+    pub items : xs ≡ rest ++ item ∷ []
+
+  pub popped : (xs : List T) (cells : List (Option T)) (cell : Option T) → ◌≡◌ {A = List (Option T)} (map Some xs) (cells ++ cell ∷ []) → Pops xs cells cell
+  popped [] cells cell e = absurd (omega (arith, ap length e, length-append cells (cell ∷ [])))
+  popped (x ∷ []) [] cell e = record { rest = []; item = x; is = cc; holds = record { cells_are = refl }; items = refl }
+  popped (x ∷ y ∷ xs) [] cell e = absurd (omega (arith, ap length e))
+  popped (x ∷ xs) (c ∷ cells) cell e =
+      let p = popped xs cells cell cc in
+      let first : c ≡ Some x = cc in
+      record {
+        rest = x ∷ p.rest;
+        item = p.item;
+        is = p.is;
+        holds = record { cells_are = (λ k. first k ∷ p.holds.cells_are k) };
+        items =
+            ap (λ (l : List T). x ∷ l) p.items;
+      }
+
+  pub popped_items : (xs : List T) (cells : List (Option T)) (cell : Option T) → Pops xs cells cell → xs ≡ somes cells ++ option_to_list cell
+  popped_items xs cells cell p = rw (p.is, seen cells p.rest p.holds) p.items
+
+  pub popped_variant : (xs : List T) (cells : List (Option T)) (cell : Option T) → Pops xs cells cell → IsSome cell ↔ (0 < length xs)
+  popped_variant xs cells cell p = (λ _. omega (arith, ap length p.items, length-append p.rest (p.item ∷ [])), λ _. rw p.is (search rules))
+
+  pub popped_there : (xs : List T) (cells : List (Option T)) (cell : Option T) (P : Type 0) → Pops xs cells cell → IfNone cell P
+  popped_there xs cells cell P p = rw p.is (search rules)
+
+  -- the first item goes: the list is turned round, the last one goes, and the list is turned round again
+  turned_single : (o : Option T) → reverse (option_to_list o) ≡ option_to_list o
+  turned_single None = refl
+  turned_single (Some x) = refl
+
+  pub first_off : (xs ys zs later : List T) (o : Option T) → ys ≡ reverse xs → ys ≡ zs ++ option_to_list o → later ≡ reverse zs → xs ≡ option_to_list o ++ later
+  first_off xs ys zs later o e f h =
+      sym (reverse-reverse xs) ∙ (ap reverse (sym e ∙ f) ∙ (reverse-append zs (option_to_list o) ∙ (λ k. turned_single o k ++ sym h k)))
+
+  pub none_left : (zs later : List T) (o : Option T) → IfNone o (zs ≡ []) → later ≡ reverse zs → IfNone o (later ≡ [])
+  none_left zs later None e h = h ∙ ap reverse e
+  none_left zs later (Some x) e h = e

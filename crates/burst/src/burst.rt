@@ -1,0 +1,122 @@
+//! A short list of items that takes no memory of its own: what goes to a ring, or comes from one, in one call.
+ghost use Rattle.std.specs.Prelude.{◌≡◌, ◌+◌, ◌<◌, ◌≤◌, ◌==◌, ◌↔◌, List, [], ◌∷◌, ◌++◌, length, reverse, slice_get};
+ghost use Rattle.std.specs.Prelude.{IsSome, IfNone};
+ghost use Rattle.std.specs.Option.{option_copied, option_to_list};
+
+use crate::cells::Cells;
+use std::marker::Model;
+
+/// A list of at most `N` items, kept in the value itself: cells that all hold one.
+///
+/// It is as large as `N` optional items, 16 bytes each where an item is a box, so pass it by `&mut` where that serves.
+#[derive(Drop)]
+pub struct Burst<T: Drop, const N: usize> {
+    pub cells: Cells<T, N>,
+}
+
+impl<T: Drop, const N: usize> Model for Burst<T, N> {
+    ghost use Rattle.std.specs.Prelude.{List, ◌≡◌, map, Some};
+    ghost use Rattle.burst.specs.Items.{somes};
+
+    ghost Value = { List T };
+
+    ghost view = { λ b. somes b.cells };
+
+    ghost invariant = { λ b. b.cells ≡ map Some (somes b.cells) };
+}
+
+impl<T: Drop, const N: usize> Burst<T, N> {
+    /// An empty list.
+    pub fn new() -> Burst<T, N>
+        ensures { result ≡ [] }
+    {
+        Burst {
+            cells: Cells::new(),
+        }
+    }
+
+    /// The number of items, at most `N`.
+    #[inline]
+    pub fn len(&self) -> usize
+        ensures value { result ≡ length self.now }
+        ensures fits { result ≤ N }
+    {
+        self.cells.len()
+    }
+
+    /// Whether there is no item.
+    #[inline]
+    pub fn is_empty(&self) -> bool
+        ensures { result ≡ (length self.now == 0) }
+    {
+        self.len() == 0
+    }
+
+    /// Whether there is no room for a further item.
+    #[inline]
+    pub fn is_full(&self) -> bool
+        ensures value { result ≡ (length self.now == N) }
+        ensures fits { length self.now ≤ N }
+    {
+        self.len() == N
+    }
+
+    /// The item at place `i`, counted from 0, where there is one.
+    #[inline]
+    pub fn get(&self, i: usize) -> Option<&T>
+        ensures { option_copied result ≡ slice_get self.now i }
+    {
+        match self.cells.as_slice().get(i) {
+            Some(cell) => cell.as_ref(),
+            None => None,
+        }
+    }
+
+    /// Appends an item. Asked: the list isn't full.
+    #[inline]
+    pub fn push(&mut self, item: T)
+        requires { length self.old < N }
+        ensures { self.new ≡ self.old ++ item ∷ [] }
+    {
+        self.cells.push(Some(item));
+    }
+
+    /// Removes the last item, where there is one.
+    #[inline]
+    pub fn pop(&mut self) -> Option<T>
+        ensures items { self.old ≡ self.new ++ option_to_list result }
+        ensures variant { IsSome result ↔ (0 < length self.old) }
+        ensures empty { IfNone result (self.new ≡ []) }
+    {
+        self.cells.pop()?
+    }
+
+    /// Removes the first item, where there is one, and moves the others up: its cost goes with the length of the list.
+    /// To empty a list from its front, `reverse` it once and `pop` its items.
+    pub fn pop_front(&mut self) -> Option<T>
+        ensures items { self.old ≡ option_to_list result ++ self.new }
+        ensures variant { IsSome result ↔ (0 < length self.old) }
+        ensures empty { IfNone result (self.new ≡ []) }
+    {
+        self.reverse();
+        let item = self.pop();
+        self.reverse();
+        item
+    }
+
+    /// Turns the order of the items round.
+    pub fn reverse(&mut self)
+        ensures { self.new ≡ reverse self.old }
+    {
+        self.cells.reverse();
+    }
+
+    /// Drops every item.
+    pub fn clear(&mut self)
+        ensures { self.new ≡ [] }
+    {
+        for _i in 0..self.len() {
+            self.pop();
+        }
+    }
+}

@@ -1,0 +1,34 @@
+use Rattle.std.proofs.Common.{ap, length, rules, sym, ◌∙◌}
+use Rattle.fabric_laws.specs.Changes.{missed}
+use Rattle.fabric_laws.specs.Words.{slot_at}
+use Rattle.fabric.proofs.Settling.{back_held, back_is, count_whole}
+use Rattle.fabric.proofs.ring.Ring.publish.Goals as goal
+
+pub withdraw-requires : goal.withdraw-requires
+withdraw-requires g c =
+    let q = c.requires in
+    let p = c.args.self.now.shape.plan in
+    let cells = c.args.cells.now in
+    let lost = c.settle-found.ensures.lost c.if-found-place.false in
+    let all = count_whole p.put (length cells) c.args.place.count c.in-Multi.is q.count in
+    let held =
+    back_held (slot_at c.args.self.now.fabric.now.plan.rings.items c.args.self.now.index p) c.args.place.start c.args.place.count cells
+    c.settle-found.new.seat.me.1 (lost.1 ∙ c.offer.ensures.slots) all in
+    (search rules, (search rules, (c.settle-found.ensures.seat.0 ∙ (c.offer.ensures.seat.0.0 ∙ q.seat.table), (q.fits, (c.offer.ensures.cells, held)))))
+
+pub returns-else-found-place-clause-early : goal.returns-else-found-place-clause-early
+returns-else-found-place-clause-early g c =
+    let q = c.requires in
+    let p = c.args.self.now.shape.plan in
+    let cells = c.args.cells.now in
+    let lost = c.settle-found.ensures.lost c.if-found-place.false in
+    let all = count_whole p.put (length cells) c.args.place.count c.in-Multi.is q.count in
+    let back =
+    back_is (slot_at c.args.self.now.fabric.now.plan.rings.items c.args.self.now.index p) c.args.place.start c.args.place.count cells
+    c.settle-found.new.seat.me.1 (lost.1 ∙ c.offer.ensures.slots) all in (
+      c.in-Multi.is,
+      lost.2,
+      c.withdraw.ensures.seat.1 ∙ (lost.0 ∙ ap (missed c.settle-found.result) c.offer.ensures.seat.1),
+      c.withdraw.ensures.slots ∙ sym q.slots,
+      c.withdraw.ensures.cells ∙ back,
+    )

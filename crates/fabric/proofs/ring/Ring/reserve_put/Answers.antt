@@ -1,0 +1,35 @@
+use Rattle.std.proofs.Common.{refl, ◌∙◌, replicate, None}
+use Rattle.ringcore_laws.specs.History.{position_of}
+use Rattle.geom.specs.declared.plan.Side.TheVariants.{Put}
+use Rattle.fabric.proofs.Calls.{few_of, own_fits, reserve_put_call, told_ring, reserved_as}
+use Rattle.fabric.proofs.ring.Ring.reserve_put.Goals as goal
+
+pub compare_exchange-requires : goal.compare_exchange-requires
+compare_exchange-requires g c =
+    let f = c.args.self.now.fabric.now in
+    let q = c.requires in
+    let p = c.args.self.now.shape.plan in (
+      q.seat.table,
+      own_fits f.plan.rings.items c.args.self.now.index _ _ p Put c.args.self.now.in_plan.0 f.words c.own_word.ensures,
+      reserve_put_call g.T.Tagged.numbers f.table.shared.key f.plan f.key _ _ _ c.args.self.now.index _ p c.args.self.now.in_plan.0 q.seat.alive c.args.word
+          c.args.count q.seen.0 q.idle q.some c.own_word.ensures q.seen.1 q.seen.2 q.last
+          (few_of g.T.Tagged.numbers _ _ _ _ _ q.seat.pool q.few),
+    )
+
+pub returns-clause-won : goal.returns-clause-won
+returns-clause-won g c hit =
+    let q = c.requires in
+    let p = c.args.self.now.shape.plan in
+    let t = (c.compare_exchange.ensures.2 c.args.self.now.index c.args.count p c.own_word.ensures refl
+    (told_ring _ _ c.args.self.now.index p q.seat.plans c.args.self.now.in_plan.0)).0 hit in (
+      t.0,
+      t.1 ∙ reserved_as c.args.seat.now.me.0.plans c.args.self.now.fabric.now.plan.rings.items c.args.self.now.index p (position_of p.put c.args.word)
+          (replicate c.args.count None) c.args.seat.now.me.1 q.seat.plans,
+    )
+
+pub returns-clause-lost : goal.returns-clause-lost
+returns-clause-lost g c miss =
+    let q = c.requires in
+    let p = c.args.self.now.shape.plan in
+    (c.compare_exchange.ensures.2 c.args.self.now.index c.args.count p c.own_word.ensures refl
+    (told_ring _ _ c.args.self.now.index p q.seat.plans c.args.self.now.in_plan.0)).1 miss

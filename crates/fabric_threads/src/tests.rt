@@ -1,0 +1,96 @@
+//! An item with one number, and each call of a burst once.
+mod calls;
+mod closing;
+mod ends;
+mod rows;
+mod threads;
+
+use arrayvec::ArrayVec;
+use burst::{Burst, Tagged};
+use std::alloc::{AllocError, Global};
+use std::test::Fail;
+
+/// A small boxed item with one number, as the tests of rings use it.
+#[derive(Drop)]
+struct Ticket {
+    number: Box<u32>,
+    load: u64,
+}
+
+impl Ticket {
+    fn new(alloc: Global, number: u32) -> Result<Ticket, AllocError> {
+        Ok(Ticket {
+            number: Box::new(alloc, number)?,
+            load: 0,
+        })
+    }
+}
+
+impl Tagged for Ticket {
+    ghost use Rattle.std.specs.Prelude.{[], ◌∷◌};
+
+    ghost numbers = { λ t. t.number.value ∷ [] };
+
+    fn tags(&self, out: &mut ArrayVec<u32, 64>) {
+        out.push(*self.number);
+    }
+}
+
+#[test]
+fn an_item_tells_its_number(rt: HostRuntime) -> Result<(), Fail> {
+    let ticket = Ticket::new(rt.alloc(), 7)?;
+    let mut out = ArrayVec::new();
+    ticket.tags(&mut out);
+    assert_eq!(rt; out.as_slice(), [7].as_slice());
+    Ok(())
+}
+
+/// Fills a burst with the tickets 0, 1 and 2. Answers whether it took just these.
+fn fills(alloc: Global, burst: &mut Burst<Ticket, 3>) -> Result<bool, AllocError> {
+    for number in 0..3 {
+        if burst.is_full() {
+            return Ok(false);
+        }
+        burst.push(Ticket::new(alloc, number)?);
+    }
+    Ok(burst.is_full() && burst.len() == 3)
+}
+
+/// Whether a ticket came, and has this number.
+fn came(ticket: Option<Ticket>, number: u32) -> bool {
+    match ticket {
+        Some(ticket) => *ticket.number == number,
+        None => false,
+    }
+}
+
+/// Whether a burst shows this ticket at a place.
+fn shows(burst: &Burst<Ticket, 3>, i: usize, number: u32) -> bool {
+    match burst.get(i) {
+        Some(ticket) => *ticket.number == number,
+        None => false,
+    }
+}
+
+#[test]
+fn a_burst_is_a_list(rt: HostRuntime) -> Result<(), Fail> {
+    let mut burst = Burst::<Ticket, 3>::new();
+    assert!(rt; burst.is_empty());
+    assert!(rt; fills(rt.alloc(), &mut burst)?);
+    assert!(rt; shows(&burst, 1, 1));
+    assert!(rt; burst.get(3).is_none());
+    Ok(())
+}
+
+#[test]
+fn a_burst_gives_from_both_ends(rt: HostRuntime) -> Result<(), Fail> {
+    let mut burst = Burst::<Ticket, 3>::new();
+    assert!(rt; fills(rt.alloc(), &mut burst)?);
+    assert!(rt; came(burst.pop_front(), 0));
+    burst.reverse();
+    assert!(rt; came(burst.pop(), 1));
+    burst.clear();
+    assert!(rt; burst.pop().is_none());
+    assert!(rt; burst.pop_front().is_none());
+    Ok(())
+}

@@ -1,0 +1,5 @@
+use Rattle.lpm.specs.TwoLevels.{KeepsGroups, OverwritesEntries}
+use Rattle.lpm.proofs.levels.Levels.overwrite_entries.Given as goal
+
+abbrev pub invariant-loop-first : goal.invariant-loop-first
+invariant-loop-first l = KeepsGroups l.fn.self l.self × OverwritesEntries l.fn.self l.self l.from l.first l.depth l.entry

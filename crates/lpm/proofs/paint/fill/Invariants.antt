@@ -1,5 +1,0 @@
-use Rattle.lpm.specs.Paint.{FillsFrom}
-use Rattle.lpm.proofs.paint.fill.Given as goal
-
-abbrev pub invariant-loop-i : goal.invariant-loop-i
-invariant-loop-i l = FillsFrom l.fn.entries l.entries l.from l.i l.slot

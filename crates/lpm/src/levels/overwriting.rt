@@ -1,0 +1,84 @@
+//! Writes of the places that a prefix holds: whole entries, or a stretch of one entry's group.
+
+ghost use Rattle.std.specs.Prelude.{◌≡◌, ◌+◌, ◌≤◌, ◌<◌, ◌^◌, true, false};
+ghost use Rattle.lpm.specs.TableEntry.{is_group};
+ghost use Rattle.lpm.specs.TwoLevels.{first_at, KeepsGroups, Overwrites, OverwritesWithin, OverwritesEntries};
+ghost use Rattle.lpm.specs.Prefixes.{IsDepth, first_bits, masked, size_of};
+
+use super::Levels;
+use crate::overwrite::overwrite;
+use crate::packed_entry::PackedEntry;
+use crate::places::{first_of, low_of, place, size};
+use crate::prefix::Prefix;
+
+impl Levels {
+    /// Overwrites the places of one entry's group from `from` to below `to`.
+    fn overwrite_group(
+        &mut self,
+        first: usize,
+        from: usize,
+        to: usize,
+        depth: u8,
+        entry: PackedEntry,
+    )
+        requires first { first < 2 ^ self.old.bits }
+        requires grouped { is_group (first_at self.old first) ≡ true }
+        requires ordered { from ≤ to }
+        requires within { to ≤ size_of self.old.bits }
+        ensures keeps { KeepsGroups self.old self.new }
+        ensures overwrites { OverwritesWithin self.old self.new first from to depth entry }
+    {
+        let group = self.first[first].number();
+        let start = place(group, from, self.bits);
+        let end = place(group, to, self.bits);
+        overwrite(&mut self.groups, start, end, depth, entry);
+    }
+
+    /// Overwrites every place of one entry.
+    fn overwrite_entry(&mut self, first: usize, depth: u8, entry: PackedEntry)
+        requires first { first < 2 ^ self.old.bits }
+        requires plain { is_group entry ≡ false }
+        ensures keeps { KeepsGroups self.old self.new }
+        ensures overwrites { OverwritesEntries self.old self.new first (first + 1) depth entry }
+    {
+        let old = self.first[first];
+        if old.is_group() {
+            self.overwrite_group(first, 0, size(self.bits), depth, entry);
+        } else if old.depth() <= depth {
+            self.first[first] = entry;
+        }
+    }
+
+    /// Overwrites every place of the entries from `from` to below `to`.
+    fn overwrite_entries(&mut self, from: usize, to: usize, depth: u8, entry: PackedEntry)
+        requires ordered { from ≤ to }
+        requires within { to ≤ 2 ^ self.old.bits }
+        requires plain { is_group entry ≡ false }
+        ensures keeps { KeepsGroups self.old self.new }
+        ensures overwrites { OverwritesEntries self.old self.new from to depth entry }
+    {
+        for first in from..to {
+            self.overwrite_entry(first, depth, entry);
+        }
+    }
+
+    /// Overwrites the places of a prefix. Of a deep one, the entry has to have a group.
+    pub fn overwrite(&mut self, prefix: Prefix, entry: PackedEntry)
+        requires lawful { IsDepth prefix.depth }
+        requires masked { masked prefix.address prefix.depth ≡ prefix.address }
+        requires plain { is_group entry ≡ false }
+        requires grouped { self.old.bits < prefix.depth
+            → is_group (first_at self.old (first_bits prefix.address self.old.bits)) ≡ true }
+        ensures keeps { KeepsGroups self.old self.new }
+        ensures overwrites { Overwrites self.old self.new prefix entry }
+    {
+        let first = first_of(prefix.address, self.bits);
+        if prefix.depth <= self.bits {
+            let count = 1usize << (self.bits - prefix.depth);
+            self.overwrite_entries(first, first + count, prefix.depth, entry);
+        } else {
+            let from = low_of(prefix.address, self.bits);
+            self.overwrite_group(first, from, from + size(prefix.depth), prefix.depth, entry);
+        }
+    }
+}

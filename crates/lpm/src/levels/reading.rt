@@ -1,0 +1,84 @@
+//! What the levels say: of an address, of a burst of addresses, of one entry and of one place in a group. A lookup
+//! shifts by constants alone, as there is a form of it for either first level.
+
+ghost use Rattle.std.specs.Prelude.{◌≡◌, ◌<◌, ◌^◌, ℕ, length, map, true};
+ghost use Rattle.lpm.specs.TableEntry.{is_group, hop_of};
+ghost use Rattle.lpm.specs.TwoLevels.{entry_for, first_at, grouped_at};
+ghost use Rattle.lpm.specs.Prefixes.{size_of};
+
+use super::Levels;
+use crate::next_hop::NextHop;
+use crate::packed_entry::PackedEntry;
+use crate::places::{first_of, low_of, place};
+
+impl Levels {
+    /// What holds for an address.
+    #[inline]
+    pub fn entry_for(&self, address: u32) -> PackedEntry
+        ensures { result ≡ entry_for self.now address }
+    {
+        match self.bits {
+            16 => self.entry_by::<16>(address),
+            _ => self.entry_by::<24>(address),
+        }
+    }
+
+    /// What holds for an address, by its first `BITS` bits: their entry, or the one in the group that this names. Two
+    /// loads at most.
+    #[inline(always)]
+    fn entry_by<const BITS: u8>(&self, address: u32) -> PackedEntry
+        requires { self.now.bits ≡ BITS }
+        ensures { result ≡ entry_for self.now address }
+    {
+        let entry = self.first[first_of(address, BITS)];
+        if entry.is_group() {
+            self.groups[place(entry.number(), low_of(address, BITS), BITS)]
+        } else {
+            entry
+        }
+    }
+
+    /// The hops for a burst of addresses.
+    pub fn hops_for(&self, addresses: &[u32], hops: &mut [NextHop])
+        requires { length addresses.now ≡ length hops.old }
+        ensures { hops.new ≡ map (λ address. hop_of (entry_for self.now address)) addresses.now }
+    {
+        match self.bits {
+            16 => self.hops_by::<16>(addresses, hops),
+            _ => self.hops_by::<24>(addresses, hops),
+        }
+    }
+
+    /// The hops for a burst of addresses, by their first `BITS` bits.
+    fn hops_by<const BITS: u8>(&self, addresses: &[u32], hops: &mut [NextHop])
+        requires bits { self.now.bits ≡ BITS }
+        requires long { length addresses.now ≡ length hops.old }
+        ensures { hops.new ≡ map (λ address. hop_of (entry_for self.now address)) addresses.now }
+    {
+        for i in 0..addresses.len() {
+            hops[i] = self.entry_by::<BITS>(addresses[i]).next_hop();
+        }
+    }
+
+    /// What one place of a group says.
+    pub fn in_group(&self, group: u32, low: usize) -> PackedEntry
+        requires used { (first : ℕ) × (first < 2 ^ self.now.bits) × (is_group (first_at self.now first) ≡ true)
+            × ((first_at self.now first).number ≡ group) }
+        requires place { low < size_of self.now.bits }
+        ensures { result ≡ grouped_at self.now group low }
+    {
+        self.groups[place(group, low, self.bits)]
+    }
+
+    /// An entry of the first level. A group that it names is no other entry's.
+    pub fn first(&self, first: usize) -> PackedEntry
+        requires { first < 2 ^ self.now.bits }
+        ensures value { result ≡ first_at self.now first }
+        ensures below { is_group result ≡ true → result.number < self.now.limit }
+        ensures alone { is_group result ≡ true
+            → (other : ℕ) → is_group (first_at self.now other) ≡ true
+            → (first_at self.now other).number ≡ result.number → other ≡ first }
+    {
+        self.first[first]
+    }
+}

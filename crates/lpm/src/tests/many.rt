@@ -1,0 +1,128 @@
+//! Many routes and groups, each taken and looked up, and what is left where memory is refused.
+
+use crate::tests::at;
+use crate::tests::calls::{add, add_once, lookup, remove};
+use crate::{NextHop, RouteFault, Table};
+use std::process::Abort;
+use std::test::Fail;
+
+/// Beyond every number that a table might hold without asking for memory: its tree of routes has three levels, and its
+/// groups are moved to larger memory several times.
+const ROUTES: u32 = 4000;
+
+const GROUPS: u32 = 300;
+
+/// The first of the networks of 24 bits that have a group each, and of those that have none.
+const DEEP: u32 = 0x0a00_0000;
+
+const SHALLOW: u32 = 0x1400_0000;
+
+/// How many addresses a burst has.
+const BURST: usize = 4;
+
+/// The address with this last byte in the network of 24 bits that is `i` behind the one of `base`.
+fn nth(base: u32, i: u32, last: u32) -> u32 {
+    base ^ i << 8 ^ last
+}
+
+/// Adds a route to each of the networks, of which none is refused.
+fn add_many(rt: &impl Abort, table: &mut Table, base: u32, depth: u8, count: u32) {
+    for i in 0..count {
+        assert_eq!(rt; add(table, nth(base, i, 7), depth, i), Ok(()), "route {i}");
+    }
+}
+
+/// Looks an address up, alone and in a burst of its own.
+fn look_up(rt: &impl Abort, table: &Table, addr: u32, expected: Option<u32>) {
+    let mut hops = [NextHop::none(); BURST];
+    table.lookup_bulk(&[addr; BURST], &mut hops);
+    assert_eq!(rt;
+        hops.map(NextHop::hop),
+        [expected; BURST],
+        "a burst of {addr:08x}"
+    );
+    assert_eq!(rt; lookup(table, addr), expected, "{addr:08x}");
+}
+
+/// Looks the routes up.
+fn look_up_many(rt: &impl Abort, table: &Table, base: u32, last: u32, count: u32) {
+    for i in 0..count {
+        look_up(rt, table, nth(base, i, last), Some(i));
+    }
+}
+
+#[test]
+fn takes_many_routes(rt: HostRuntime) -> Result<(), Fail> {
+    let mut table = Table::new(rt.alloc(), 24, GROUPS)?;
+    add_many(&rt, &mut table, SHALLOW, 24, ROUTES);
+    add_many(&rt, &mut table, DEEP, 32, GROUPS);
+    look_up_many(&rt, &table, SHALLOW, 200, ROUTES);
+    look_up_many(&rt, &table, DEEP, 7, GROUPS);
+    look_up(&rt, &table, nth(DEEP, 0, 8), None);
+    assert_eq!(rt;
+        add_once(&mut table, nth(DEEP, GROUPS, 7), 32, 1),
+        Err(RouteFault::NoGroup)
+    );
+    assert_eq!(rt; remove(&mut table, nth(DEEP, 1, 7), 32), Ok(()));
+    assert_eq!(rt; add(&mut table, nth(DEEP, GROUPS, 7), 32, 5), Ok(()));
+    look_up(&rt, &table, nth(DEEP, GROUPS, 7), Some(5));
+    look_up(&rt, &table, nth(DEEP, 1, 7), None);
+    Ok(())
+}
+
+/// Adds a route. Where memory was refused the table is as it was, and takes the route the second time.
+fn add_or_keep(rt: &impl Abort, table: &mut Table, addr: u32, depth: u8, hop: u32) {
+    let before = lookup(table, addr);
+    if add_once(table, addr, depth, hop) == Err(RouteFault::Memory) {
+        assert_eq!(rt; lookup(table, addr), before, "depth {depth}");
+        assert_eq!(rt; remove(table, addr, depth), Err(RouteFault::NoRoute));
+        assert_eq!(rt;
+            add_once(table, addr, depth, hop),
+            Ok(()),
+            "there is memory again"
+        );
+    }
+}
+
+#[test]
+fn is_as_it_was_without_memory(rt: HostRuntime) -> Result<(), Fail> {
+    let mut table = Table::new(rt.alloc(), 16, 8)?;
+    let addr = at(10, 1, 2, 3);
+    for hop in 1..25 {
+        let depth = 8 + hop as u8;
+        add_or_keep(&rt, &mut table, addr, depth, hop);
+        assert_eq!(rt; lookup(&table, addr), Some(hop), "depth {depth}");
+    }
+    Ok(())
+}
+
+/// The greatest of the depths up to `depth` that were taken, which is the hop as well.
+fn deepest(taken: &[bool; 33], depth: u8) -> Option<u32> {
+    let mut found = None;
+    for (i, taken) in taken.iter().enumerate() {
+        if *taken && i <= depth as usize {
+            found = Some(i as u32);
+        }
+    }
+    found
+}
+
+/// Whichever requests for memory are refused while the routes are added, lookups, bursts and removals go on: they make
+/// none.
+#[test]
+fn goes_on_without_memory(rt: HostRuntime) {
+    let Ok(mut table) = Table::new(rt.alloc(), 16, 8) else {
+        return;
+    };
+    let addr = at(10, 1, 2, 3);
+    let mut taken = [false; 33];
+    for depth in 1..33 {
+        taken[depth as usize] = add_once(&mut table, addr, depth, u32::from(depth)).is_ok();
+    }
+    for depth in (1..33).rev() {
+        look_up(&rt, &table, addr, deepest(&taken, depth));
+        let answer = remove(&mut table, addr, depth);
+        assert_eq!(rt; answer.is_ok(), taken[depth as usize], "depth {depth}");
+    }
+    look_up(&rt, &table, addr, None);
+}

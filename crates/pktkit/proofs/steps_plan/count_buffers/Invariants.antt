@@ -1,6 +1,0 @@
-use Rattle.std.proofs.Common.{◌≡◌, min, take}
-use Rattle.pktkit.specs.StepsPlan.{buffer_count}
-use Rattle.pktkit.proofs.steps_plan.count_buffers.Given as goal
-
-abbrev pub invariant-loop-gift : goal.invariant-loop-gift
-invariant-loop-gift l = l.count ≡ min (buffer_count (take l.gift-index l.gifts)) 65537

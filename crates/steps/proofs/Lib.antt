@@ -1,0 +1,4 @@
+pub mod EachWord
+pub mod Gifts
+pub mod Judged
+pub mod Planned

@@ -1,0 +1,4 @@
+pub mod Forms
+pub mod Plans
+pub mod Replies
+pub mod Standing
