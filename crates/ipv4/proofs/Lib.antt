@@ -1,0 +1,11 @@
+pub mod Sums
+pub mod SumSteps
+pub mod ByteLists
+pub mod Renewing
+pub mod Rewriting
+pub mod Drops
+pub mod Again
+pub mod SentAgain
+pub mod Heads
+pub mod Fronts
+pub mod Rows

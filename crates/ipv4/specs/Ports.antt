@@ -1,0 +1,19 @@
+-- Where a hop number leads.
+use Rattle.std.specs.Prelude.{◌≡◌, ℕ, List, length, Option, Some, option_and_then, option_map, slice_get}
+use Rattle.ipv4.specs.declared.ports.Hop.{Hop}
+use Rattle.ipv4.specs.declared.ports.Ports.{Ports}
+use Rattle.ipv4.specs.declared.ports.Way.{Way}
+
+-- through an entry's port, with the address of that port
+abbrev pub leaving : Hop → List ℕ → Way
+leaving entry from = record { port = entry.port; to = entry.to; from = from }
+
+-- the way by a hop number's entry; none where there is no such entry, or its port has no source
+abbrev pub way_of : Ports → ℕ → Option Way
+way_of ports hop =
+    option_and_then (λ entry. option_map (leaving entry) (slice_get ports.sources.items entry.port))
+    (slice_get ports.hops.items hop)
+
+-- each address has 6 bytes, as a machine's has
+abbrev pub HasAddresses : Ports → Type 0
+HasAddresses ports = (hop : ℕ) (way : Way) → way_of ports hop ≡ Some way → (length way.to ≡ 6) × (length way.from ≡ 6)

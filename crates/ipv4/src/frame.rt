@@ -1,0 +1,45 @@
+//! A frame whose header lies in one piece: judged, and rewritten where it is sent.
+ghost use Rattle.std.specs.Prelude.{◌≡◌, ◌≤◌, length};
+ghost use Rattle.ipv4.specs.Forwarding.{forwarded};
+
+use crate::fields::is_tagged;
+use crate::judge::judge;
+use crate::ports::Ports;
+use crate::rewrite::rewrite;
+use crate::verdicts::Verdict;
+use lpm::Table;
+
+/// The verdict on the frame.
+#[inline]
+pub(crate) fn verdict_of_frame(frame: &[u8], table: &Table, ports: &Ports, wire: usize) -> Verdict
+    requires { length frame.now ≤ wire }
+    ensures { result ≡ (forwarded table.now.members ports.now frame.now wire).verdict }
+{
+    match judge(frame, table, ports, wire) {
+        Ok(way) => Verdict::Send {
+            port: way.port,
+            tagged: is_tagged(frame),
+        },
+        Err(reason) => Verdict::Drop(reason),
+    }
+}
+
+/// The verdict on the frame, which is rewritten where it is sent.
+#[inline]
+pub(crate) fn forward_frame(frame: &mut [u8], table: &Table, ports: &Ports, wire: usize) -> Verdict
+    requires { length frame.old ≤ wire }
+    ensures verdict { result ≡ (forwarded table.now.members ports.now frame.old wire).verdict }
+    ensures frame { frame.new ≡ (forwarded table.now.members ports.now frame.old wire).frame }
+{
+    match judge(frame, table, ports, wire) {
+        Ok(way) => {
+            let tagged = is_tagged(frame);
+            rewrite(frame, &way);
+            Verdict::Send {
+                port: way.port,
+                tagged,
+            }
+        }
+        Err(reason) => Verdict::Drop(reason),
+    }
+}

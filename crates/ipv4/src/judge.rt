@@ -1,0 +1,78 @@
+//! The verdict on a frame whose header lies in one piece.
+ghost use Rattle.std.specs.Prelude.{◌≡◌, ◌≤◌, ◌==◌, length};
+ghost use Rattle.ipv4.specs.Checksum.{ones_complement_sum};
+ghost use Rattle.ipv4.specs.Fields.{header_len, header_of};
+ghost use Rattle.ipv4.specs.Forwarding.{judged, way_from};
+
+use crate::checksum::sum16;
+use crate::fields::{ETHERNET, IPV4, SHORTEST, destination_of, header_len, offset_of, word_at};
+use crate::ports::{Ports, Way};
+use crate::verdicts::Reason;
+use lpm::Table;
+
+/// The way of the frame, or why it is dropped, tested in the order of the reasons' table.
+#[inline]
+#[tactic(auto, unfolding(crate::specs::Forwarding::judged))]
+pub(crate) fn judge(frame: &[u8], table: &Table, ports: &Ports, wire: usize) -> Result<Way, Reason>
+    requires { length frame.now ≤ wire }
+    ensures { result ≡ judged table.now.members ports.now frame.now wire }
+{
+    if frame.len() < ETHERNET {
+        return Err(Reason::Short);
+    }
+    let at = offset_of(frame);
+    if frame.len() < at {
+        return Err(Reason::Short);
+    }
+    if word_at(frame, at - 2) != IPV4 {
+        return Err(Reason::NotIpv4);
+    }
+    let packet = frame.split_at(at).1;
+    if packet.len() < SHORTEST {
+        return Err(Reason::Short);
+    }
+    if packet[0] / 16 != 4 {
+        return Err(Reason::BadHeader);
+    }
+    let len = header_len(packet);
+    if len < SHORTEST {
+        return Err(Reason::BadHeader);
+    }
+    if packet.len() < len {
+        return Err(Reason::Short);
+    }
+    let total = word_at(packet, 2) as usize;
+    if total < len {
+        return Err(Reason::BadLength);
+    }
+    if total > wire - at {
+        return Err(Reason::BadLength);
+    }
+    if !is_summed(packet, len) {
+        return Err(Reason::BadChecksum);
+    }
+    if packet[8] < 2 {
+        return Err(Reason::Expired);
+    }
+    way_from(packet, table, ports).ok_or(Reason::NoRoute)
+}
+
+/// Whether the header's checksum is right.
+#[inline(always)]
+fn is_summed(packet: &[u8], len: usize) -> bool
+    requires header { len ≡ header_len packet.now }
+    requires whole { len ≤ length packet.now }
+    ensures { result ≡ (ones_complement_sum (header_of packet.now) == 0xFFFF) }
+{
+    sum16(packet.split_at(len).0) == 0xffff
+}
+
+/// Where the longest match of the packet's destination leads.
+#[inline(always)]
+fn way_from(packet: &[u8], table: &Table, ports: &Ports) -> Option<Way>
+    requires { 20 ≤ length packet.now }
+    ensures { result ≡ way_from table.now.members ports.now packet.now }
+{
+    let hop = table.lookup(destination_of(packet))?;
+    ports.way(hop)
+}

@@ -1,0 +1,36 @@
+//! IPv4 forwarding (RFC 791, RFC 1812 sections 5.2.2 and 5.3.1) of Ethernet frames, also with one 802.1Q tag: the
+//! verdict on a frame, and the frame rewritten in place, wherever a chain's segments divide it. No call takes memory.
+//!
+//! What becomes of a frame is one function of its bytes and of how long it was on the wire, `forwarded` in
+//! `specs/Forwarding.antt`: a table of drops, and the frame as it leaves. `verdict` and `forward` both answer by it, so
+//! that what one tells the other does.
+//!
+//! A caller, proved in `example.rt`: the two verdicts are the same.
+//!
+//! ```text
+//! let told = verdict(table, ports, chain, wire);
+//! let done = forward(chain, table, ports, wire);
+//! ```
+#![tactic(auto)]
+
+mod chains;
+mod checksum;
+mod fields;
+mod frame;
+mod head;
+mod judge;
+mod laws;
+mod ports;
+mod rewrite;
+mod verdicts;
+
+pub use chains::{forward, verdict};
+pub use checksum::sum16;
+pub use laws::{a_sent_frame_is_right, a_sent_frame_is_sent_again};
+pub use ports::{Hop, Ports};
+pub use verdicts::{Reason, Verdict};
+
+#[cfg(test)]
+mod example;
+#[cfg(test)]
+mod tests;
