@@ -1,0 +1,138 @@
+/* Captures: makes one, and copies one record by record in plain C or over libpcap.
+ *
+ *   pcapio.yardstick make OUT RECORDS   a little-endian capture of microseconds, the same each time
+ *   pcapio.yardstick plain IN OUT       fread and fwrite, with buffers of 64 KiB
+ *   pcapio.yardstick libpcap IN OUT     pcap_next_ex and pcap_dump
+ *   pcapio.yardstick peak PROGRAM ..    runs a program, and prints the most memory that it had, in KiB
+ */
+#include "bench.h"
+#include <pcap/pcap.h>
+#include <sys/resource.h>
+#include <sys/wait.h>
+#include <unistd.h>
+
+#define ROOM 65536
+#define MOST 262144
+
+static uint8_t bytes[MOST];
+
+static void fail(const char *what)
+{
+	perror(what);
+	exit(1);
+}
+
+static FILE *opened(const char *path, const char *mode, char *room)
+{
+	FILE *file = fopen(path, mode);
+	if (!file || setvbuf(file, room, _IOFBF, ROOM)) fail(path);
+	return file;
+}
+
+static uint32_t field(const uint8_t *at)
+{
+	uint32_t value;
+	memcpy(&value, at, 4);
+	return value;
+}
+
+static void put(uint8_t *at, uint32_t value)
+{
+	memcpy(at, &value, 4);
+}
+
+/* Frames of 60 to 1,514 bytes: seven of twelve have 60, one has 1,514, the others any length between. */
+static unsigned frame(uint64_t *state)
+{
+	uint64_t number = splitmix64(state);
+	unsigned kind = number % 12;
+	return kind < 7 ? 60 : kind < 11 ? 61 + (number >> 8) % 1453 : 1514;
+}
+
+static void file_header(uint8_t *header)
+{
+	memset(header, 0, 24);
+	put(header, 0xa1b2c3d4);
+	put(header + 4, 0x00040002);
+	put(header + 16, MOST);
+	put(header + 20, 1);
+}
+
+static void make(const char *path, unsigned records)
+{
+	static char room[ROOM];
+	FILE *out = opened(path, "wb", room);
+	uint8_t header[24];
+	uint64_t state = 4;
+	file_header(header);
+	fwrite(header, 24, 1, out);
+	for (unsigned i = 0; i < records; i++) {
+		unsigned length = frame(&state);
+		for (unsigned k = 0; k < length; k++) bytes[k] = i + k;
+		put(header, 1700000000 + i / 1000000);
+		put(header + 4, i % 1000000);
+		put(header + 8, length);
+		put(header + 12, length);
+		fwrite(header, 16, 1, out);
+		fwrite(bytes, length, 1, out);
+	}
+	if (fclose(out)) fail(path);
+}
+
+static void plain(const char *from, const char *to)
+{
+	static char rooms[2][ROOM];
+	FILE *in = opened(from, "rb", rooms[0]), *out = opened(to, "wb", rooms[1]);
+	uint8_t header[24];
+	if (fread(header, 24, 1, in) != 1 || field(header) != 0xa1b2c3d4) fail(from);
+	file_header(header);
+	fwrite(header, 24, 1, out);
+	while (fread(header, 16, 1, in) == 1) {
+		uint32_t captured = field(header + 8), wire = field(header + 12);
+		if (captured > MOST) fail("captured");
+		if (captured && fread(bytes, captured, 1, in) != 1) break;
+		put(header + 12, wire < captured ? captured : wire);
+		if (fwrite(header, 16, 1, out) != 1) fail(to);
+		if (captured && fwrite(bytes, captured, 1, out) != 1) fail(to);
+	}
+	if (fclose(out)) fail(to);
+}
+
+static void libpcap(const char *from, const char *to)
+{
+	char message[PCAP_ERRBUF_SIZE];
+	struct pcap_pkthdr *header;
+	const u_char *packet;
+	pcap_t *in = pcap_open_offline(from, message);
+	if (!in) fail(message);
+	pcap_dumper_t *out = pcap_dump_open(in, to);
+	if (!out) fail(to);
+	while (pcap_next_ex(in, &header, &packet) == 1) pcap_dump((u_char *)out, header, packet);
+	pcap_dump_close(out);
+	pcap_close(in);
+}
+
+/* From here and not from a larger program, whose memory would count until the other one runs. */
+static int peak(char **command)
+{
+	struct rusage used;
+	int status;
+	pid_t child = fork();
+	if (child == 0) {
+		execv(command[0], command);
+		_exit(127);
+	}
+	if (child < 0 || wait4(child, &status, 0, &used) < 0) fail("wait4");
+	printf("%ld\n", used.ru_maxrss);
+	return status != 0;
+}
+
+int main(int argc, char **argv)
+{
+	if (argc > 2 && !strcmp(argv[1], "peak")) return peak(argv + 2);
+	if (argc != 4) return 2;
+	if (!strcmp(argv[1], "make")) make(argv[2], atoi(argv[3]));
+	else if (!strcmp(argv[1], "plain")) plain(argv[2], argv[3]);
+	else libpcap(argv[2], argv[3]);
+	return 0;
+}

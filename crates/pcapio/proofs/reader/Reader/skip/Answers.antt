@@ -1,0 +1,7 @@
+use Rattle.pcapio.proofs.Records.{skipped}
+use Rattle.pcapio.proofs.reader.Reader.skip.Goals as goal
+
+pub returns-in-Ok-clause-record : goal.returns-in-Ok-clause-record
+returns-in-Ok-clause-record g c =
+    skipped _ _ c.take_head-head.result _ _ _ _ _ _ c.take_head-head.ensures.pending c.pass.ensures.all c.pass.ensures.rest c.take_head-head.ensures.takes
+    c.in-Ok.ensures.whole

@@ -1,0 +1,6 @@
+use Rattle.std.proofs.KnownBytes.{Keeps-refl}
+use Rattle.pcapio.specs.Behind.{waiting}
+use Rattle.pcapio.proofs.writer.Writer.flush.Goals as goal
+
+pub returns-in-Some-clause-begins : goal.returns-in-Some-clause-begins
+returns-in-Some-clause-begins g c = (waiting c.args.self.now.behind, Keeps-refl _)

@@ -1,0 +1,10 @@
+pub mod Answer
+pub mod Counted
+pub mod Begin
+pub mod Ahead
+pub mod Behind
+pub mod Record
+pub mod Stage
+pub mod Reader
+pub mod Writer
+pub mod Copy

@@ -1,0 +1,139 @@
+//! Devices that fail or take few bytes at once, and memory that is refused.
+use crate::example::{FILE, NEVER, Slow, Tight, WRITTEN};
+use crate::{CapFault, Counted, Reader, Resolution, Writer, copy_capture};
+use mbuf::{Chain, make};
+use std::alloc::Global;
+use std::process::Abort;
+use std::test::Fail;
+
+/// More calls than a copy of the worked file makes of a device, a byte at a time.
+const CALLS: u64 = 110;
+
+fn chain(alloc: Global) -> Result<Chain, Fail> {
+    let chain = make(alloc, 1, 0, 34)?.pop();
+    Ok(chain.ok_or("no segment")?)
+}
+
+/// A copy of the worked file whose read or write after `fails` others fails: the fault is told, nothing is asked of the
+/// device again, and what was written is a beginning.
+fn copy(
+    rt: &impl Abort,
+    alloc: Global,
+    chain: &mut Chain,
+    from: Slow,
+    to: Tight,
+    fails: u64,
+    told: CapFault,
+) {
+    let (from, to, answer) = copy_capture(alloc, Counted::new(from), Counted::new(to), chain);
+    let failed = answer.is_err();
+    assert_eq!(rt; from.failures().wrapping_add(to.failures()), failed as u64);
+    let (from, to) = (from.into_inner(), to.into_inner());
+    let calls = if told == CapFault::Read {
+        from.calls()
+    } else {
+        to.calls()
+    };
+    if failed {
+        assert_eq!(rt; answer, Err(told));
+        assert_eq!(rt; calls, fails.wrapping_add(1));
+        assert!(rt; WRITTEN.starts_with(to.written()));
+    } else {
+        assert_eq!(rt; answer, Ok(Some(true)));
+        assert!(rt; calls <= fails);
+        assert_eq!(rt; to.written(), WRITTEN.as_slice());
+    }
+}
+
+#[test]
+fn tells_each_read_that_fails(rt: HostRuntime) -> Result<(), Fail> {
+    let mut chain = chain(rt.alloc())?;
+    for most in [1, 7, 100] {
+        for fails in 0..CALLS {
+            let from = Slow::new(&FILE, most, fails);
+            let to = Tight::new(128, NEVER);
+            copy(&rt, rt.alloc(), &mut chain, from, to, fails, CapFault::Read);
+        }
+    }
+    Ok(())
+}
+
+#[test]
+fn tells_each_write_that_fails(rt: HostRuntime) -> Result<(), Fail> {
+    let mut chain = chain(rt.alloc())?;
+    for most in [1, 7, 128] {
+        for fails in 0..CALLS {
+            let from = Slow::new(&FILE, 100, NEVER);
+            let to = Tight::new(most, fails);
+            copy(
+                &rt,
+                rt.alloc(),
+                &mut chain,
+                from,
+                to,
+                fails,
+                CapFault::Write,
+            );
+        }
+    }
+    Ok(())
+}
+
+#[test]
+fn keeps_a_fault_and_leaves_the_device_alone(rt: HostRuntime) -> Result<(), Fail> {
+    let mut chain = chain(rt.alloc())?;
+    let Ok(mut reader) = Reader::open(rt.alloc(), Counted::new(Slow::new(&FILE, 30, 1))) else {
+        return Err(Fail::new("the header wasn't read"));
+    };
+    assert_eq!(rt; reader.head(), Err(CapFault::Read));
+    assert_eq!(rt; reader.head(), Err(CapFault::Read));
+    assert_eq!(rt; reader.next(rt.alloc()).err(), Some(CapFault::Read));
+    assert!(rt; !reader.torn());
+    assert_eq!(rt; reader.into_inner().into_inner().calls(), 2);
+    let to = Counted::new(Tight::new(0, NEVER));
+    let Ok(mut writer) = Writer::open(rt.alloc(), to, Resolution::Nano) else {
+        return Err(Fail::new("no memory"));
+    };
+    assert_eq!(rt;
+        writer.flush(),
+        Err(CapFault::Write),
+        "a write that takes none"
+    );
+    chain.reset();
+    assert_eq!(rt; writer.put(0, 0, 0, &chain), Err(CapFault::Write));
+    assert_eq!(rt; writer.flush(), Err(CapFault::Write));
+    let to = writer.into_inner();
+    assert_eq!(rt; to.failures(), 1);
+    assert_eq!(rt; to.into_inner().calls(), 1);
+    Ok(())
+}
+
+/// Whichever request for memory is refused, no call but `open` and `next` answers Memory: with the requests of the
+/// set-up granted, every other refusal passes unnoticed, since there is nothing to refuse.
+#[test]
+fn takes_no_memory_after_open(rt: HostRuntime) -> Result<(), Fail> {
+    let mut chain = chain(rt.alloc())?;
+    let Ok(mut reader) = Reader::open(rt.alloc(), Counted::new(Slow::new(&FILE, 7, NEVER))) else {
+        return Err(Fail::new("no memory for the reader"));
+    };
+    let to = Counted::new(Tight::new(9, NEVER));
+    let Ok(mut writer) = Writer::open(rt.alloc(), to, reader.resolution()) else {
+        return Err(Fail::new("no memory for the writer"));
+    };
+    for _ in 0..2 {
+        let Ok(Some(head)) = reader.head() else {
+            break;
+        };
+        assert!(rt; head.captured as usize <= chain.space());
+        if reader.body(&mut chain)? {
+            writer.put(head.seconds, head.fraction, head.wire, &chain)?;
+        }
+    }
+    assert!(rt; reader.torn());
+    assert_eq!(rt; writer.flush(), Ok(()));
+    assert_eq!(rt;
+        writer.into_inner().into_inner().written(),
+        WRITTEN.as_slice()
+    );
+    Ok(())
+}

@@ -1,0 +1,36 @@
+//! Captures in the classic pcap file format (pcap-savefile(5)), streamed: a reader of both byte orders and both
+//! resolutions, and a writer, over devices whose failures are counted.
+//!
+//! What a capture is stands in `pcapio_laws`. A reader gives its records one after the other: `head`, and then `body`,
+//! which reads the record's bytes into the segments of a chain, or `skip`; or `next`, which makes a vector. A writer's
+//! `put` takes the bytes from a chain. Each has a buffer of 64 KiB, made in `open`; no other call but `next` takes
+//! memory. `copy_records` shows them at work.
+#![tactic(auto)]
+
+mod ahead;
+mod behind;
+mod copy;
+mod counted;
+mod header;
+mod reader;
+mod record;
+mod stage;
+mod stream;
+mod text;
+mod writer;
+
+pub use copy::{copy_capture, copy_records};
+pub use counted::Counted;
+pub use pcapio_laws::{ByteOrder, CapFault, MOST_CAPTURED, Resolution};
+pub use reader::Reader;
+pub use record::{Head, Record};
+pub use writer::Writer;
+
+#[cfg(test)]
+mod device_tests;
+#[cfg(test)]
+mod example;
+#[cfg(test)]
+mod foreign_tests;
+#[cfg(test)]
+mod tests;

@@ -1,0 +1,171 @@
+//! The bytes of the pending record: read into a chain, skipped, or read into a vector.
+ghost use Rattle.std.specs.Prelude.{◌≡◌, ◌≤◌, length, ℕ, List, IfOk, IfErr, OnOk, OnErr, OnSome, IfSome, IfNone};
+ghost use Rattle.std.specs.Prelude.{IsSome, Some, None, Bool, true};
+ghost use Rattle.std.specs.Option.{ForSome};
+ghost use Rattle.mbuf.specs.Chain.{bytes_of, fresh_of, space_of};
+ghost use Rattle.pcapio.specs.Answer.{OnAll, OnCut};
+ghost use Rattle.pcapio.specs.Counted.{HasNotFailed};
+ghost use Rattle.pcapio.specs.Reader.{rest, stage_of, source_of, pending_of, IsReading, IsSameFile, Fails};
+ghost use Rattle.pcapio.specs.Reader.{Takes, TakesBody, TakesPending, LeavesTorn, EndsTorn, FindsEnd};
+ghost use Rattle.pcapio.specs.Reader.{WhyNoRecord, WhyNoBytes};
+ghost use Rattle.pcapio.specs.Record.{view};
+ghost use Rattle.pcapio.specs.Stage.{after_bytes};
+ghost use Rattle.pcapio.specs.declared.stage.Stage.TheVariants.{Between, Ended, Faulted};
+
+use crate::counted::Failed;
+use crate::reader::Reader;
+use crate::record::{HEAD, Head, Record};
+use crate::stage::Stage;
+use crate::stream::read_body;
+use mbuf::Chain;
+use pcapio_laws::CapFault;
+use std::alloc::{AllocError, Global};
+use std::io::Read;
+
+impl<R: Read> Reader<R> {
+    /// Skips the bytes of the pending record. `false`: the file ended in them. Asked: a head is pending. It takes no
+    /// memory.
+    ///
+    /// Refused with 5 `Read` where the device failed.
+    pub fn skip(&mut self) -> Result<bool, CapFault>
+        requires pending { IsSome (pending_of self.old) }
+        ensures file { IsSameFile self.old self.new }
+        ensures record { OnAll result ((bytes : List ℕ) × TakesBody R.remaining self.old self.new bytes) }
+        ensures torn { OnCut result (EndsTorn R.remaining self.old) }
+        ensures stage { IfOk result (λ all. stage_of self.new ≡ after_bytes all) }
+        ensures well { OnOk result (HasNotFailed (source_of self.old) (source_of self.new)) }
+        ensures fault { IfErr result (λ fault. fault ≡ CapFault.Read) }
+        ensures given_up { OnErr result (stage_of self.new ≡ Faulted CapFault.Read) }
+        ensures failed { OnErr result (Fails self.old self.new) }
+    {
+        let head = self.take_head();
+        match self.ahead.skip(&mut self.device, head.captured as usize) {
+            Ok(all) => Ok(self.pass(all)),
+            Err(Failed) => Err(self.give_up(CapFault::Read)),
+        }
+    }
+
+    /// Reads the bytes of the pending record into the segments of a chain, from the first on. `false`: the file ended
+    /// in them, and the chain is fresh. Asked: a head is pending, and the chain has space for its bytes. What was in
+    /// the chain is overwritten. It takes no memory.
+    ///
+    /// Refused with 5 `Read` where the device failed, and the chain is then fresh.
+    pub fn body(&mut self, chain: &mut Chain) -> Result<bool, CapFault>
+        requires pending { IsSome (pending_of self.old) }
+        requires space { ForSome (pending_of self.old) (λ head. head.captured ≤ space_of chain.old) }
+        ensures file { IsSameFile self.old self.new }
+        ensures record { OnAll result (TakesBody R.remaining self.old self.new (bytes_of chain.new)) }
+        ensures torn { OnCut result (EndsTorn R.remaining self.old) }
+        ensures stage { IfOk result (λ all. stage_of self.new ≡ after_bytes all) }
+        ensures well { OnOk result (HasNotFailed (source_of self.old) (source_of self.new)) }
+        ensures fault { IfErr result (λ fault. fault ≡ CapFault.Read) }
+        ensures given_up { OnErr result (stage_of self.new ≡ Faulted CapFault.Read) }
+        ensures failed { OnErr result (Fails self.old self.new) }
+
+        // The chain.
+        ensures kept { fresh_of chain.new ≡ fresh_of chain.old }
+        ensures fresh { OnCut result (chain.new ≡ fresh_of chain.old) }
+        ensures reset { OnErr result (chain.new ≡ fresh_of chain.old) }
+    {
+        let head = self.take_head();
+        let count = head.captured as usize;
+        match read_body(&mut self.ahead, &mut self.device, chain, count) {
+            Ok(all) => Ok(self.pass(all)),
+            Err(Failed) => Err(self.give_up(CapFault::Read)),
+        }
+    }
+
+    /// The next record with its bytes, where there is one; the pending one, where a head is pending. It takes memory
+    /// for the bytes.
+    ///
+    /// Refused with 4 `BadRecord` and 5 `Read` as `head`, and with 7 `Memory`.
+    pub fn next(&mut self, alloc: Global) -> Result<Option<Record>, CapFault>
+        ensures file { IsSameFile self.old self.new }
+        ensures record { IfOk result (λ found. IfSome found (λ it. Takes R.remaining self.old self.new (view it))) }
+        ensures between { IfOk result (λ found. OnSome found (stage_of self.new ≡ Between)) }
+        ensures end { IsReading self.old → IfOk result (λ it. IfNone it (FindsEnd R.remaining self.old self.new)) }
+        ensures ended { (torn : Bool) → stage_of self.old ≡ Ended torn → (result ≡ Ok None) × (self.new ≡ self.old) }
+        ensures fault { IfErr result (λ fault. stage_of self.new ≡ Faulted fault) }
+        ensures why { IsReading self.old → IfErr result (WhyNoRecord R.remaining self.old self.new) }
+        ensures stays { (f : CapFault) → stage_of self.old ≡ Faulted f → (result ≡ Err f) × (self.new ≡ self.old) }
+    {
+        let Some(_) = self.head()? else {
+            return Ok(None);
+        };
+        let found = self.read_record(alloc)?;
+        Ok(found)
+    }
+
+    /// The pending record with its bytes.
+    fn read_record(&mut self, alloc: Global) -> Result<Option<Record>, CapFault>
+        requires pending { IsSome (pending_of self.old) }
+        ensures file { IsSameFile self.old self.new }
+        ensures record { IfOk result (λ found. IfSome found (λ it. Takes R.remaining self.old self.new (view it))) }
+        ensures between { IfOk result (λ found. OnSome found (stage_of self.new ≡ Between)) }
+        ensures torn { IfOk result (λ it. IfNone it (EndsTorn R.remaining self.old)) }
+        ensures ended { IfOk result (λ found. IfNone found (stage_of self.new ≡ Ended true)) }
+        ensures fault { IfErr result (λ fault. stage_of self.new ≡ Faulted fault) }
+        ensures why { IfErr result (WhyNoBytes self.old self.new) }
+    {
+        let head = self.take_head();
+        let Ok(mut bytes) = zeros(alloc, head.captured as usize) else {
+            return Err(self.give_up(CapFault::Memory));
+        };
+        match self.ahead.fill(&mut self.device, bytes.as_mut_slice()) {
+            Err(Failed) => Err(self.give_up(CapFault::Read)),
+            Ok(false) => {
+                self.stage = Stage::Ended(true);
+                Ok(None)
+            }
+            Ok(true) => Ok(Some(Record {
+                seconds: head.seconds,
+                fraction: head.fraction,
+                wire: head.wire,
+                bytes,
+            })),
+        }
+    }
+
+    /// Lets go of the pending record's header. What it ensures is what the bytes that are read next will mean.
+    fn take_head(&mut self) -> Head
+        requires pending { IsSome (pending_of self.old) }
+        ensures pending { pending_of self.old ≡ Some result }
+        ensures takes { TakesPending R.remaining self.old self.new result }
+        ensures torn { LeavesTorn R.remaining self.old self.new result }
+        ensures device { source_of self.new ≡ source_of self.old }
+        ensures stage { stage_of self.new ≡ Between }
+        ensures file { IsSameFile self.old self.new }
+    {
+        let Stage::Pending(head) = self.stage else {
+            unreachable!();
+        };
+        self.stage = Stage::Between;
+        self.ahead.consume(HEAD);
+        head
+    }
+
+    /// The bytes of a record were read, all of them or those that there are.
+    fn pass(&mut self, all: bool) -> bool
+        ensures all { result ≡ all }
+        ensures stage { stage_of self.new ≡ after_bytes all }
+        ensures file { IsSameFile self.old self.new }
+        ensures device { source_of self.new ≡ source_of self.old }
+        ensures rest { rest R.remaining self.new ≡ rest R.remaining self.old }
+    {
+        self.stage = if all {
+            Stage::Between
+        } else {
+            Stage::Ended(true)
+        };
+        all
+    }
+}
+
+/// So many bytes, all 0.
+fn zeros(alloc: Global, count: usize) -> Result<Vec<u8>, AllocError>
+    ensures { IfOk result (λ bytes. length bytes.items ≡ count) }
+{
+    let mut bytes = Vec::with_capacity(alloc, count)?;
+    bytes.resize(count, 0)?;
+    Ok(bytes)
+}

@@ -1,0 +1,157 @@
+//! The writer of a capture: little-endian, of Ethernet, with the resolution that it is opened with.
+ghost use Rattle.std.specs.Prelude.{◌≡◌, Some, None, IfOk, IfErr, OnOk, OnErr};
+ghost use Rattle.std.specs.Io.KnownBytes.{Keeps};
+ghost use Rattle.pcapio.specs.Behind.{AddsRecord, BeginsToAddRecord, SendsAll, BeginsToSend, KeepsUnsent};
+ghost use Rattle.pcapio.specs.Counted.{HasFailed, HasNotFailed};
+
+use crate::behind::Behind;
+use crate::counted::{Counted, Failed};
+use crate::text::{header_bytes, header_of};
+use mbuf::Chain;
+use pcapio_laws::{CapFault, Resolution};
+use std::alloc::Global;
+use std::io::Write;
+
+/// A writer of a capture. After a fault it answers that fault and leaves its device alone.
+#[derive(Debug, Drop)]
+pub struct Writer<W> {
+    device: Counted<W>,
+    behind: Behind,
+    fault: Option<CapFault>,
+}
+
+impl<W: Write> Writer<W> {
+    ghost use Rattle.pcapio.specs.Writer.{text, fault_of, sink_of, IsWell, Fails};
+    ghost use Rattle.pcapio.specs.Writer.{Opens, Puts, BeginsToPut, IsTold, IsToldPart};
+
+    /// A writer of a capture on the device. All memory that it needs is taken here: a buffer of 64 KiB, in which the
+    /// file header waits.
+    ///
+    /// Refused, and the device comes back untouched: 7 `Memory`.
+    pub fn open(
+        alloc: Global,
+        device: Counted<W>,
+        resolution: Resolution,
+    ) -> Result<Writer<W>, (Counted<W>, CapFault)>
+        ensures text { IfOk result (Opens W.contents device resolution) }
+        ensures begins { IfOk result IsWell }
+        ensures device { IfOk result (λ opened. sink_of opened ≡ device) }
+        ensures why { IfErr result (λ refused. refused ≡ (device, CapFault.Memory)) }
+    {
+        let Ok(mut behind) = Behind::new(alloc) else {
+            return Err((device, CapFault::Memory));
+        };
+        behind.begin(&header_bytes(resolution));
+        Ok(Writer {
+            device,
+            behind,
+            fault: None,
+        })
+    }
+
+    /// Adds the record of a packet whose bytes lie in a chain. It takes no memory.
+    ///
+    /// That the file is a capture is known where the chain has at most `MOST_CAPTURED` bytes and `wire` isn't below its
+    /// length; this call doesn't test it.
+    ///
+    /// Refused with 6 `Write` where the device failed.
+    pub fn put(
+        &mut self,
+        seconds: u32,
+        fraction: u32,
+        wire: u32,
+        chain: &Chain,
+    ) -> Result<(), CapFault>
+        ensures ok { OnOk result (Puts W.contents self.old self.new seconds fraction wire chain.now) }
+        ensures well { OnOk result (IsWell self.new) }
+        ensures worked { OnOk result (HasNotFailed (sink_of self.old) (sink_of self.new)) }
+
+        // Faults. The device was then told a beginning of what it would have been told.
+        ensures begins { OnErr result (BeginsToPut W.contents self.old self.new seconds fraction wire chain.now) }
+        ensures fault { IfErr result (λ fault. fault_of self.new ≡ Some fault) }
+        ensures why { IsWell self.old → IfErr result (λ fault. fault ≡ CapFault.Write) }
+        ensures failed { IsWell self.old → OnErr result (Fails self.old self.new) }
+        ensures stays { (f : CapFault) → fault_of self.old ≡ Some f → (result ≡ Err f) × (self.new ≡ self.old) }
+    {
+        if let Some(fault) = self.fault {
+            return Err(fault);
+        }
+        let head = header_of(seconds, fraction, wire, chain);
+        match put_record(&mut self.behind, &mut self.device, &head, chain) {
+            Ok(()) => Ok(()),
+            Err(Failed) => Err(self.give_up()),
+        }
+    }
+
+    /// Tells the device all that was put, and asks it to pass it on. It takes no memory.
+    ///
+    /// Refused with 6 `Write` where the device failed.
+    pub fn flush(&mut self) -> Result<(), CapFault>
+        ensures ok { OnOk result (IsTold W.contents self.old self.new) }
+        ensures text { OnOk result (Keeps (text W.contents self.old) (text W.contents self.new)) }
+        ensures well { OnOk result (IsWell self.new) }
+        ensures worked { OnOk result (HasNotFailed (sink_of self.old) (sink_of self.new)) }
+
+        // Faults. The device was then told a beginning of it.
+        ensures begins { OnErr result (IsToldPart W.contents self.old self.new) }
+        ensures fault { IfErr result (λ fault. fault_of self.new ≡ Some fault) }
+        ensures why { IsWell self.old → IfErr result (λ fault. fault ≡ CapFault.Write) }
+        ensures failed { IsWell self.old → OnErr result (Fails self.old self.new) }
+        ensures stays { (f : CapFault) → fault_of self.old ≡ Some f → (result ≡ Err f) × (self.new ≡ self.old) }
+    {
+        if let Some(fault) = self.fault {
+            return Err(fault);
+        }
+        match flush_all(&mut self.behind, &mut self.device) {
+            Ok(()) => Ok(()),
+            Err(Failed) => Err(self.give_up()),
+        }
+    }
+
+    /// The device. What still waits isn't written.
+    pub fn into_inner(self) -> Counted<W>
+        ensures { result ≡ sink_of self }
+    {
+        self.device
+    }
+
+    fn give_up(&mut self) -> CapFault
+        ensures fault { result ≡ CapFault.Write }
+        ensures kept { fault_of self.new ≡ Some CapFault.Write }
+        ensures device { sink_of self.new ≡ sink_of self.old }
+    {
+        self.fault = Some(CapFault::Write);
+        CapFault::Write
+    }
+}
+
+/// Adds a record to what waits. After a failure the device was told a beginning of all.
+fn put_record<W: Write>(
+    behind: &mut Behind,
+    device: &mut Counted<W>,
+    head: &[u8],
+    chain: &Chain,
+) -> Result<(), Failed>
+    ensures ok { OnOk result (AddsRecord W.contents behind.old device.old behind.new device.new head.now chain.now) }
+    ensures begins { OnErr result (BeginsToAddRecord W.contents behind.old device.old device.new head.now chain.now) }
+    ensures well { OnOk result (HasNotFailed device.old device.new) }
+    ensures failed { OnErr result (HasFailed device.old device.new) }
+{
+    behind.add(device, head)?;
+    for i in 0..chain.segments() {
+        behind.add(device, chain.part(i))?;
+    }
+    Ok(())
+}
+
+/// Writes all that waits, and asks the device to pass it on.
+fn flush_all<W: Write>(behind: &mut Behind, device: &mut Counted<W>) -> Result<(), Failed>
+    ensures told { OnOk result (SendsAll W.contents behind.old device.old device.new) }
+    ensures kept { OnOk result (KeepsUnsent W.contents behind.old device.old behind.new device.new) }
+    ensures begins { OnErr result (BeginsToSend W.contents behind.old device.old device.new) }
+    ensures well { OnOk result (HasNotFailed device.old device.new) }
+    ensures failed { OnErr result (HasFailed device.old device.new) }
+{
+    behind.write_out(device)?;
+    device.flush()
+}

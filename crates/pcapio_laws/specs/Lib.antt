@@ -1,0 +1,4 @@
+pub mod Fault
+pub mod Capture
+pub mod Text
+pub mod Rows

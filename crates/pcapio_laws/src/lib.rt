@@ -1,0 +1,15 @@
+//! What a capture in the classic pcap file format is (pcap-savefile(5); draft-ietf-opsawg-pcap), and what holds of
+//! captures whoever reads or writes them.
+//!
+//! Nothing runs here but the names of refusals. `specs/Capture.antt` says which bytes are which capture, or why they
+//! are refused; `specs/Text.antt` says how records are written; the functions of `laws` carry that each list of bytes
+//! is in exactly one case, and that what is written is read again.
+#![tactic(auto)]
+
+mod fault;
+mod format;
+mod laws;
+
+pub use fault::CapFault;
+pub use format::{ByteOrder, MOST_CAPTURED, Resolution};
+pub use laws::{one_case, one_reading, worked_cuts, worked_headers, worked_lengths, written_again};
