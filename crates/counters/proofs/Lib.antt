@@ -1,0 +1,5 @@
+pub mod Adding
+pub mod Counting
+pub mod Kept
+pub mod Texts
+mod Rows

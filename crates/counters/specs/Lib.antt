@@ -1,0 +1,4 @@
+pub mod Tally
+pub mod Counted
+pub mod Report
+pub mod Kept

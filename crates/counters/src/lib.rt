@@ -1,0 +1,14 @@
+//! The counts of a forwarding run, and its report. Contracts see counts as a record of numbers, and say them of the
+//! list of verdicts that they are the counts of.
+#![tactic(auto)]
+
+mod counts;
+mod laws;
+mod report;
+mod row;
+
+pub use counts::Counts;
+pub use laws::parts_add_up;
+
+#[cfg(test)]
+mod tests;

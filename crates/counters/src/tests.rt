@@ -1,0 +1,82 @@
+//! Texts of reports, and a caller.
+
+ghost use Rattle.std.specs.Prelude.{◌≡◌, [], ◌∷◌, true};
+ghost use Rattle.ipv4.specs.declared.Verdict.{Verdict};
+ghost use Rattle.counters.specs.Counted.{counts_of};
+ghost use Rattle.ipv4.specs.declared.Verdict.TheVariants.{Send, Drop};
+ghost use Rattle.ipv4.specs.declared.Reason.TheVariants.{Expired};
+
+use crate::Counts;
+use ipv4::{Reason, Verdict};
+use std::test::Fail;
+
+/// A caller: the counts are those of the verdicts, by the contracts alone.
+fn two_verdicts() -> Counts
+    ensures { result ≡ counts_of 2 1 (Send 1 true ∷ Drop Expired ∷ []) }
+{
+    let mut counts = Counts::new(2);
+    counts.add(&Verdict::Send {
+        port: 1,
+        tagged: true,
+    });
+    counts.add_oversize();
+    counts.add(&Verdict::Drop(Reason::Expired));
+    counts
+}
+
+#[test]
+fn a_report(rt: HostRuntime) -> Result<(), Fail> {
+    let counts = two_verdicts();
+    let mut text = Vec::from_slice(rt.alloc(), b"before\n")?;
+    counts.report(rt.alloc(), false, &mut text)?;
+    let lines =
+        "before\nrecords 3\noversize 1\nport 0 0\nport 1 1\nshort 0\nnot-ipv4 0\nbad-header 0\n\
+        bad-length 0\nbad-checksum 0\nexpired 1\nno-route 0\ntagged 1\ntorn no\n";
+    assert_eq!(rt; std::str::from_utf8(text.as_slice()).ok(), Some(lines));
+    Ok(())
+}
+
+#[test]
+fn sixteen_ports(rt: HostRuntime) -> Result<(), Fail> {
+    let mut counts = Counts::new(16);
+    counts.add(&Verdict::Send {
+        port: 15,
+        tagged: false,
+    });
+    assert_eq!(rt; counts.sent().len(), 16);
+    assert_eq!(rt; counts.sent().last().copied(), Some(1));
+    assert_eq!(rt; counts.records(), 1);
+    let mut text = Vec::new(rt.alloc());
+    counts.report(rt.alloc(), true, &mut text)?;
+    let told = std::str::from_utf8(text.as_slice()).ok().ok_or("a text")?;
+    assert!(rt;
+        told.ends_with(
+            "port 15 1\nshort 0\nnot-ipv4 0\nbad-header 0\nbad-length 0\nbad-checksum 0\n\
+        expired 0\nno-route 0\ntagged 0\ntorn yes\n"
+        )
+    );
+    Ok(())
+}
+
+#[test]
+fn gathered_counts(rt: HostRuntime) {
+    let parts = [two_verdicts(), two_verdicts(), two_verdicts()];
+    let sums = Counts::gather(&parts);
+    assert_eq!(rt; sums.records(), 9);
+    assert_eq!(rt; (sums.oversize(), sums.tagged()), (3, 3));
+    assert_eq!(rt; sums.sent(), [0, 3].as_slice());
+    assert_eq!(rt; sums.dropped(), [0, 0, 0, 0, 0, 3, 0].as_slice());
+}
+
+#[test]
+fn is_as_it_was_without_memory(rt: HostRuntime) -> Result<(), Fail> {
+    let counts = two_verdicts();
+    let mut text = Vec::new(rt.alloc());
+    if counts.report(rt.alloc(), false, &mut text).is_err() {
+        assert!(rt; text.is_empty());
+        counts.report(rt.alloc(), false, &mut text)?;
+    }
+    assert!(rt; text.as_slice().starts_with(b"records 3\n"));
+    assert!(rt; text.as_slice().ends_with(b"torn no\n"));
+    Ok(())
+}

@@ -1,0 +1,4 @@
+pub mod EachOf
+pub mod EachOk
+mod OneRoute
+mod Rows

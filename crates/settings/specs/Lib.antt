@@ -1,0 +1,10 @@
+pub mod Lists
+pub mod Texts
+pub mod Keys
+pub mod Faults
+pub mod Documents
+pub mod Routing
+pub mod Settings
+pub mod Shown
+pub mod Allowed
+pub mod Reading
