@@ -108,10 +108,10 @@ fn keeps_a_fault_and_leaves_the_device_alone(rt: HostRuntime) -> Result<(), Fail
     Ok(())
 }
 
-/// Whichever request for memory is refused, no call but `open` and `next` answers Memory: with the requests of the
-/// set-up granted, every other refusal passes unnoticed, since there is nothing to refuse.
+/// Behind both `open` nothing here takes memory, the devices included. So `rt try --test --fail-alloc N` has to pass for each N above
+/// the requests of the set-up (docs/DECISIONS.md); no test can refuse memory by itself.
 #[test]
-fn takes_no_memory_after_open(rt: HostRuntime) -> Result<(), Fail> {
+fn copies_between_devices_without_memory(rt: HostRuntime) -> Result<(), Fail> {
     let mut chain = chain(rt.alloc())?;
     let Ok(mut reader) = Reader::open(rt.alloc(), Counted::new(Slow::new(&FILE, 7, NEVER))) else {
         return Err(Fail::new("no memory for the reader"));
