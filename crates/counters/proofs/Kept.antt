@@ -8,7 +8,7 @@ use Rattle.std.proofs.lemmas.List.Sums.{sum_by-set}
 use Rattle.counters.specs.Tally.{Tally, IsTally, records_of, plus, added, with_sent}
 use Rattle.counters.proofs.Adding.{length-added, sum-added, length-take-le}
 
-sum-raised : (xs : List ℕ) (k : ℕ) → k < length xs → sum (set xs k (get_or xs k 0 + 1)) ≡ sum xs + 1
+pub sum-raised : (xs : List ℕ) (k : ℕ) → k < length xs → sum (set xs k (get_or xs k 0 + 1)) ≡ sum xs + 1
 sum-raised xs k there = omega (arith, sum_by-set (λ n. n) xs k (get_or xs k 0 + 1) 0 there)
 
 one_at_most : (b : Bool) → cond b 1 0 ≤ 1

@@ -66,6 +66,8 @@ impl Counts {
         ensures counted { (oversize : ℕ) (verdicts : List Verdict)
             → self.old ≡ counts_of (length self.old.sent) oversize verdicts
             → self.new ≡ counts_of (length self.old.sent) oversize (verdicts ++ verdict.now ∷ []) }
+        ensures ports { length self.new.sent ≡ length self.old.sent }
+        ensures records { records_of self.new ≡ records_of self.old + 1 }
     {
         match *verdict {
             Verdict::Send { port, tagged } => self.add_sent(port as usize, tagged),
@@ -86,7 +88,8 @@ impl Counts {
     /// Counts a frame that was dropped.
     fn add_dropped(&mut self, reason: Reason)
         requires room { records_of self.old + 1 < 2 ^ 64 }
-        ensures { self.new ≡ with_dropped self.old (number_of reason - 1) }
+        ensures value { self.new ≡ with_dropped self.old (number_of reason - 1) }
+        ensures records { records_of self.new ≡ records_of self.old + 1 }
     {
         raise(&mut self.dropped, reason.number() as usize - 1);
     }
@@ -98,6 +101,7 @@ impl Counts {
         ensures counted { (oversize : ℕ) (verdicts : List Verdict)
             → self.old ≡ counts_of (length self.old.sent) oversize verdicts
             → self.new ≡ counts_of (length self.old.sent) (oversize + 1) verdicts }
+        ensures records { records_of self.new ≡ records_of self.old + 1 }
     {
         self.oversize += 1;
     }

@@ -7,7 +7,9 @@ ghost use Rattle.ipv4.specs.declared.Verdict.TheVariants.{Send, Drop};
 ghost use Rattle.ipv4.specs.declared.Reason.TheVariants.{Expired};
 
 use crate::Counts;
+use exhaust::take_all;
 use ipv4::{Reason, Verdict};
+use std::alloc::Global;
 use std::test::Fail;
 
 /// A caller: the counts are those of the verdicts, by the contracts alone.
@@ -68,15 +70,30 @@ fn gathered_counts(rt: HostRuntime) {
     assert_eq!(rt; sums.dropped(), [0, 0, 0, 0, 0, 3, 0].as_slice());
 }
 
+/// Reports, with one more piece of memory given back after each time that it is refused: how often it was, each time
+/// with the text as it was.
+fn refusals(alloc: Global, held: &mut Vec<Vec<u8>>, text: &mut Vec<u8>) -> Option<usize> {
+    let (counts, before) = (two_verdicts(), text.len());
+    for refused in 0..held.len() {
+        if counts.report(alloc, false, text).is_ok() {
+            return Some(refused);
+        }
+        if text.len() != before {
+            return None;
+        }
+        held.pop();
+    }
+    None
+}
+
 #[test]
 fn is_as_it_was_without_memory(rt: HostRuntime) -> Result<(), Fail> {
-    let counts = two_verdicts();
-    let mut text = Vec::new(rt.alloc());
-    if counts.report(rt.alloc(), false, &mut text).is_err() {
-        assert!(rt; text.is_empty());
-        counts.report(rt.alloc(), false, &mut text)?;
-    }
-    assert!(rt; text.as_slice().starts_with(b"records 3\n"));
+    let mut text = Vec::from_slice(rt.alloc(), b"before\n")?;
+    let mut held = take_all(rt.alloc())?.ok_or("memory can't be used up in this build")?;
+    let refused = refusals(rt.alloc(), &mut held, &mut text);
+    drop(held);
+    assert!(rt; refused.is_some_and(|times| times > 0));
+    assert!(rt; text.as_slice().starts_with(b"before\nrecords 3\n"));
     assert!(rt; text.as_slice().ends_with(b"torn no\n"));
     Ok(())
 }

@@ -1,8 +1,9 @@
 -- Records taken one after the other.
 use Rattle.std.proofs.Common.{◌≡◌, if◌then◌else◌, ℕ, ◌+◌, ◌-◌, ◌^◌, ◌<◌, ◌≤◌, List, [], ◌∷◌, ◌++◌, Bool, Option, Some, None, IfSome, IfNone, nat_le, Result, Ok}
-use Rattle.std.proofs.Common.{Err, IfErr, IsErrAnd, min, refl, sym, ap, ◌∙◌, subst, append_assoc, append-nil, length, length-append, arith}
+use Rattle.std.proofs.Common.{Err, IfErr, IsErrAnd, min, refl, sym, ap, ◌∙◌, subst, append_assoc, append-nil, length, length-append, map, arith}
 use Rattle.std.proofs.lemmas.Bool.{le-leb, lt-leb}
 use Rattle.std.proofs.lemmas.Grind.{flat_map-append}
+use Rattle.std.proofs.lemmas.List.{map-append}
 use Rattle.std.proofs.lemmas.List.Elements.{filter-append}
 use Rattle.std.specs.List.{flat_map}
 use Rattle.std.specs.Io.KnownBytes.{Keeps, Appends, append_known}
@@ -17,7 +18,9 @@ use Rattle.pcapio_laws.proofs.Exists.{exists}
 use Rattle.pcapio.specs.Begin.{Begins}
 use Rattle.pcapio.specs.Copy.{fitting, copied_text, Stand, StopsBy}
 use Rattle.pcapio.specs.Reader.{TakesRecord, EndsSo, IsBadAhead, Explains}
+use Rattle.pcapio.specs.Record.{view}
 use Rattle.pcapio.specs.declared.record.Head.{Head}
+use Rattle.pcapio.specs.declared.record.Record.{Record}
 use Rattle.pcapio.proofs.Begins.{begins-front, begins-trans}
 
 pub none_stand : (order : ByteOrder) (a : Option (List ℕ)) → Stand order a a []
@@ -106,7 +109,7 @@ pub none-so : {X : Type 0} (o : Option X) (P : Type 0) → o ≡ None → IfNone
 none-so {X} o P e h = let Q : Option X → Type 0 = λ v. IfNone v P in subst Q e h
 
 -- those taken so far are the first of all
-prefix : (order : ByteOrder) (x : List ℕ) (b : Option (List ℕ)) (packets all : List Packet) (e : End) → Stand order (Some x) b packets
+pub prefix : (order : ByteOrder) (x : List ℕ) (b : Option (List ℕ)) (packets all : List Packet) (e : End) → Stand order (Some x) b packets
     → AreRecords order x all e
     → (more : List Packet) × (all ≡ packets ++ more)
 prefix order x None packets all e s r = ([], (one order all (packets ++ []) x e Whole r (s [] Whole tt)).0)
@@ -192,3 +195,29 @@ pub part-told : (space : ℕ) (order : ByteOrder) (a told part old : Option (Lis
     → IfSome a (λ bytes. (all : List Packet) (e : End) → AreRecords order bytes all e → Begins told (append_known old (copied_text space all)))
 part-told space order None told part old h k = tt
 part-told space order (Some x) told part old h k = λ all e r. begins-trans told part _ h (k all e r)
+
+pub some-so : {X : Type 0} (o : Option X) (x : X) (P : X → Type 0) → o ≡ Some x → IfSome o P → P x
+some-so {X} o x P e h = let Q : Option X → Type 0 = λ v. IfSome v P in subst Q e h
+
+-- those taken so far are the first of all, whatever else is to come
+pub all-begin : (order : ByteOrder) (a b : Option (List ℕ)) (packets : List Packet) → Stand order a b packets
+    → IfSome a (λ bytes. (all : List Packet) (e : End) → AreRecords order bytes all e → (more : List Packet) × (all ≡ packets ++ more))
+all-begin order None b packets s = tt
+all-begin order (Some x) b packets s = λ all e r. prefix order x b packets all e s r
+
+pub explains-all : (fault : CapFault) (B F C G : Type 0) → Explains fault B F (Unit {0}) → (B → C) → (F → G)
+    → Explains fault C G (Unit {0})
+explains-all NotPcap B F C G h b f = h
+explains-all BadVersion B F C G h b f = h
+explains-all BadLink B F C G h b f = h
+explains-all BadRecord B F C G h b f = b h
+explains-all Read B F C G h b f = f h
+explains-all Write B F C G h b f = h
+explains-all Memory B F C G h b f = h
+
+-- one more record of a list
+pub records-more : (order now : ByteOrder) (a b c : Option (List ℕ)) (given : List Record) (r : Record) → now ≡ order → Stand order a b (map view given)
+    → TakesRecord now b c (view r) → Stand order a c (map view (given ++ r ∷ []))
+records-more order now a b c given r same s t =
+    subst (Stand order a c) (sym (map-append view given (r ∷ [])))
+    (more-stand order now a b c (map view given) (view r ∷ []) same s (one_stands now b c (view r) t))

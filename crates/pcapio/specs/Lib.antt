@@ -8,3 +8,4 @@ pub mod Stage
 pub mod Reader
 pub mod Writer
 pub mod Copy
+pub mod Collect

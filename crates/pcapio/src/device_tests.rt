@@ -1,4 +1,4 @@
-//! Devices that fail or take few bytes at once, and memory that is refused.
+//! Devices that fail or take few bytes at once.
 use crate::example::{FILE, NEVER, Slow, Tight, WRITTEN};
 use crate::{CapFault, Counted, Reader, Resolution, Writer, copy_capture};
 use mbuf::{Chain, make};
@@ -6,27 +6,24 @@ use std::alloc::Global;
 use std::process::Abort;
 use std::test::Fail;
 
-/// More calls than a copy of the worked file makes of a device, a byte at a time.
-const CALLS: u64 = 110;
-
 fn chain(alloc: Global) -> Result<Chain, Fail> {
     let chain = make(alloc, 1, 0, 34)?.pop();
     Ok(chain.ok_or("no segment")?)
 }
 
-/// A copy of the worked file whose read or write after `fails` others fails: the fault is told, nothing is asked of the
-/// device again, and what was written is a beginning.
+/// A copy of the worked file whose read or write after `fails` others fails, where one that doesn't fail has `all` of
+/// them: the fault is told, nothing is asked of the device again, and what was written is a beginning.
 fn copy(
     rt: &impl Abort,
     alloc: Global,
     chain: &mut Chain,
     from: Slow,
     to: Tight,
-    fails: u64,
     told: CapFault,
+    (fails, all): (u64, u64),
 ) {
     let (from, to, answer) = copy_capture(alloc, Counted::new(from), Counted::new(to), chain);
-    let failed = answer.is_err();
+    let failed = fails < all;
     assert_eq!(rt; from.failures().wrapping_add(to.failures()), failed as u64);
     let (from, to) = (from.into_inner(), to.into_inner());
     let calls = if told == CapFault::Read {
@@ -40,39 +37,43 @@ fn copy(
         assert!(rt; WRITTEN.starts_with(to.written()));
     } else {
         assert_eq!(rt; answer, Ok(Some(true)));
-        assert!(rt; calls <= fails);
+        assert_eq!(rt; calls, all);
         assert_eq!(rt; to.written(), WRITTEN.as_slice());
     }
 }
 
+/// Each byte is read once, and then the end.
 #[test]
 fn tells_each_read_that_fails(rt: HostRuntime) -> Result<(), Fail> {
     let mut chain = chain(rt.alloc())?;
-    for most in [1, 7, 100] {
-        for fails in 0..CALLS {
+    for (most, all) in [(1, 101), (7, 16), (100, 2)] {
+        for fails in 0..all + 1 {
             let from = Slow::new(&FILE, most, fails);
             let to = Tight::new(128, NEVER);
-            copy(&rt, rt.alloc(), &mut chain, from, to, fails, CapFault::Read);
+            let calls = (fails, all);
+            copy(&rt, rt.alloc(), &mut chain, from, to, CapFault::Read, calls);
         }
     }
     Ok(())
 }
 
+/// Each byte is written once, and then the device is asked to pass them on.
 #[test]
 fn tells_each_write_that_fails(rt: HostRuntime) -> Result<(), Fail> {
     let mut chain = chain(rt.alloc())?;
-    for most in [1, 7, 128] {
-        for fails in 0..CALLS {
+    for (most, all) in [(1, 75), (7, 12), (128, 2)] {
+        for fails in 0..all + 1 {
             let from = Slow::new(&FILE, 100, NEVER);
             let to = Tight::new(most, fails);
+            let calls = (fails, all);
             copy(
                 &rt,
                 rt.alloc(),
                 &mut chain,
                 from,
                 to,
-                fails,
                 CapFault::Write,
+                calls,
             );
         }
     }
@@ -105,35 +106,5 @@ fn keeps_a_fault_and_leaves_the_device_alone(rt: HostRuntime) -> Result<(), Fail
     let to = writer.into_inner();
     assert_eq!(rt; to.failures(), 1);
     assert_eq!(rt; to.into_inner().calls(), 1);
-    Ok(())
-}
-
-/// Behind both `open` nothing here takes memory, the devices included. So `rt try --test --fail-alloc N` has to pass for each N above
-/// the requests of the set-up (docs/DECISIONS.md); no test can refuse memory by itself.
-#[test]
-fn copies_between_devices_without_memory(rt: HostRuntime) -> Result<(), Fail> {
-    let mut chain = chain(rt.alloc())?;
-    let Ok(mut reader) = Reader::open(rt.alloc(), Counted::new(Slow::new(&FILE, 7, NEVER))) else {
-        return Err(Fail::new("no memory for the reader"));
-    };
-    let to = Counted::new(Tight::new(9, NEVER));
-    let Ok(mut writer) = Writer::open(rt.alloc(), to, reader.resolution()) else {
-        return Err(Fail::new("no memory for the writer"));
-    };
-    for _ in 0..2 {
-        let Ok(Some(head)) = reader.head() else {
-            break;
-        };
-        assert!(rt; head.captured as usize <= chain.space());
-        if reader.body(&mut chain)? {
-            writer.put(head.seconds, head.fraction, head.wire, &chain)?;
-        }
-    }
-    assert!(rt; reader.torn());
-    assert_eq!(rt; writer.flush(), Ok(()));
-    assert_eq!(rt;
-        writer.into_inner().into_inner().written(),
-        WRITTEN.as_slice()
-    );
     Ok(())
 }

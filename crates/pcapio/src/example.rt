@@ -1,6 +1,7 @@
 //! Captures and devices for the tests.
 ghost use Rattle.std.specs.Prelude.{◌≤◌, ◌<◌};
 
+use std::alloc::{AllocError, Global};
 use std::io::{self, ErrorKind, Read, Write};
 
 /// A big-endian capture of nanoseconds: a record of 34 bytes, and one that ends after its header and 10 of 34 bytes.
@@ -17,6 +18,34 @@ pub const WRITTEN: [u8; 74] = [
     5, 0, 0, 0, 0x22, 0, 0, 0, 0x22, 0, 0, 0, 0, 0, 0, 0, 0, 0, 0, 0, 0, 0, 0, 0, 8, 0, 0x45, 0, 0,
     0x14, 0, 0, 0, 0, 0x40, 0x11, 0x64, 0xd5, 0x0a, 0, 0, 1, 0x0a, 1, 2, 3,
 ];
+
+/// Records: more bytes of them than both buffers hold, several times over.
+pub const RECORDS: u32 = 600;
+
+/// The bytes of a record: mostly few, now and then more than go through a buffer, or more than the chain has space for.
+pub fn size_of(number: u32) -> u32 {
+    match number % 100 {
+        7 => 40_000,
+        50 => 50_000,
+        few => few,
+    }
+}
+
+/// A little-endian capture of the records of at most so many bytes.
+pub fn capture(alloc: Global, most: u32) -> Result<Vec<u8>, AllocError> {
+    let mut file = Vec::from_slice(alloc, &WRITTEN[..24])?;
+    for number in 0..RECORDS {
+        let size = size_of(number);
+        if size <= most {
+            for field in [number, 5, size, size] {
+                file.extend_from_slice(&field.to_le_bytes())?;
+            }
+            let len = file.len().saturating_add(size as usize);
+            file.resize(len, (number % 251) as u8)?;
+        }
+    }
+    Ok(file)
+}
 
 /// A call that never comes: a device that fails there doesn't fail.
 pub const NEVER: u64 = u64::MAX;

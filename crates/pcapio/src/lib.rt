@@ -3,12 +3,13 @@
 //!
 //! What a capture is stands in `pcapio_laws`. A reader gives its records one after the other: `head`, and then `body`,
 //! which reads the record's bytes into the segments of a chain, or `skip`; or `next`, which makes a vector. A writer's
-//! `put` takes the bytes from a chain. Each has a buffer of 64 KiB, made in `open`; no other call but `next` takes
-//! memory. `copy_records` shows them at work.
+//! `put` takes the bytes from a chain. Each has a buffer of 64 KiB, made in `open`; no other call of theirs but `next`
+//! takes memory. `copy_records` and `collect_records` show them at work.
 #![tactic(auto)]
 
 mod ahead;
 mod behind;
+mod collect;
 mod copy;
 mod counted;
 mod header;
@@ -19,6 +20,7 @@ mod stream;
 mod text;
 mod writer;
 
+pub use collect::collect_records;
 pub use copy::{copy_capture, copy_records};
 pub use counted::Counted;
 pub use pcapio_laws::{ByteOrder, CapFault, MOST_CAPTURED, Resolution};
@@ -32,5 +34,7 @@ mod device_tests;
 mod example;
 #[cfg(test)]
 mod foreign_tests;
+#[cfg(test)]
+mod memory_tests;
 #[cfg(test)]
 mod tests;

@@ -1,6 +1,8 @@
 //! Worked files: what their cuts are, how they are refused, and what is written of them.
-use crate::example::{FILE, WRITTEN};
-use crate::{ByteOrder, CapFault, Counted, Head, Reader, Resolution, Writer, copy_capture};
+use crate::example::{FILE, RECORDS, WRITTEN, capture, size_of};
+use crate::{
+    ByteOrder, CapFault, Counted, Head, Reader, Resolution, Writer, collect_records, copy_capture,
+};
 use mbuf::{Chain, make};
 use std::alloc::Global;
 use std::io::Read;
@@ -209,6 +211,30 @@ fn passes_large_pieces(rt: HostRuntime) -> Result<(), Fail> {
     }
     assert!(rt; reader.next(rt.alloc())?.is_none());
     assert!(rt; !reader.torn());
+    Ok(())
+}
+
+#[test]
+fn collects_many_records(rt: HostRuntime) -> Result<(), Fail> {
+    let file = capture(rt.alloc(), 50_000)?;
+    let Ok(mut reader) = Reader::open(rt.alloc(), Counted::new(file.as_slice())) else {
+        return Err(Fail::new("no reader"));
+    };
+    let mut list = Vec::new(rt.alloc());
+    assert_eq!(rt;
+        collect_records(rt.alloc(), &mut reader, &mut list),
+        Ok(false)
+    );
+    assert_eq!(rt; list.len(), RECORDS as usize);
+    for (number, record) in (0..RECORDS).zip(list.iter()) {
+        let (size, byte) = (size_of(number), (number % 251) as u8);
+        assert_eq!(rt;
+            (record.seconds, record.fraction, record.wire),
+            (number, 5, size)
+        );
+        assert_eq!(rt; record.bytes.len(), size as usize);
+        assert!(rt; record.bytes.iter().all(|b| *b == byte));
+    }
     Ok(())
 }
 

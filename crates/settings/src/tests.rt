@@ -1,6 +1,7 @@
 //! Worked documents, the texts of faults, and what is left where memory is refused.
 
 use crate::{Key, Settings, SettingsFault};
+use exhaust::take_all;
 use std::alloc::{AllocError, Global};
 use std::process::Abort;
 use std::test::Fail;
@@ -361,8 +362,32 @@ fn many_routes(rt: HostRuntime) -> Result<(), Fail> {
     refused_text(&rt, text.as_str(), "BadRoute 3000")
 }
 
+/// Reads, with one more piece of memory given back each time that it is refused: how often it was, and what was
+/// answered then.
+fn read_at_last(
+    alloc: Global,
+    text: &[u8],
+    held: &mut Vec<Vec<u8>>,
+) -> (usize, Result<Settings, SettingsFault>) {
+    for refused in 0..held.len() {
+        match Settings::read(alloc, text) {
+            Err(SettingsFault::Memory) => held.pop(),
+            answer => return (refused, answer),
+        };
+    }
+    (0, Err(SettingsFault::Memory))
+}
+
 #[test]
-fn reads_the_whole_after_want_of_memory(rt: HostRuntime) {
-    let settings = read(rt.alloc(), EXAMPLE.as_bytes());
-    assert!(rt; settings.is_ok_and(|s| s.buffers == 256 && s.table.lookup(0x0a00_0001) == Some(0)));
+fn tells_memory_until_there_is_enough(rt: HostRuntime) -> Result<(), Fail> {
+    let text = joined(
+        rt.alloc(),
+        &["buffers = 256", PORT, ROUTE, "prefix = \"10.1.2.3/25\"\n"],
+    )?;
+    let mut held = take_all(rt.alloc())?.ok_or("memory can't be used up in this build")?;
+    let (refused, answer) = read_at_last(rt.alloc(), text.as_bytes(), &mut held);
+    drop(held);
+    assert!(rt; refused > 0);
+    assert!(rt; answer.is_ok_and(|s| s.buffers == 256 && s.table.lookup(0x0a01_0201) == Some(0)));
+    Ok(())
 }

@@ -85,6 +85,7 @@ impl<R: Read> Reader<R> {
         ensures between { IfOk result (λ found. OnSome found (stage_of self.new ≡ Between)) }
         ensures end { IsReading self.old → IfOk result (λ it. IfNone it (FindsEnd R.remaining self.old self.new)) }
         ensures ended { (torn : Bool) → stage_of self.old ≡ Ended torn → (result ≡ Ok None) × (self.new ≡ self.old) }
+        ensures well { OnOk result (HasNotFailed (source_of self.old) (source_of self.new)) }
         ensures fault { IfErr result (λ fault. stage_of self.new ≡ Faulted fault) }
         ensures why { IsReading self.old → IfErr result (WhyNoRecord R.remaining self.old self.new) }
         ensures stays { (f : CapFault) → stage_of self.old ≡ Faulted f → (result ≡ Err f) × (self.new ≡ self.old) }
@@ -104,6 +105,7 @@ impl<R: Read> Reader<R> {
         ensures between { IfOk result (λ found. OnSome found (stage_of self.new ≡ Between)) }
         ensures torn { IfOk result (λ it. IfNone it (EndsTorn R.remaining self.old)) }
         ensures ended { IfOk result (λ found. IfNone found (stage_of self.new ≡ Ended true)) }
+        ensures well { OnOk result (HasNotFailed (source_of self.old) (source_of self.new)) }
         ensures fault { IfErr result (λ fault. stage_of self.new ≡ Faulted fault) }
         ensures why { IfErr result (WhyNoBytes self.old self.new) }
     {

@@ -18,7 +18,7 @@ returns-in-Send-clause-counted c =
 pub returns-in-Drop-clause-plus : goal.returns-in-Drop-clause-plus
 returns-in-Drop-clause-plus c =
     let t = c.args.self.now in
-    c.add_dropped.ensures ∙ sym (plus_dropped t c.in-Drop.reason)
+    c.add_dropped.ensures.value ∙ sym (plus_dropped t c.in-Drop.reason)
     ∙ ap (λ v. plus t (counts_of (length t.sent) 0 (v ∷ []))) (sym c.in-Drop.is)
 
 pub returns-in-Drop-clause-counted : goal.returns-in-Drop-clause-counted

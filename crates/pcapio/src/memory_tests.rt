@@ -1,0 +1,71 @@
+//! Captures where every request for memory is refused.
+use crate::example::{FILE, NEVER, Slow, Tight, capture};
+use crate::{CapFault, Counted, Reader, Writer, collect_records, copy_capture, copy_records};
+use exhaust::{refuses, take_all};
+use mbuf::{Chain, make};
+use std::alloc::Global;
+use std::test::Fail;
+
+/// A chain with space for 45,000 bytes.
+fn chain(alloc: Global) -> Result<Chain, Fail> {
+    let chain = make(alloc, 1, 0, 45_000)?.pop();
+    Ok(chain.ok_or("no segment")?)
+}
+
+#[test]
+fn copies_while_every_request_is_refused(rt: HostRuntime) -> Result<(), Fail> {
+    let file = capture(rt.alloc(), 50_000)?;
+    let wanted = capture(rt.alloc(), 45_000)?;
+    let mut chain = chain(rt.alloc())?;
+    let Ok(mut reader) = Reader::open(rt.alloc(), Counted::new(file.as_slice())) else {
+        return Err(Fail::new("no reader"));
+    };
+    let to = Counted::new(Vec::with_capacity(rt.alloc(), wanted.len())?);
+    let Ok(mut writer) = Writer::open(rt.alloc(), to, reader.resolution()) else {
+        return Err(Fail::new("no writer"));
+    };
+    let held = take_all(rt.alloc())?.ok_or("memory can't be used up in this build")?;
+    let copied = copy_records(&mut reader, &mut writer, &mut chain);
+    let flushed = writer.flush();
+    let refused = refuses(rt.alloc());
+    drop(held);
+    assert!(rt; refused, "the copy gave memory back");
+    assert_eq!(rt; (copied, flushed), (Ok(Some(false)), Ok(())));
+    let to = writer.into_inner().into_inner();
+    assert!(rt; to.as_slice() == wanted.as_slice());
+    Ok(())
+}
+
+#[test]
+fn tells_memory_where_it_is_refused(rt: HostRuntime) -> Result<(), Fail> {
+    let mut chain = chain(rt.alloc())?;
+    let Ok(mut reader) = Reader::open(rt.alloc(), Counted::new(Slow::new(&FILE, 100, NEVER))) else {
+        return Err(Fail::new("no reader"));
+    };
+    let held = take_all(rt.alloc())?.ok_or("memory can't be used up in this build")?;
+    let mut list = Vec::new(rt.alloc());
+    let collected = collect_records(rt.alloc(), &mut reader, &mut list);
+    let told = reader.next(rt.alloc()).err();
+    let from = Counted::new(Slow::new(&FILE, 100, NEVER));
+    let (from, to, answer) = copy_capture(
+        rt.alloc(),
+        from,
+        Counted::new(Tight::new(128, NEVER)),
+        &mut chain,
+    );
+    let opened = Writer::open(rt.alloc(), to, reader.resolution()).err();
+    drop(held);
+    assert_eq!(rt; (collected, list.len()), (Err(CapFault::Memory), 0));
+    assert_eq!(rt; told, Some(CapFault::Memory));
+    assert_eq!(rt;
+        reader.next(rt.alloc()).err(),
+        told,
+        "though there is memory again"
+    );
+    assert_eq!(rt; answer, Err(CapFault::Memory));
+    assert_eq!(rt; (from.failures(), from.into_inner().calls()), (0, 0));
+    let (to, fault) = opened.ok_or("a writer")?;
+    assert_eq!(rt; (fault, to.failures()), (CapFault::Memory, 0));
+    assert_eq!(rt; to.into_inner().calls(), 0);
+    Ok(())
+}
