@@ -1,7 +1,9 @@
 pub mod Replies
+pub mod EntrySteps
 pub mod Steps
 pub mod SettleSteps
-pub mod ActorSteps
+pub mod HandSteps
+pub mod MoveSteps
 pub mod WorldSteps
 pub mod RunSteps
 pub mod Slots

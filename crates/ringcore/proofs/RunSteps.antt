@@ -8,6 +8,7 @@ use Rattle.ringcore_laws.specs.declared.protocol.Reply.{Reply}
 use Rattle.ringcore_laws.specs.Invariant.{Invariant}
 use Rattle.ringcore_laws.specs.History.{Actor, Event, IsRun, after, after_all, reply_to}
 use Rattle.ringcore_laws.proofs.HistoryLaws.{event_kept}
+use Rattle.ringcore_laws.specs.declared.protocol.Place.{Place}
 use Rattle.ringcore.specs.declared.ring.Ring.{Ring}
 use Rattle.ringcore.specs.declared.member.Member.{Member}
 use Rattle.std.specs.Prelude.{Result, Ok, Err, OnErr}
@@ -36,26 +37,26 @@ replies_more plans pool actors [] e right h = (h, tt)
 replies_more plans pool actors (x ∷ xs) e right h = (right.0, replies_more plans pool (after actors x) xs e right.1 h)
 
 pub run_more : (plans : List RingPlan) (pool : ℕ) (actors : List Actor) (entries : List (ℕ × Step)) (replies : List Reply) (rest : List (ℕ × Step))
-    (rings new_rings : List Ring) (members new_members : List Member) (i : ℕ) (step : Step) (r : Reply)
-    → AllFit plans pool → (run : RunsTo plans pool actors entries replies ((i, step) ∷ rest) rings members)
-    → ((now : List Actor) → Invariant plans pool now → ListsAgree plans rings members now → (r ≡ reply_to plans pool now i step)
-    × ListsAgree plans new_rings new_members (after now record { actor = i; step = step; reply = r }))
-    → RunsTo plans pool actors entries (replies ++ r ∷ []) rest new_rings new_members
-run_more plans pool actors entries replies rest rings new_rings members new_members i step r fits run goes = record {
+    (rings new_rings : List Ring) (places new_places : List Place) (members new_members : List Member) (i : ℕ) (step : Step) (r : Reply)
+    → AllFit plans pool → (run : RunsTo plans pool actors entries replies ((i, step) ∷ rest) rings places members)
+    → ((now : List Actor) → Invariant plans pool now → ListsAgree plans pool rings places members now → (r ≡ reply_to plans pool now i step)
+    × ListsAgree plans pool new_rings new_places new_members (after now record { actor = i; step = step; reply = r }))
+    → RunsTo plans pool actors entries (replies ++ r ∷ []) rest new_rings new_places new_members
+run_more plans pool actors entries replies rest rings new_rings places new_places members new_members i step r fits run goes = record {
   done = run.done ++ (i, step) ∷ [];
   split = append_assoc run.done ((i, step) ∷ []) rest ∙ run.split;
   count = length-append replies (r ∷ []) ∙ (ap (λ n. n + 1) run.count ∙ sym (length-append run.done ((i, step) ∷ [])));
   right = subst (λ (v : List Event). IsRun plans pool actors v) (sym events) (replies_more plans pool actors (events_of run.done replies) e run.right now.0);
   kept = subst (λ (v : List Actor). Invariant plans pool v) (sym left)
       (event_kept plans pool (after_all actors (events_of run.done replies)) e fits now.0 run.kept);
-  agree = subst (λ (v : List Actor). ListsAgree plans new_rings new_members v) (sym left) now.1;
+  agree = subst (λ (v : List Actor). ListsAgree plans pool new_rings new_places new_members v) (sym left) now.1;
 }
   where
     e : Event
     e = record { actor = i; step = step; reply = r }
 
     now : (r ≡ reply_to plans pool (after_all actors (events_of run.done replies)) i step)
-        × ListsAgree plans new_rings new_members (after (after_all actors (events_of run.done replies)) record { actor = i; step = step; reply = r })
+        × ListsAgree plans pool new_rings new_places new_members (after (after_all actors (events_of run.done replies)) record { actor = i; step = step; reply = r })
     now = goes (after_all actors (events_of run.done replies)) run.kept run.agree
 
     events : events_of (run.done ++ (i, step) ∷ []) (replies ++ r ∷ []) ≡ events_of run.done replies ++ record { actor = i; step = step; reply = r } ∷ []
@@ -65,40 +66,41 @@ run_more plans pool actors entries replies rest rings new_rings members new_memb
         ≡ after (after_all actors (events_of run.done replies)) record { actor = i; step = step; reply = r }
     left = ap (after_all actors) events ∙ after_more actors (events_of run.done replies) e
 
-pub run_starts : (plans : List RingPlan) (pool : ℕ) (actors : List Actor) (entries : List (ℕ × Step)) (rings : List Ring) (members : List Member)
-    → Invariant plans pool actors → ListsAgree plans rings members actors → RunsTo plans pool actors entries [] entries rings members
-run_starts plans pool actors entries rings members k agree = record { done = []; split = refl; count = refl; right = tt; kept = k; agree = agree }
+pub run_starts : (plans : List RingPlan) (pool : ℕ) (actors : List Actor) (entries : List (ℕ × Step)) (rings : List Ring) (places : List Place) (members : List Member)
+    → Invariant plans pool actors → ListsAgree plans pool rings places members actors → RunsTo plans pool actors entries [] entries rings places members
+run_starts plans pool actors entries rings places members k agree = record { done = []; split = refl; count = refl; right = tt; kept = k; agree = agree }
 
 -- one more step of a world in the middle of a run
 pub run_goes_on : (plans : List RingPlan) (old new : World) (pool : ℕ) (actors : List Actor) (entries : List (ℕ × Step)) (replies : List Reply)
     (left rest : List (ℕ × Step)) (i : ℕ) (step : Step) (r : Reply)
     → old.plans.items ≡ plans → left ≡ (i, step) ∷ rest
     → ((pool : ℕ) (now : List Actor) → AllFit old.plans.items pool → Invariant old.plans.items pool now
-    → ListsAgree old.plans.items old.rings.items old.members.items now
+    → ListsAgree old.plans.items pool old.rings.items old.places.items old.members.items now
     → (r ≡ reply_to old.plans.items pool now i step)
-    × ListsAgree old.plans.items new.rings.items new.members.items (after now record { actor = i; step = step; reply = r }))
-    → AllFit plans pool → RunsTo plans pool actors entries replies left old.rings.items old.members.items
-    → RunsTo plans pool actors entries (replies ++ r ∷ []) rest new.rings.items new.members.items
+    × ListsAgree old.plans.items pool new.rings.items new.places.items new.members.items (after now record { actor = i; step = step; reply = r }))
+    → AllFit plans pool → RunsTo plans pool actors entries replies left old.rings.items old.places.items old.members.items
+    → RunsTo plans pool actors entries (replies ++ r ∷ []) rest new.rings.items new.places.items new.members.items
 run_goes_on plans old new pool actors entries replies left rest i step r same first goes fits run =
     let there = subst (λ (ps : List RingPlan). (pool : ℕ) (now : List Actor) → AllFit ps pool → Invariant ps pool now
-    → ListsAgree ps old.rings.items old.members.items now
+    → ListsAgree ps pool old.rings.items old.places.items old.members.items now
     → (r ≡ reply_to ps pool now i step)
-    × ListsAgree ps new.rings.items new.members.items (after now record { actor = i; step = step; reply = r })) same goes in
-    run_more plans pool actors entries replies rest old.rings.items new.rings.items old.members.items new.members.items i step r fits
-    (subst (λ (v : List (ℕ × Step)). RunsTo plans pool actors entries replies v old.rings.items old.members.items) first run)
+    × ListsAgree ps pool new.rings.items new.places.items new.members.items (after now record { actor = i; step = step; reply = r })) same goes in
+    run_more plans pool actors entries replies rest old.rings.items new.rings.items old.places.items new.places.items old.members.items new.members.items i step r fits
+    (subst (λ (v : List (ℕ × Step)). RunsTo plans pool actors entries replies v old.rings.items old.places.items old.members.items) first run)
     (λ now kept agrees. there pool now fits kept agrees)
 
 -- the same run, where the lists differ only in the room that was made in them
 pub run_unchanged : (plans : List RingPlan) (old new : World) (pool : ℕ) (actors : List Actor) (entries : List (ℕ × Step)) (replies : List Reply)
-    (rest : List (ℕ × Step)) → IsUnchanged old new → RunsTo plans pool actors entries replies rest old.rings.items old.members.items
-    → RunsTo plans pool actors entries replies rest new.rings.items new.members.items
+    (rest : List (ℕ × Step)) → IsUnchanged old new → RunsTo plans pool actors entries replies rest old.rings.items old.places.items old.members.items
+    → RunsTo plans pool actors entries replies rest new.rings.items new.places.items new.members.items
 run_unchanged plans old new pool actors entries replies rest same run = record {
   done = run.done;
   split = run.split;
   count = run.count;
   right = run.right;
   kept = run.kept;
-  agree = same_agree plans old.rings.items new.rings.items old.members.items new.members.items _ same.1 run.agree;
+  agree = same_agree plans pool old.rings.items new.rings.items old.places.items new.places.items old.members.items new.members.items _
+      (same.1, same.2, same.3) run.agree;
 }
 
 -- what stands at an Err
@@ -122,21 +124,21 @@ events_are plans pool actors (s ∷ done) (r ∷ replies) same run =
 -- a list of steps that was not done to its end, of a world that is what a right history leaves
 pub beginning_followed : (old new : World) (entries : List (ℕ × Step)) → new.plans.items ≡ old.plans.items
     → ((pool : ℕ) (actors : List Actor) → AllFit old.plans.items pool → Invariant old.plans.items pool actors
-    → ListsAgree old.plans.items old.rings.items old.members.items actors
+    → ListsAgree old.plans.items pool old.rings.items old.places.items old.members.items actors
     → (replies : List Reply) × (rest : List (ℕ × Step))
-    × RunsTo old.plans.items pool actors entries replies rest new.rings.items new.members.items)
+    × RunsTo old.plans.items pool actors entries replies rest new.rings.items new.places.items new.members.items)
     → LeavesBeginning old new entries
 beginning_followed old new entries same goes h agree right =
     let there = subst (λ (ps : List RingPlan). (pool : ℕ) (actors : List Actor) → AllFit ps pool → Invariant ps pool actors
-    → ListsAgree ps old.rings.items old.members.items actors
+    → ListsAgree ps pool old.rings.items old.places.items old.members.items actors
     → (replies : List Reply) × (rest : List (ℕ × Step))
-    × RunsTo ps pool actors entries replies rest new.rings.items new.members.items) agree.plans goes in
+    × RunsTo ps pool actors entries replies rest new.rings.items new.places.items new.members.items) agree.plans goes in
     let found = there (pool_size h) (actors_of h) right.plan.rings (right_kept h right) agree.lists in
     let replies = found.0 in
     let run = found.2 in
     let events = events_are h.plans (pool_size h) (actors_of h) run.done replies run.count run.right in
     let ran = subst (λ (es : List Event). IsRun h.plans (pool_size h) (actors_of h) es) events run.right in
-    let left = subst (λ (es : List Event). ListsAgree h.plans new.rings.items new.members.items (after_all (actors_of h) es)) events run.agree in
+    let left = subst (λ (es : List Event). ListsAgree h.plans (pool_size h) new.rings.items new.places.items new.members.items (after_all (actors_of h) es)) events run.agree in
     let more = history_of h.plans (pool_size h) (actors_of h) run.done in (
       run.done,
       found.1,
@@ -144,7 +146,7 @@ beginning_followed old new entries same goes h agree right =
       record {
         plans = same ∙ agree.plans;
         lists =
-            subst (λ (v : List Actor). ListsAgree h.plans new.rings.items new.members.items v)
+            subst (λ (v : List Actor). ListsAgree h.plans (pool_size h) new.rings.items new.places.items new.members.items v)
             (sym (after_all-append (opening_of h) h.events more)) left;
       },
       right_followed h more right ran,

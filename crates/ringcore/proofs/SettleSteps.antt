@@ -1,10 +1,10 @@
 -- A settle: its answer by the tail is the reply, and the machine's lists agree after it
 use Rattle.std.proofs.Common.{ℕ, suc, ◌+◌, ◌-◌, ◌<◌, ◌≤◌, ◌≢◌, ◌≡◌, ◌⊎◌, inl, inr, List, [], ◌∷◌, ◌++◌, length, take, drop, refl, ap, sym, subst, ◌∙◌, arith}
-use Rattle.std.proofs.Common.{true, false, Bool, cond}
-use Rattle.std.specs.Prelude.{slice_get, slice_set, slice_index_or, Option, Some, None, not, ◌&&◌, ◌||◌, ◌==◌, nat_lt, if◌then◌else◌}
-use Rattle.std.specs.List.{list_any, list_all, flat_map, filter}
+use Rattle.std.proofs.Common.{true, false, Bool}
+use Rattle.std.specs.Prelude.{slice_get, slice_set, slice_index_or, Option, Some, None, not, ◌&&◌, ◌||◌, ◌==◌, nat_lt, ◌^◌, if◌then◌else◌}
+use Rattle.std.specs.List.{list_any, list_all, flat_map}
 use Rattle.std.proofs.lemmas.List.{length-set, length-take, length-drop}
-use Rattle.std.proofs.lemmas.List.Sums.{sum_by-cons, sum_by-append}
+use Rattle.std.proofs.lemmas.List.Sums.{sum_by-cons, sum_by-take-le}
 use Rattle.std.proofs.lemmas.Bool.Decides.{nat_tests}
 use Rattle.geom.specs.declared.plan.Mode.{Mode}
 use Rattle.geom.specs.declared.plan.Mode.TheVariants.{Multi, Hts}
@@ -20,38 +20,80 @@ use Rattle.ringcore_laws.specs.declared.party.Settled.{Settled}
 use Rattle.ringcore_laws.specs.Party.{is_on, same_side, with_settled}
 use Rattle.ringcore_laws.specs.Moves.{settled_by}
 use Rattle.ringcore_laws.specs.RingSide.{RingSide, side_of, listed, IsGapless}
-use Rattle.ringcore_laws.specs.Sound.{SoundRing, holds, moved, settled_times, queue, occurrences, occurrences_in}
+use Rattle.ringcore_laws.specs.Sound.{Sound, SoundRing, holds, in_ring, moved, place_count, settled_times, queue, occurrences, occurrences_in}
 use Rattle.ringcore_laws.specs.HeadTailRule.{HeadTailRule}
 use Rattle.ringcore_laws.specs.Invariant.{Invariant}
 use Rattle.ringcore_laws.specs.History.{Actor, tags, parties_of, starts_below, earlier_open, is_held, is_cached, may_put, is_bad_settle, put_reply, take_reply}
 use Rattle.ringcore_laws.specs.History.{after_settle_put, after_settle_take, settled_span}
 use Rattle.ringcore_laws.proofs.SideLaws.{settles_side_of}
-use Rattle.ringcore_laws.proofs.RingLaws.{open_count, held_cases, unsettled_above, length-listed}
+use Rattle.ringcore_laws.proofs.RingLaws.{below_or_not, open_count, held_cases, unsettled_above, length-listed, takes_le_puts}
 use Rattle.ringcore_laws.proofs.Laws.{off_ring, off_put, off_take, same_or_not, same_plan, settled_other, times_in_is}
-use Rattle.ringcore_laws.proofs.HeadTailLaws.{first_in_line, own_span}
+use Rattle.ringcore_laws.proofs.HeadTailLaws.{first_in_line, own_span, range_part}
 use Rattle.ringcore_laws.proofs.Queues.{OwnSettled, own_settled, put_queue, take_queue}
 use Rattle.ringcore_laws.proofs.HistoryLaws.{parties_set, parties_at, parties_length, parties_unchanged, on_true, and_true, passes, settle_fits}
 use Rattle.ringcore_laws.proofs.Lists.{get_set, get_set_other}
+use Rattle.std.proofs.lemmas.Option.{slice_get_within}
 use Rattle.ringcore_laws.proofs.Telling.{put_done_tells, take_done_tells}
-use Rattle.ringcore.proofs.Steps.{lift}
+use Rattle.ringcore.proofs.MoveSteps.{entries_put, entries_take}
+use Rattle.ringcore.proofs.Steps.{lift, set_same}
 use Rattle.ringcore.specs.declared.ring.Words.{Words}
 use Rattle.ringcore.specs.declared.ring.Ring.{Ring}
 use Rattle.ringcore.specs.declared.member.Member.{Member}
-use Rattle.ringcore.specs.Agree.{WordsAgree, MemberAgrees, RingAgrees, ListsAgree}
-use Rattle.ringcore.specs.Changes.{words_moved_to, MemberSettled, PutResult, TakeResult, end_at}
-use Rattle.ringcore.specs.Replies.{holds_uncached, may_put_all, put_answer, take_answer}
-use Rattle.ringcore.specs.Same.{IsSame}
-use Rattle.ringcore_laws.specs.Runs.{is_done}
+use Rattle.ringcore_laws.specs.declared.protocol.Place.{Place}
+use Rattle.ringcore_laws.specs.declared.protocol.Place.TheVariants.{AtRing, Held, Cached, Nowhere}
+use Rattle.ringcore.specs.Agree.{EntriesAgree, HandAgrees, WordsAgree, MemberAgrees, RingAgrees, SpansAgree}
+use Rattle.ringcore.specs.Changes.{words_moved_to, IsDequeued, IsPublished, NothingSettled, PutResult, SpanSettled, TakeResult, end_at, start_at}
+use Rattle.ringcore.specs.Entries.{entry, is_cached_at, is_held_at, may_put_all, times_with, with_each, with_items_at}
+use Rattle.ringcore.specs.Replies.{put_answer, take_answer}
 
--- what may be put, by the lists of a member
-pub free_is : (a : Actor) (m : Member) → MemberAgrees a m → (b : ℕ) → holds_uncached m.buffers.items m.cached.items b ≡ is_held a b
-free_is a m h b = ap (λ n. (n == 1) && not (list_any (λ c. c == b) m.cached.items)) (h.buffers b) ∙ ap (λ v. (holds tags b a.party == 1) && not v) (h.cached b)
+-- what may be put, by the entries
 
-pub may_put_is : (free : Bool) (a : Actor) (m : Member) (items : List Item) → MemberAgrees a m
-    → may_put_all free m.buffers.items m.cached.items items (flat_map tags items) ≡ may_put free a items
-may_put_is free a m items h =
-    ap (λ f. list_all f (flat_map tags items) && list_all (λ b. occurrences b (flat_map tags items) == 1) (flat_map tags items)
-    && (not free || list_all (λ x. length (tags x) == 1) items)) (λ i b. free_is a m h b i)
+held_shape : (i : ℕ) (x : Place) → is_held_at i x ≡ ((times_with i x == 1) && not (is_cached_at i x))
+held_shape i (AtRing r p) = refl
+held_shape i Nowhere = refl
+held_shape i (Held j) = by_test (j == i)
+  where
+    by_test : (t : Bool) → t ≡ (((if t then 1 else 0) == 1) && true)
+    by_test true = refl
+    by_test false = refl
+held_shape i (Cached j) = by_test (j == i)
+  where
+    by_test : (t : Bool) → false ≡ (((if t then 1 else 0) == 1) && not t)
+    by_test true = refl
+    by_test false = refl
+
+cached_shape : (i : ℕ) (x : Place) → is_cached_at i x ≡ ((times_with i x == 1) && is_cached_at i x)
+cached_shape i (AtRing r p) = refl
+cached_shape i Nowhere = refl
+cached_shape i (Held j) = by_test (j == i)
+  where
+    by_test : (t : Bool) → false ≡ (((if t then 1 else 0) == 1) && false)
+    by_test true = refl
+    by_test false = refl
+cached_shape i (Cached j) = by_test (j == i)
+  where
+    by_test : (t : Bool) → t ≡ (((if t then 1 else 0) == 1) && t)
+    by_test true = refl
+    by_test false = refl
+
+pub held_at_is : (pool : ℕ) (places : List Place) (i : ℕ) (a : Actor) (m : Member) → HandAgrees pool places i a m → (b : ℕ)
+    → is_held_at i (entry places b) ≡ is_held a b
+held_at_is pool places i a m h b =
+    held_shape i (entry places b)
+    ∙ (ap (λ n. (n == 1) && not (is_cached_at i (entry places b))) (sym (h.held b)) ∙ ap (λ v. (holds tags b a.party == 1) && not v) (sym (h.cached b)))
+
+pub cached_at_is : (pool : ℕ) (places : List Place) (i : ℕ) (a : Actor) (m : Member) → HandAgrees pool places i a m → (b : ℕ)
+    → is_cached_at i (entry places b) ≡ ((holds tags b a.party == 1) && is_cached a b)
+cached_at_is pool places i a m h b =
+    cached_shape i (entry places b)
+    ∙ (ap (λ n. (n == 1) && is_cached_at i (entry places b)) (sym (h.held b)) ∙ ap (λ v. (holds tags b a.party == 1) && v) (sym (h.cached b)))
+
+pub may_put_is : (free : Bool) (pool : ℕ) (places : List Place) (i : ℕ) (a : Actor) (m : Member) (items : List Item) → HandAgrees pool places i a m
+    → may_put_all free m.number places items ≡ may_put free a items
+may_put_is free pool places i a m items h =
+    ap (λ v. may_put_all free v places items) h.number
+    ∙ ap (λ (f : ℕ → Bool). list_all f (flat_map tags items) && list_all (λ b. occurrences b (flat_map tags items) == 1) (flat_map tags items)
+    && (not free || list_all (λ x. length (tags x) == 1) items)) (λ j b. held_at_is pool places i a m h b j)
 
 or_true : (a b : Bool) → (a || b) ≡ true → (a ≡ true) ⊎ (b ≡ true)
 or_true true b h = inl refl
@@ -117,28 +159,28 @@ module _ (plans : List RingPlan) (pool : ℕ) (actors : List Actor) (i : ℕ) (a
   in_parties = omega (arith, parties_length actors)
 
   -- the answer to a settle of a put is the reply
-  pub put_answer_is : (ring tail : ℕ) (plan : RingPlan) (items : List Item) → slice_get plans ring ≡ Some plan
-      → tail ≡ (side_of (parties_of actors) ring Put).len
-      → put_answer plan ring tail m.buffers.items m.cached.items items m.span ≡ put_reply plan ring (parties_of actors) a items a.party.span
-  put_answer_is ring tail plan items there e = ap (put_answer plan ring tail m.buffers.items m.cached.items items) h.span ∙ by_span a.party.span refl
+  pub put_answer_is : (ring tail : ℕ) (plan : RingPlan) (items : List Item) (places : List Place) → HandAgrees pool places i a m
+      → slice_get plans ring ≡ Some plan → tail ≡ (side_of (parties_of actors) ring Put).len
+      → put_answer plan ring tail m.number places items m.span ≡ put_reply plan ring (parties_of actors) a items a.party.span
+  put_answer_is ring tail plan items places hand there e = ap (put_answer plan ring tail m.number places items) h.span ∙ by_span a.party.span refl
     where
       answer : Bool → Bool → Bool → ℕ → Span → Reply
       answer on may earlier tail s =
           if not on then NoSpan else if is_bad_settle plan.put (length items) s.count then BadCount else if not may then NotYours
           else if earlier then NotYet tail else Done (length items) []
 
-      may : may_put_all plan.free m.buffers.items m.cached.items items (flat_map tags items) ≡ may_put plan.free a items
-      may = may_put_is plan.free a m items h
+      may : may_put_all plan.free m.number places items ≡ may_put plan.free a items
+      may = may_put_is plan.free pool places i a m items hand
 
-      by_span : (o : Option Span) → a.party.span ≡ o → put_answer plan ring tail m.buffers.items m.cached.items items o
+      by_span : (o : Option Span) → a.party.span ≡ o → put_answer plan ring tail m.number places items o
           ≡ put_reply plan ring (parties_of actors) a items o
       by_span None busy = refl
       by_span (Some s) busy = by_on (is_on s.ring s.side ring Put) refl
         where
           by_on : (t : Bool) → is_on s.ring s.side ring Put ≡ t
-              → put_answer plan ring tail m.buffers.items m.cached.items items (Some s) ≡ put_reply plan ring (parties_of actors) a items (Some s)
+              → put_answer plan ring tail m.number places items (Some s) ≡ put_reply plan ring (parties_of actors) a items (Some s)
           by_on false off =
-              ap (λ v. answer v (may_put_all plan.free m.buffers.items m.cached.items items (flat_map tags items)) (not (tail == s.start)) tail s) off
+              ap (λ v. answer v (may_put_all plan.free m.number places items) (not (tail == s.start)) tail s) off
               ∙ sym (ap (λ v. answer v (may_put plan.free a items) (earlier_open ring Put s.start (parties_of actors))
               (side_of (parties_of actors) ring Put).len s) off)
           by_on true on =
@@ -237,43 +279,8 @@ words_settled_agree Hts before after span n w o first whole alone h = record {
   hts = λ e. omega (arith, o.len, o.open_count, alone refl);
 }
 
-abbrev one_if : Bool → ℕ
-one_if t = if t then 1 else 0
-
 abbrev n_if : Bool → ℕ → ℕ
 n_if t n = if t then n else 0
-
-pub occurrences-filter : (b : ℕ) (p : ℕ → Bool) (xs : List ℕ) → occurrences b (filter p xs) ≡ n_if (p b) (occurrences b xs)
-occurrences-filter b p [] = zero_both (p b)
-  where
-    zero_both : (t : Bool) → 0 ≡ n_if t 0
-    zero_both true = refl
-    zero_both false = refl
-occurrences-filter b p (x ∷ xs) = step (p x) refl (x == b) refl (occurrences-filter b p xs)
-  where
-    more : (ys : List ℕ) → occurrences b (x ∷ ys) ≡ one_if (x == b) + occurrences b ys
-    more ys = sum_by-cons (λ n. if n == b then 1 else 0) x ys
-
-    apart : (x == b) ≡ false → occurrences b (x ∷ xs) ≡ occurrences b xs
-    apart e = let z : one_if (x == b) ≡ 0 = ap one_if e in omega (arith, more xs)
-
-    step : (t : Bool) → p x ≡ t → (u : Bool) → (x == b) ≡ u → occurrences b (filter p xs) ≡ n_if (p b) (occurrences b xs)
-        → occurrences b (cond t (x ∷ filter p xs) (filter p xs)) ≡ n_if (p b) (occurrences b (x ∷ xs))
-    step true px true e ih =
-        let same : x ≡ b = grind (arith, nat_tests) in
-        let pb : p b ≡ true = ap p (sym same) ∙ px in
-        let rest : occurrences b (filter p xs) ≡ occurrences b xs = ih ∙ ap (λ v. n_if v (occurrences b xs)) pb in
-        let whole : occurrences b (x ∷ filter p xs) ≡ occurrences b (x ∷ xs) = omega (arith, more (filter p xs), more xs) in
-        whole ∙ sym (ap (λ v. n_if v (occurrences b (x ∷ xs))) pb)
-    step true px false e ih =
-        let z : one_if (x == b) ≡ 0 = ap one_if e in
-        let whole : occurrences b (x ∷ filter p xs) ≡ occurrences b (filter p xs) = omega (arith, more (filter p xs)) in
-        whole ∙ (ih ∙ ap (n_if (p b)) (sym (apart e)))
-    step false px true e ih =
-        let same : x ≡ b = grind (arith, nat_tests) in
-        let pb : p b ≡ false = ap p (sym same) ∙ px in
-        ih ∙ (ap (λ v. n_if v (occurrences b xs)) pb ∙ sym (ap (λ v. n_if v (occurrences b (x ∷ xs))) pb))
-    step false px false e ih = ih ∙ ap (n_if (p b)) (sym (apart e))
 
 -- the buffers that are left
 pub left_after_put : (a : Actor) (span : Span) (items : List Item) (b : ℕ) → span.side ≡ Put
@@ -313,6 +320,7 @@ other_ring_settled plan parties i d span items r x lt busy apart h =
       take = subst (λ (v : RingSide Item). WordsAgree plan.take v x.take) (sym taking) h.take;
       queue = h.queue ∙ sym (ap (λ (v : RingSide Item). drop v.len (listed (side_of (settled_by parties i d span items) r Put))) taking
           ∙ ap (λ (v : RingSide Item). drop (side_of parties r Take).len (listed v)) put);
+      capacity = h.capacity;
     }
   where
     put : side_of (settled_by parties i d span items) r Put ≡ side_of parties r Put
@@ -337,8 +345,9 @@ pub own_ring_put : (plan : RingPlan) (parties : List (Party Item)) (i : ℕ) (d 
     → SoundRing plan.geometry (side_of parties ring Put) (side_of parties ring Take) → start ≡ (side_of parties ring Put).len
     → (plan.put ≡ Multi → length items ≡ count) → (plan.put ≡ Hts → count ≡ (side_of parties ring Put).open_count)
     → RingAgrees plan parties ring x → y.put ≡ words_moved_to plan.put x.put (start + length items) → y.take ≡ x.take → y.queue.items ≡ x.queue.items ++ items
+    → y.queue.capacity ≡ x.queue.capacity
     → RingAgrees plan (settled_by parties i d record { ring = ring; side = Put; start = start; count = count } items) ring y
-own_ring_put plan parties i d ring start count items x y lt busy sound first whole alone h put taking queued =
+own_ring_put plan parties i d ring start count items x y lt busy sound first whole alone h put taking queued capacity =
     let span : Span = record { ring = ring; side = Put; start = start; count = count } in
     record {
       put = subst (λ (v : Words). WordsAgree plan.put (side_of (settled_by parties i d span items) ring Put) v) (sym put)
@@ -347,6 +356,7 @@ own_ring_put plan parties i d ring start count items x y lt busy sound first who
       take = subst (λ (v : Words). WordsAgree plan.take (side_of (settled_by parties i d span items) ring Take) v) (sym taking)
           (subst (λ (v : RingSide Item). WordsAgree plan.take v x.take) (sym (other_side_of parties i d span items Take lt busy (off_take ring ring))) h.take);
       queue = queued ∙ (ap (λ v. v ++ items) h.queue ∙ sym (put_queue plan.geometry parties i d ring start count items sound lt busy first));
+      capacity = capacity ∙ h.capacity;
     }
 
 pub own_ring_take : (plan : RingPlan) (parties : List (Party Item)) (i : ℕ) (d : Party Item) (ring start count : ℕ) (items : List Item) (x y : Ring)
@@ -354,9 +364,9 @@ pub own_ring_take : (plan : RingPlan) (parties : List (Party Item)) (i : ℕ) (d
     → SoundRing plan.geometry (side_of parties ring Put) (side_of parties ring Take) → start ≡ (side_of parties ring Take).len
     → (plan.take ≡ Multi → length items ≡ count) → (plan.take ≡ Hts → count ≡ (side_of parties ring Take).open_count)
     → RingAgrees plan parties ring x → y.take ≡ words_moved_to plan.take x.take (start + length items) → y.put ≡ x.put
-    → y.queue.items ≡ drop (length items) x.queue.items
+    → y.queue.items ≡ drop (length items) x.queue.items → y.queue.capacity ≡ x.queue.capacity
     → RingAgrees plan (settled_by parties i d record { ring = ring; side = Take; start = start; count = count } items) ring y
-own_ring_take plan parties i d ring start count items x y lt busy sound first whole alone h taking put queued =
+own_ring_take plan parties i d ring start count items x y lt busy sound first whole alone h taking put queued capacity =
     let span : Span = record { ring = ring; side = Take; start = start; count = count } in
     record {
       put = subst (λ (v : Words). WordsAgree plan.put (side_of (settled_by parties i d span items) ring Put) v) (sym put)
@@ -365,88 +375,28 @@ own_ring_take plan parties i d ring start count items x y lt busy sound first wh
           (words_settled_agree plan.take (side_of parties ring Take) (side_of (settled_by parties i d span items) ring Take) span (length items) x.take
           (own_settled parties i d span items lt busy) first whole alone h.take);
       queue = queued ∙ (ap (drop (length items)) h.queue ∙ sym (take_queue plan.geometry parties i d ring start count items sound lt busy first));
+      capacity = capacity ∙ h.capacity;
     }
 
--- a member that changed nothing still agrees
-pub same_member : (a : Actor) (m n : Member) → MemberAgrees a m → IsSame m n → MemberAgrees a n
-same_member a m n h same = record {
-  span = same.span ∙ h.span;
-  observed = same.observed ∙ h.observed;
-  buffers = λ b. ap (occurrences b) same.buffers ∙ h.buffers b;
-  cached = λ b. ap (λ v. list_any (λ c. c == b) v) same.cached ∙ h.cached b;
-}
+-- a member whose span was settled
+member_settled : (a : Actor) (m n : Member) (span : Span) (items : List Item) → MemberAgrees a m → SpanSettled m n
+    → MemberAgrees record { party = with_settled a.party span items; observed = a.observed; cached = a.cached } n
+member_settled a m n span items h s = record { span = s.span; observed = s.observed ∙ h.observed }
 
-never : (b : ℕ) (xs : List ℕ) → list_any (λ e. e == b) xs ≡ false → occurrences b xs ≡ 0
-never b [] h = refl
-never b (x ∷ xs) h =
-    let both = or_none (x == b) (list_any (λ e. e == b) xs) h in
-    let z : one_if (x == b) ≡ 0 = ap one_if both.0 in
-    omega (arith, sum_by-cons (λ n. if n == b then 1 else 0) x xs, never b xs both.1)
-  where
-    or_none : (c d : Bool) → (c || d) ≡ false → (c ≡ false) × (d ≡ false)
-    or_none false d h = (refl, h)
-    or_none true d h = absurd (let u : true ≡ false = h in cc)
+moved_tail : (mode : Mode) (w : Words) (end : ℕ) → (words_moved_to mode w end).tail ≡ end
+moved_tail Multi w end = refl
+moved_tail Hts w end = refl
 
-ever : (b : ℕ) (xs : List ℕ) → list_any (λ e. e == b) xs ≡ true → 0 < occurrences b xs
-ever b [] h = absurd (let u : false ≡ true = h in cc)
-ever b (x ∷ xs) h =
-    let count = sum_by-cons (λ n. if n == b then 1 else 0) x xs in
-    elim (or_true (x == b) (list_any (λ e. e == b) xs) h) [
-      | inl same ↦ let z : one_if (x == b) ≡ 1 = ap one_if same in omega arith
-      | inr later ↦ omega (arith, ever b xs later)
+-- a buffer is queued once on a ring, or not
+queued_once : (plans : List RingPlan) (pool : ℕ) (parties : List (Party Item)) (ring : ℕ) (plan : RingPlan) (b : ℕ) → Sound tags plans pool parties
+    → slice_get plans ring ≡ Some plan → occurrences_in tags b (queue parties ring) ≤ 1
+unfolding place_count
+queued_once plans pool parties ring plan b sound hp =
+    let part = range_part (in_ring tags b parties) 0 (length plans) ring (omega arith) (omega (arith, slice_get_within plans ring plan hp)) in
+    elim (below_or_not b pool) [
+      | inl lt ↦ omega (arith, part, sound.buffers.one_place b lt)
+      | inr le ↦ omega (arith, part, sound.buffers.no_place b le)
     ]
-
--- a member that put these items
-pub member_put : (a : Actor) (m n : Member) (span : Span) (items : List Item) (free : Bool) (reply : Reply) → MemberAgrees a m → span.side ≡ Put
-    → may_put free a items ≡ true → is_done reply ≡ true → MemberSettled m n reply
-    → n.buffers.items ≡ filter (λ b. not (list_any (λ c. c == b) (flat_map tags items))) m.buffers.items
-    → MemberAgrees record { party = with_settled a.party span items; observed = a.observed; cached = a.cached } n
-member_put a m n span items free reply h put may done s left = record {
-  span = s.span ∙ ap (λ v. if v then None else m.span) done;
-  observed = s.observed ∙ h.observed;
-  buffers = λ b.
-      ap (occurrences b) left ∙ (occurrences-filter b (λ c. not (list_any (λ e. e == c) (flat_map tags items))) m.buffers.items
-      ∙ (ap (n_if (not (list_any (λ e. e == b) (flat_map tags items)))) (h.buffers b)
-      ∙ (by_there b (list_any (λ e. e == b) (flat_map tags items)) refl ∙ sym (left_after_put a span items b put))));
-  cached = λ b. ap (λ v. list_any (λ c. c == b) v) s.cached ∙ h.cached b;
-}
-  where
-    numbers : List ℕ
-    numbers = flat_map tags items
-
-    is_one : (n : ℕ) → (n == 1) ≡ true → n ≡ 1
-    is_one n h = grind (arith, nat_tests)
-
-    by_there : (b : ℕ) (t : Bool) → list_any (λ e. e == b) numbers ≡ t
-        → n_if (not (list_any (λ e. e == b) numbers)) (holds tags b a.party) ≡ holds tags b a.party - occurrences_in tags b items
-    by_there b false e =
-        let none : occurrences b numbers ≡ 0 = never b numbers e in
-        ap (λ v. n_if (not v) (holds tags b a.party)) e ∙ (let r : holds tags b a.party ≡ holds tags b a.party - occurrences_in tags b items =
-        omega (arith, times_in_is tags b items) in r)
-    by_there b true e =
-        let some : 0 < occurrences b numbers = ever b numbers e in
-        let parts =
-        and_true (list_all (is_held a) numbers && list_all (λ n. occurrences n numbers == 1) numbers)
-        (not free || list_all (λ x. length (tags x) == 1) items) may in
-        let both = and_true (list_all (is_held a) numbers) (list_all (λ n. occurrences n numbers == 1) numbers) parts.0 in
-        let mine = and_true (holds tags b a.party == 1) (not (is_cached a b)) (passes (is_held a) numbers b both.0 some) in
-        let one : holds tags b a.party ≡ 1 = is_one (holds tags b a.party) mine.0 in
-        ap (λ v. n_if (not v) (holds tags b a.party)) e ∙ (let r : 0 ≡ holds tags b a.party - occurrences_in tags b items =
-        omega (arith, times_in_is tags b items) in r)
-
-pub member_take : (a : Actor) (m n : Member) (span : Span) (items : List Item) (reply : Reply) → MemberAgrees a m → span.side ≡ Take → is_done reply ≡ true
-    → MemberSettled m n reply → n.buffers.items ≡ m.buffers.items ++ flat_map tags items
-    → ((b : ℕ) → moved tags Put b a.party ≤ occurrences b a.party.given + moved tags Take b a.party)
-    → MemberAgrees record { party = with_settled a.party span items; observed = a.observed; cached = a.cached } n
-member_take a m n span items reply h took done s got had = record {
-  span = s.span ∙ ap (λ v. if v then None else m.span) done;
-  observed = s.observed ∙ h.observed;
-  buffers = λ b.
-      let split = sum_by-append (λ n. if n == b then 1 else 0) m.buffers.items (flat_map tags items) in
-      ap (occurrences b) got ∙ (let r : occurrences b (m.buffers.items ++ flat_map tags items) ≡ holds tags b (with_settled a.party span items) =
-      omega (arith, h.buffers b, times_in_is tags b items, left_after_take a span items b took (had b)) in r);
-  cached = λ b. ap (λ v. list_any (λ c. c == b) v) s.cached ∙ h.cached b;
-}
 
 -- each ring after one changed
 each_after : (plans : List RingPlan) (rings : List Ring) (before after : List (Party Item)) (ring : ℕ) (plan : RingPlan) (y : Ring)
@@ -462,21 +412,24 @@ each_after plans rings before after ring plan y there own others r p z hp hz = e
   | inr apart ↦ others r p z apart hp (sym (get_set_other rings ring r y apart) ∙ hz)
 ]
 
-pub same_ring : (plan : RingPlan) (parties : List (Party Item)) (r : ℕ) (x y : Ring) → RingAgrees plan parties r x → y.put ≡ x.put → y.take ≡ x.take
-    → y.queue.items ≡ x.queue.items → RingAgrees plan parties r y
-same_ring plan parties r x y h put taking queue = record {
-  put = subst (λ (v : Words). WordsAgree plan.put (side_of parties r Put) v) (sym put) h.put;
-  take = subst (λ (v : Words). WordsAgree plan.take (side_of parties r Take) v) (sym taking) h.take;
-  queue = queue ∙ h.queue;
-}
-
 module _ (plans : List RingPlan) (pool : ℕ) (rings : List Ring) (members : List Member) (actors : List Actor) (i : ℕ) (a : Actor) (m n : Member) (ring : ℕ)
     (plan : RingPlan) (x y : Ring)
-    (agree : ListsAgree plans rings members actors) (lt : i < length actors) (at : (d : Actor) → slice_index_or actors i d ≡ a)
+    (agree : SpansAgree plans rings members actors) (lt : i < length actors) (at : (d : Actor) → slice_index_or actors i d ≡ a)
     (k : Invariant plans pool actors) (h : MemberAgrees a m)
-    (hp : slice_get plans ring ≡ Some plan) (hr : slice_get rings ring ≡ Some x) where
+    (hp : slice_get plans ring ≡ Some plan) (hr : slice_get rings ring ≡ Some x)
+    (places : List Place) (e : EntriesAgree pool rings places members actors) (ha : slice_get actors i ≡ Some a) (hm : slice_get members i ≡ Some m)
+    (small : length places < 2 ^ 64) where
   abbrev parties_now : List (Party Item)
   parties_now = parties_of actors
+
+  -- all rings and actors, and all entries
+  abbrev BothAgree : List Place → Actor → Type 0
+  BothAgree new_places b =
+      SpansAgree plans (slice_set rings ring y) (slice_set members i n) (slice_set actors i b)
+      × EntriesAgree pool (slice_set rings ring y) new_places (slice_set members i n) (slice_set actors i b)
+
+  hand : HandAgrees pool places i a m
+  hand = e.each_hand i a m ha hm
 
   stands : slice_index_or parties_now i a.party ≡ a.party
   stands = parties_at actors i a lt ∙ ap (λ (v : Actor). v.party) (at a)
@@ -485,32 +438,54 @@ module _ (plans : List RingPlan) (pool : ℕ) (rings : List Ring) (members : Lis
   within = omega (arith, parties_length actors)
 
   -- nothing changed
-  unchanged : IsSame m n → y.put ≡ x.put → y.take ≡ x.take → y.queue.items ≡ x.queue.items
-      → ListsAgree plans (slice_set rings ring y) (slice_set members i n) (slice_set actors i a)
-  unchanged same put taking queued =
-      lift plans rings (slice_set rings ring y) members actors i a n agree lt (same_member a m n h same) (length-set rings ring y ∙ agree.ring_count)
-      (subst (λ (v : List (Party Item)). (r : ℕ) (p : RingPlan) (z : Ring) → slice_get plans r ≡ Some p → slice_get (slice_set rings ring y) r ≡ Some z
-      → RingAgrees p v r z) (sym (parties_unchanged actors i a a lt (sym (ap (λ (v : Actor). v.party) (at a)))))
-      (each_after plans rings parties_now parties_now ring plan y hp (same_ring plan parties_now ring x y (agree.each_ring ring plan x hp hr) put taking queued)
-      (λ r p z apart hp' hz. agree.each_ring r p z hp' hz)))
-
-  pub put_agrees : (items : List Item) (reply : Reply) → reply ≡ put_reply plan ring parties_now a items a.party.span → PutResult plan m n x y items reply
-      → ListsAgree plans (slice_set rings ring y) (slice_set members i n) (slice_set actors i (after_settle_put a items reply))
-  put_agrees items (Done c its) e r =
-      subst (λ (v : Option Span). ListsAgree plans (slice_set rings ring y) (slice_set members i n)
-      (slice_set actors i record { party = settled_span a.party v items; observed = a.observed; cached = a.cached })) (sym is_busy)
-      (lift plans rings (slice_set rings ring y) members actors i b n agree lt
-      (member_put a m n span items plan.free (Done c its) h refl tells.4 refl r.member r.buffers) (length-set rings ring y ∙ agree.ring_count)
-      (subst (λ (v : List (Party Item)). (r : ℕ) (p : RingPlan) (z : Ring) → slice_get plans r ≡ Some p → slice_get (slice_set rings ring y) r ≡ Some z
-      → RingAgrees p v r z) (sym is_new)
-      (each_after plans rings parties_now new ring plan y hp
-      (own_ring_put plan parties_now i a.party ring s.start s.count items x y within busy sound first fits.1
-      (λ hts. ((k.ruled.spans i a.party span within busy).alone plan hp hts).1) (agree.each_ring ring plan x hp hr) put r.taking r.queue)
-      (λ v p z apart hp' hz. other_ring_settled p parties_now i a.party span items v z within busy apart (agree.each_ring v p z hp' hz)))))
+  unchanged : (new_places : List Place) → NothingSettled m n x y places new_places → BothAgree new_places a
+  unchanged new_places nothing = (spans nothing.0 nothing.1, entries nothing)
     where
+      entries : NothingSettled m n x y places new_places
+          → EntriesAgree pool (slice_set rings ring y) new_places (slice_set members i n) (slice_set actors i a)
+      entries same =
+          subst (λ (v : List Place). EntriesAgree pool (slice_set rings ring y) v (slice_set members i n) (slice_set actors i a)) (sym same.2)
+          (subst (λ (v : List Ring). EntriesAgree pool v places (slice_set members i n) (slice_set actors i a))
+          (sym (ap (slice_set rings ring) same.1 ∙ set_same rings ring x hr))
+          (subst (λ (v : List Member). EntriesAgree pool rings places v (slice_set actors i a)) (sym (ap (slice_set members i) same.0 ∙ set_same members i m hm))
+          (subst (λ (v : List Actor). EntriesAgree pool rings places members v) (sym (set_same actors i a ha)) e)))
+
+      spans : n ≡ m → y ≡ x → SpansAgree plans (slice_set rings ring y) (slice_set members i n) (slice_set actors i a)
+      spans same_m same_x =
+          lift plans rings (slice_set rings ring y) members actors i a n agree lt (subst (λ (v : Member). MemberAgrees a v) (sym same_m) h)
+          (length-set rings ring y ∙ agree.ring_count)
+          (subst (λ (v : List (Party Item)). (r : ℕ) (p : RingPlan) (z : Ring) → slice_get plans r ≡ Some p → slice_get (slice_set rings ring y) r ≡ Some z
+          → RingAgrees p v r z) (sym (parties_unchanged actors i a a lt (sym (ap (λ (v : Actor). v.party) (at a)))))
+          (each_after plans rings parties_now parties_now ring plan y hp
+          (subst (λ (v : Ring). RingAgrees plan parties_now ring v) (sym same_x) (agree.each_ring ring plan x hp hr))
+          (λ r p z apart hp' hz. agree.each_ring r p z hp' hz)))
+
+  pub put_agrees : (items : List Item) (reply : Reply) (new_places : List Place) → reply ≡ put_reply plan ring parties_now a items a.party.span
+      → PutResult plan ring m n x y places new_places items reply
+      → BothAgree new_places (after_settle_put a items reply)
+  put_agrees items (Done c its) new_places answer r =
+      subst (λ (v : Option Span). BothAgree new_places record { party = settled_span a.party v items; observed = a.observed; cached = a.cached })
+      (sym is_busy) (
+        lift plans rings (slice_set rings ring y) members actors i b n agree lt
+            (member_settled a m n span items h did.member) (length-set rings ring y ∙ agree.ring_count)
+            (subst (λ (v : List (Party Item)). (r : ℕ) (p : RingPlan) (z : Ring) → slice_get plans r ≡ Some p → slice_get (slice_set rings ring y) r ≡ Some z
+            → RingAgrees p v r z) (sym is_new)
+            (each_after plans rings parties_now new ring plan y hp
+            (own_ring_put plan parties_now i a.party ring s.start s.count items x y within busy sound first fits.1
+            (λ hts. ((k.ruled.spans i a.party span within busy).alone plan hp hts).1) agrees put did.taking (did.queue room) did.capacity)
+            (λ v p z apart hp' hz. other_ring_settled p parties_now i a.party span items v z within busy apart (agree.each_ring v p z hp' hz)))),
+        entries,
+      )
+    where
+      did : IsPublished plan ring m n x y places new_places items
+      did = r.done refl
+
+      agrees : RingAgrees plan parties_now ring x
+      agrees = agree.each_ring ring plan x hp hr
+
       tells : (s : Span) × (a.party.span ≡ Some s) × (is_on s.ring s.side ring Put ≡ true) × (is_bad_settle plan.put (length items) s.count ≡ false)
           × (may_put plan.free a items ≡ true) × (earlier_open ring Put s.start parties_now ≡ false)
-      tells = put_done_tells plan ring parties_now a items a.party.span c its (sym e)
+      tells = put_done_tells plan ring parties_now a items a.party.span c its (sym answer)
 
       s : Span
       s = tells.0
@@ -543,7 +518,23 @@ module _ (plans : List RingPlan) (pool : ℕ) (rings : List Ring) (members : Lis
       ends = ap (λ (v : Option Span). end_at v (length items)) (h.span ∙ is_busy)
 
       put : y.put ≡ words_moved_to plan.put x.put (s.start + length items)
-      put = r.put (omega (arith, ends, fits.0, own, (k.ruled.sides ring Put plan hp).last)) ∙ ap (words_moved_to plan.put x.put) ends
+      put = did.put (omega (arith, ends, fits.0, own, (k.ruled.sides ring Put plan hp).last)) ∙ ap (words_moved_to plan.put x.put) ends
+
+      -- the row of slots has room
+      room : length x.queue.items + length items ≤ x.queue.capacity
+      room =
+          omega (
+            arith,
+            agrees.capacity,
+            ap length agrees.queue,
+            length-drop (side_of parties_now ring Take).len (listed (side_of parties_now ring Put)),
+            length-listed (side_of parties_now ring Put) sound.published,
+            takes_le_puts plan.geometry (side_of parties_now ring Put) (side_of parties_now ring Take) sound,
+            k.ruled.room ring plan hp,
+            own,
+            first,
+            fits.0,
+          )
 
       b : Actor
       b = record { party = with_settled a.party span items; observed = a.observed; cached = a.cached }
@@ -553,29 +544,76 @@ module _ (plans : List RingPlan) (pool : ℕ) (rings : List Ring) (members : Lis
 
       is_new : parties_of (slice_set actors i b) ≡ new
       is_new = parties_set actors i b ∙ ap (λ (v : Party Item). slice_set parties_now i (with_settled v span items)) (sym stands)
-  put_agrees items _ e r =
-      unchanged record { buffers = r.buffers; cached = r.member.cached; observed = r.member.observed; span = r.member.span } (r.refused refl) r.taking r.queue
 
-  pub take_agrees : (count : ℕ) (reply : Reply) → reply ≡ take_reply plan ring parties_now count a.party.span → TakeResult plan m n x y count reply
-      → ListsAgree plans (slice_set rings ring y) (slice_set members i n) (slice_set actors i (after_settle_take a reply))
-  take_agrees count (Done c items) e r =
-      subst (λ (v : Option Span). ListsAgree plans (slice_set rings ring y) (slice_set members i n)
-      (slice_set actors i record { party = settled_span a.party v items; observed = a.observed; cached = a.cached })) (sym is_busy)
-      (lift plans rings (slice_set rings ring y) members actors i b n agree lt
-      (member_take a m n span items (Done c items) h refl refl r.member got
-      (λ v. subst (λ (w : Party Item). moved tags Put v w ≤ occurrences v w.given + moved tags Take v w) stands
-      (k.sound.buffers.never_below_none i a.party v within)))
-      (length-set rings ring y ∙ agree.ring_count)
-      (subst (λ (v : List (Party Item)). (r : ℕ) (p : RingPlan) (z : Ring) → slice_get plans r ≡ Some p → slice_get (slice_set rings ring y) r ≡ Some z
-      → RingAgrees p v r z) (sym is_new)
-      (each_after plans rings parties_now new ring plan y hp
-      (own_ring_take plan parties_now i a.party ring s.start s.count items x y within busy sound first (λ multi. many ∙ fits.1 multi)
-      (λ hts. ((k.ruled.spans i a.party span within busy).alone plan hp hts).1) agrees taking r.put (r.queue ∙ ap (λ v. drop v x.queue.items) (sym many)))
-      (λ v p z apart hp' hz. other_ring_settled p parties_now i a.party span items v z within busy apart (agree.each_ring v p z hp' hz)))))
+      numbers : List ℕ
+      numbers = flat_map tags items
+
+      mine : (list_all (is_held a) numbers ≡ true) × (list_all (λ v. occurrences v numbers == 1) numbers ≡ true)
+      mine =
+          let parts =
+          and_true (list_all (is_held a) numbers && list_all (λ v. occurrences v numbers == 1) numbers)
+          (not plan.free || list_all (λ v. length (tags v) == 1) items) tells.4 in
+          and_true (list_all (is_held a) numbers) (list_all (λ v. occurrences v numbers == 1) numbers) parts.0
+
+      once : (v : ℕ) → occurrences v numbers ≤ 1
+      once v = elim (below_or_not 0 (occurrences v numbers)) [
+        | inr none ↦ omega (arith, none)
+        | inl some ↦ is_one (occurrences v numbers) (passes (λ w. occurrences w numbers == 1) numbers v mine.1 some)
+      ]
+        where
+          is_one : (t : ℕ) → (t == 1) ≡ true → t ≤ 1
+          is_one t one = let is : t ≡ 1 = grind (arith, nat_tests) in omega (arith, is)
+
+      starts : x.take.tail + length x.queue.items ≡ s.start
+      starts =
+          omega (
+            arith,
+            agrees.take.tail,
+            ap length agrees.queue,
+            length-drop (side_of parties_now ring Take).len (listed (side_of parties_now ring Put)),
+            length-listed (side_of parties_now ring Put) sound.published,
+            takes_le_puts plan.geometry (side_of parties_now ring Put) (side_of parties_now ring Take) sound,
+            first,
+          )
+
+      is_new_places : new_places ≡ with_items_at places ring s.start items
+      is_new_places =
+          did.places (omega (arith, ends, fits.0, own, (k.ruled.sides ring Put plan hp).last))
+          ∙ ap (λ v. with_items_at places ring v items) (ap start_at (h.span ∙ is_busy))
+
+      entries : EntriesAgree pool (slice_set rings ring y) new_places (slice_set members i n) (slice_set actors i b)
+      entries =
+          subst (λ (v : List Place). EntriesAgree pool (slice_set rings ring y) v (slice_set members i n) (slice_set actors i b)) (sym is_new_places)
+          (entries_put pool rings places members actors i a b m n ring x y e ha hm hr small did.member.number refl s.start items
+          (λ v some. held_at_is pool places i a m hand v ∙ passes (is_held a) numbers v mine.0 some) once starts did.taking (did.queue room) did.counted
+          (λ v. left_after_put a span items v refl ∙ ap (λ w. holds tags v a.party - w) (times_in_is tags v items)))
+  put_agrees items _ new_places answer r = unchanged new_places (r.refused refl)
+
+  pub take_agrees : (count : ℕ) (reply : Reply) (new_places : List Place) → reply ≡ take_reply plan ring parties_now count a.party.span
+      → TakeResult plan m n x y places new_places count reply
+      → BothAgree new_places (after_settle_take a reply)
+  take_agrees count (Done c items) new_places answer r =
+      subst (λ (v : Option Span). BothAgree new_places record { party = settled_span a.party v items; observed = a.observed; cached = a.cached })
+      (sym is_busy) (
+        lift plans rings (slice_set rings ring y) members actors i b n agree lt
+            (member_settled a m n span items h did.member)
+            (length-set rings ring y ∙ agree.ring_count)
+            (subst (λ (v : List (Party Item)). (r : ℕ) (p : RingPlan) (z : Ring) → slice_get plans r ≡ Some p → slice_get (slice_set rings ring y) r ≡ Some z
+            → RingAgrees p v r z) (sym is_new)
+            (each_after plans rings parties_now new ring plan y hp
+            (own_ring_take plan parties_now i a.party ring s.start s.count items x y within busy sound first (λ multi. many ∙ fits.1 multi)
+            (λ hts. ((k.ruled.spans i a.party span within busy).alone plan hp hts).1) agrees taking did.put
+            (did.queue ∙ ap (λ v. drop v x.queue.items) (sym many)) did.capacity)
+            (λ v p z apart hp' hz. other_ring_settled p parties_now i a.party span items v z within busy apart (agree.each_ring v p z hp' hz)))),
+        entries,
+      )
     where
+      did : IsDequeued plan m n x y places new_places count
+      did = r.done refl
+
       tells : (s : Span) × (a.party.span ≡ Some s) × (is_on s.ring s.side ring Take ≡ true) × (is_bad_settle plan.take count s.count ≡ false)
           × (earlier_open ring Take s.start parties_now ≡ false) × (take count (drop s.start (listed (side_of parties_now ring Put))) ≡ items)
-      tells = take_done_tells plan ring parties_now count a.party.span c items (sym e)
+      tells = take_done_tells plan ring parties_now count a.party.span c items (sym answer)
 
       s : Span
       s = tells.0
@@ -628,14 +666,11 @@ module _ (plans : List RingPlan) (pool : ℕ) (rings : List Ring) (members : Lis
           ∙ (let e1 = length-drop s.start (listed (side_of parties_now ring Put)) in let e2 =
           length-listed (side_of parties_now ring Put) sound.published in omega (arith, there, fits.0)))
 
-      got : n.buffers.items ≡ m.buffers.items ++ flat_map tags items
-      got = r.buffers ∙ ap (λ v. m.buffers.items ++ flat_map tags v) (sym is_items)
-
       ends : end_at m.span count ≡ s.start + count
       ends = ap (λ (v : Option Span). end_at v count) (h.span ∙ is_busy)
 
       taking : y.take ≡ words_moved_to plan.take x.take (s.start + length items)
-      taking = r.taking (omega (arith, ends, fits.0, own.1, (k.ruled.sides ring Take plan hp).last))
+      taking = did.taking (omega (arith, ends, fits.0, own.1, (k.ruled.sides ring Take plan hp).last))
           ∙ ap (words_moved_to plan.take x.take) (ends ∙ ap (λ v. s.start + v) (sym many))
 
       b : Actor
@@ -646,5 +681,36 @@ module _ (plans : List RingPlan) (pool : ℕ) (rings : List Ring) (members : Lis
 
       is_new : parties_of (slice_set actors i b) ≡ new
       is_new = parties_set actors i b ∙ ap (λ (v : Party Item). slice_set parties_now i (with_settled v span items)) (sym stands)
-  take_agrees count _ e r =
-      unchanged record { buffers = r.buffers; cached = r.member.cached; observed = r.member.observed; span = r.member.span } r.put (r.refused refl) r.queue
+
+      -- no buffer is queued twice
+      once : (v : ℕ) → occurrences v (flat_map tags (take count x.queue.items)) ≤ 1
+      once v =
+          omega (
+            arith,
+            times_in_is tags v (take count x.queue.items),
+            sum_by-take-le (λ w. occurrences v (tags w)) x.queue.items count,
+            ap (occurrences_in tags v) agrees.queue,
+            queued_once plans pool parties_now ring plan v k.sound hp,
+          )
+
+      at_tail : y.take.tail ≡ x.take.tail + length (take count x.queue.items)
+      at_tail =
+          ap (λ (w : Words). w.tail) taking
+          ∙ (moved_tail plan.take x.take (s.start + length items)
+          ∙ (let e1 = agrees.take.tail in let e2 = ap length is_items in omega (arith, first)))
+
+      is_new_places : new_places ≡ with_each places (flat_map tags (take count x.queue.items)) (Held i)
+      is_new_places = did.places ∙ ap (λ v. with_each places (flat_map tags (take count x.queue.items)) (Held v)) hand.number
+
+      had : (v : ℕ) → moved tags Put v a.party ≤ occurrences v a.party.given + moved tags Take v a.party
+      had v =
+          subst (λ (w : Party Item). moved tags Put v w ≤ occurrences v w.given + moved tags Take v w) stands
+          (k.sound.buffers.never_below_none i a.party v within)
+
+      entries : EntriesAgree pool (slice_set rings ring y) new_places (slice_set members i n) (slice_set actors i b)
+      entries =
+          subst (λ (v : List Place). EntriesAgree pool (slice_set rings ring y) v (slice_set members i n) (slice_set actors i b)) (sym is_new_places)
+          (entries_take pool rings places members actors i a b m n ring x y e ha hm hr small did.member.number refl count once at_tail did.queue did.counted
+          (λ v. left_after_take a span items v refl (had v)
+          ∙ ap (λ w. holds tags v a.party + w) (times_in_is tags v items ∙ ap (λ w. occurrences v (flat_map tags w)) is_items)))
+  take_agrees count _ new_places answer r = unchanged new_places (r.refused refl)

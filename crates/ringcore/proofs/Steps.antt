@@ -25,19 +25,19 @@ use Rattle.ringcore_laws.proofs.HistoryLaws.{parties_set, parties_at, parties_le
 use Rattle.ringcore.specs.declared.ring.Words.{Words}
 use Rattle.ringcore.specs.declared.ring.Ring.{Ring}
 use Rattle.ringcore.specs.declared.member.Member.{Member}
-use Rattle.ringcore.specs.Agree.{WordsAgree, MemberAgrees, RingAgrees, ListsAgree}
+use Rattle.ringcore.specs.Agree.{WordsAgree, MemberAgrees, RingAgrees, SpansAgree}
 use Rattle.ringcore.specs.Changes.{member_looked, member_asked, member_tried, ring_tried, words_after}
 
 -- 1. the actor that steps
 
 pub looked_agrees : (a : Actor) (m : Member) (ring : ℕ) (side : Side) (r : Reply) → MemberAgrees a m
     → MemberAgrees (after_look a ring side r) (member_looked m ring side r)
-looked_agrees a m ring side (Seen word) h = record { span = h.span; observed = refl; buffers = h.buffers; cached = h.cached }
-looked_agrees a m ring side (Busy word) h = record { span = h.span; observed = refl; buffers = h.buffers; cached = h.cached }
+looked_agrees a m ring side (Seen word) h = record { span = h.span; observed = refl }
+looked_agrees a m ring side (Busy word) h = record { span = h.span; observed = refl }
 looked_agrees a m ring side _ h = h
 
 pub asked_agrees : (a : Actor) (m : Member) (r : Reply) → MemberAgrees a m → MemberAgrees (after_room a r) (member_asked m r)
-asked_agrees a m (Seen tail) h = record { span = h.span; observed = ap (λ v. with_tail v tail) h.observed; buffers = h.buffers; cached = h.cached }
+asked_agrees a m (Seen tail) h = record { span = h.span; observed = ap (λ v. with_tail v tail) h.observed }
 asked_agrees a m _ h = h
 
 pub reserving_holds : (party : Party Item) (span : Span) (b : ℕ) → holds tags b (with_open party span) ≡ holds tags b party
@@ -47,23 +47,16 @@ reserving_holds party span b = refl
 pub tried_agrees : (a : Actor) (m : Member) (ring : ℕ) (side : Side) (r : Reply) → MemberAgrees a m
     → MemberAgrees (after_reserve a ring side r) (member_tried m ring side r)
 tried_agrees a m ring side NoSpan h = h
-tried_agrees a m ring side (Granted start count left) h =
-    record {
-      span = refl;
-      observed = refl;
-      buffers =
-          λ b. h.buffers b ∙ sym (reserving_holds a.party record { ring = ring; side = side; start = start; count = count } b);
-      cached = h.cached;
-    }
-tried_agrees a m ring side _ h = record { span = h.span; observed = refl; buffers = h.buffers; cached = h.cached }
+tried_agrees a m ring side (Granted start count left) h = record { span = refl; observed = refl }
+tried_agrees a m ring side _ h = record { span = h.span; observed = refl }
 
 -- 2. all lists, where one actor and the rings changed
 
 pub lift : (plans : List RingPlan) (rings new : List Ring) (members : List Member) (actors : List Actor) (i : ℕ) (a : Actor) (m : Member)
-    → ListsAgree plans rings members actors → i < length actors → MemberAgrees a m → length new ≡ length plans
+    → SpansAgree plans rings members actors → i < length actors → MemberAgrees a m → length new ≡ length plans
     → ((r : ℕ) (plan : RingPlan) (ring : Ring) → slice_get plans r ≡ Some plan → slice_get new r ≡ Some ring
     → RingAgrees plan (parties_of (slice_set actors i a)) r ring)
-    → ListsAgree plans new (slice_set members i m) (slice_set actors i a)
+    → SpansAgree plans new (slice_set members i m) (slice_set actors i a)
 lift plans rings new members actors i a m h lt own count ok = record {
   member_count = length-set members i m ∙ (h.member_count ∙ sym (length-set actors i a));
   ring_count = count;
@@ -84,8 +77,8 @@ lift plans rings new members actors i a m h lt own count ok = record {
 
 -- an actor whose spans and buffers stay leaves the rings as they are
 pub lift_same : (plans : List RingPlan) (rings : List Ring) (members : List Member) (actors : List Actor) (i : ℕ) (d a : Actor) (m : Member)
-    → ListsAgree plans rings members actors → i < length actors → MemberAgrees a m → a.party ≡ (slice_index_or actors i d).party
-    → ListsAgree plans rings (slice_set members i m) (slice_set actors i a)
+    → SpansAgree plans rings members actors → i < length actors → MemberAgrees a m → a.party ≡ (slice_index_or actors i d).party
+    → SpansAgree plans rings (slice_set members i m) (slice_set actors i a)
 lift_same plans rings members actors i d a m h lt own same =
     lift plans rings rings members actors i a m h lt own h.ring_count
     (λ r plan ring hp hr. subst (λ (v : List (Party Item)). RingAgrees plan v r ring) (sym (parties_unchanged actors i d a lt same))
@@ -133,6 +126,7 @@ ring_reserved_agrees plan parties i d ring Put start count left x lt idle next h
           (reserves parties i d span ring Take lt idle) h.take;
       queue = h.queue ∙ sym (same_queue tags parties (reserved_by parties i d span) ring (λ s. (reserves parties i d span ring s lt idle).items_at)
           (λ s. (reserves parties i d span ring s lt idle).len));
+      capacity = h.capacity;
     }
 ring_reserved_agrees plan parties i d ring Take start count left x lt idle next h =
     let span : Span = record { ring = ring; side = Take; start = start; count = count } in
@@ -143,6 +137,7 @@ ring_reserved_agrees plan parties i d ring Take start count left x lt idle next 
           (on_own ring Take) (reserves parties i d span ring Take lt idle) next h.take;
       queue = h.queue ∙ sym (same_queue tags parties (reserved_by parties i d span) ring (λ s. (reserves parties i d span ring s lt idle).items_at)
           (λ s. (reserves parties i d span ring s lt idle).len));
+      capacity = h.capacity;
     }
 
 -- a ring that the span isn't on
@@ -156,16 +151,17 @@ other_ring_agrees plan parties i d span r x lt idle apart h = record {
       (off_ring span.ring r span.side Take apart) (reserves parties i d span r Take lt idle) h.take;
   queue = h.queue ∙ sym (same_queue tags parties (reserved_by parties i d span) r (λ s. (reserves parties i d span r s lt idle).items_at)
       (λ s. (reserves parties i d span r s lt idle).len));
+  capacity = h.capacity;
 }
 
 -- all lists after a Reserve was answered so
 pub reserve_agrees : (plans : List RingPlan) (rings : List Ring) (members : List Member) (actors : List Actor) (i : ℕ) (a : Actor) (m : Member) (ring : ℕ)
     (side : Side) (plan : RingPlan) (x : Ring) (reply : Reply)
-    → ListsAgree plans rings members actors → i < length actors → ((d : Actor) → slice_index_or actors i d ≡ a) → MemberAgrees a m
+    → SpansAgree plans rings members actors → i < length actors → ((d : Actor) → slice_index_or actors i d ≡ a) → MemberAgrees a m
     → slice_get plans ring ≡ Some plan → slice_get rings ring ≡ Some x
     → ((start count left : ℕ) → reply ≡ Granted start count left → IsNext (mode_of plan side) (side_of (parties_of actors) ring side) start
     × (a.party.span ≡ None))
-    → ListsAgree plans (slice_set rings ring (ring_tried x side reply)) (slice_set members i (member_tried m ring side reply))
+    → SpansAgree plans (slice_set rings ring (ring_tried x side reply)) (slice_set members i (member_tried m ring side reply))
     (slice_set actors i (after_reserve a ring side reply))
 reserve_agrees plans rings members actors i a m ring side plan x (Granted start count left) h lt at own hp hr next =
     lift plans rings (slice_set rings ring (ring_tried x side (Granted start count left))) members actors i b
@@ -209,12 +205,12 @@ reserve_agrees plans rings members actors i a m ring side plan x (Granted start 
     is_new : parties_of (slice_set actors i b) ≡ new
     is_new = parties_set actors i b ∙ ap (λ (v : Party Item). slice_set parties i (with_open v span)) (sym here)
 reserve_agrees plans rings members actors i a m ring Put plan x reply h lt at own hp hr next =
-    subst (λ (v : List Ring). ListsAgree plans v (slice_set members i (member_tried m ring Put reply)) (slice_set actors i (after_reserve a ring Put reply)))
+    subst (λ (v : List Ring). SpansAgree plans v (slice_set members i (member_tried m ring Put reply)) (slice_set actors i (after_reserve a ring Put reply)))
     (sym (set_same rings ring x hr))
     (lift_same plans rings members actors i a (after_reserve a ring Put reply) (member_tried m ring Put reply) h lt (tried_agrees a m ring Put reply own)
     (sym (ap (λ (v : Actor). v.party) (at a))))
 reserve_agrees plans rings members actors i a m ring Take plan x reply h lt at own hp hr next =
-    subst (λ (v : List Ring). ListsAgree plans v (slice_set members i (member_tried m ring Take reply)) (slice_set actors i (after_reserve a ring Take reply)))
+    subst (λ (v : List Ring). SpansAgree plans v (slice_set members i (member_tried m ring Take reply)) (slice_set actors i (after_reserve a ring Take reply)))
     (sym (set_same rings ring x hr))
     (lift_same plans rings members actors i a (after_reserve a ring Take reply) (member_tried m ring Take reply) h lt (tried_agrees a m ring Take reply own)
     (sym (ap (λ (v : Actor). v.party) (at a))))

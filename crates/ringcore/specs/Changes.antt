@@ -1,7 +1,7 @@
--- What an answered step changes of the members and rings
-use Rattle.std.specs.Prelude.{ℕ, false, ◌≡◌, ◌+◌, ◌^◌, ◌<◌, ◌==◌, not, if◌then◌else◌, List, [], ◌∷◌, ◌++◌, take, drop}
+-- What an answered step changes of the members, rings and entries
+use Rattle.std.specs.Prelude.{ℕ, true, false, ◌≡◌, ◌+◌, ◌-◌, ◌^◌, ◌<◌, ◌≤◌, List, ◌++◌, take, drop}
 use Rattle.std.specs.Prelude.{length, Option, Some, None}
-use Rattle.std.specs.List.{list_any, flat_map, filter}
+use Rattle.std.specs.List.{flat_map}
 use Rattle.geom.specs.declared.plan.Mode.{Mode}
 use Rattle.geom.specs.declared.plan.Mode.TheVariants.{Multi, Hts}
 use Rattle.geom.specs.declared.plan.Side.{Side}
@@ -9,14 +9,16 @@ use Rattle.geom.specs.declared.plan.Side.TheVariants.{Put, Take}
 use Rattle.geom.specs.declared.plan.RingPlan.{RingPlan}
 use Rattle.ringcore_laws.specs.declared.contents.Item.{Item}
 use Rattle.ringcore_laws.specs.declared.protocol.Reply.{Reply}
-use Rattle.ringcore_laws.specs.declared.protocol.Reply.TheVariants.{Granted, Seen, Busy, NoSpan, NotYours, Done}
+use Rattle.ringcore_laws.specs.declared.protocol.Reply.TheVariants.{Granted, Seen, Busy, NoSpan, Done}
 use Rattle.ringcore_laws.specs.declared.protocol.Span.{Span}
 use Rattle.ringcore_laws.specs.History.{tags, with_tail}
 use Rattle.ringcore.specs.declared.ring.Words.{Words}
 use Rattle.ringcore.specs.declared.ring.Ring.{Ring}
 use Rattle.ringcore.specs.declared.member.Member.{Member}
 use Rattle.ringcore_laws.specs.Runs.{is_done}
-use Rattle.ringcore.specs.Replies.{holds_uncached, holds_cached}
+use Rattle.ringcore_laws.specs.declared.protocol.Place.{Place}
+use Rattle.ringcore_laws.specs.declared.protocol.Place.TheVariants.{Held}
+use Rattle.ringcore.specs.Entries.{with_each, with_items_at}
 
 -- the words of one side
 abbrev pub side_words : Ring → Side → Words
@@ -54,60 +56,59 @@ abbrev pub words_moved_to : Mode → Words → ℕ → Words
 words_moved_to Multi w end = record w { tail = end }
 words_moved_to Hts w end = record w { head = end; tail = end }
 
+abbrev pub start_at : Option Span → ℕ
+start_at None = 0
+start_at (Some s) = s.start
+
 abbrev pub end_at : Option Span → ℕ → ℕ
 end_at None count = count
 end_at (Some s) count = s.start + count
-
-abbrev pub words_settled : Mode → Words → Option Span → ℕ → Reply → Words
-words_settled mode w span count reply = if is_done reply then words_moved_to mode w (end_at span count) else w
-
-abbrev pub span_settled : Option Span → Reply → Option Span
-span_settled span reply = if is_done reply then None else span
 
 -- a Done with these items in place of its own
 abbrev pub with_items : Reply → List Item → Reply
 with_items (Done count none) items = Done count items
 with_items r items = r
 
--- what nothing did to a member but a settle of its span, which changed its buffers
-pub record MemberSettled (old new : Member) (reply : Reply) : Type 0 where
-  pub cached : new.cached.items ≡ old.cached.items
-  pub observed : new.observed ≡ old.observed
-  pub span : new.span ≡ span_settled old.span reply
+-- what an answer that isn't Done does to a member, a ring and the entries
+abbrev pub NothingSettled : (m n : Member) (x y : Ring) (old new : List Place) → Type 0
+NothingSettled m n x y old new = (n ≡ m) × (y ≡ x) × (new ≡ old)
 
--- what a settle of a put did: the reply is told apart
-pub record PutResult (plan : RingPlan) (m n : Member) (x y : Ring) (items : List Item) (reply : Reply) : Type 0 where
-  pub queue : y.queue.items ≡ (if is_done reply then x.queue.items ++ items else x.queue.items)
-  pub put : end_at m.span (length items) < 2 ^ 64 → y.put ≡ words_settled plan.put x.put m.span (length items) reply
-  pub refused : is_done reply ≡ false → y.put ≡ x.put
+-- a member after its span was settled, but for the count of its buffers
+pub record SpanSettled (m n : Member) : Type 0 where
+  pub number : n.number ≡ m.number
+  pub observed : n.observed ≡ m.observed
+  pub span : n.span ≡ None
+
+-- items were queued at the first positions of a put span, and it was settled
+pub record IsPublished (plan : RingPlan) (number : ℕ) (m n : Member) (x y : Ring) (old new : List Place)
+    (items : List Item) : Type 0 where
+  pub queue : length x.queue.items + length items ≤ x.queue.capacity → y.queue.items ≡ x.queue.items ++ items
+  pub capacity : y.queue.capacity ≡ x.queue.capacity
+  pub put : end_at m.span (length items) < 2 ^ 64
+      → y.put ≡ words_moved_to plan.put x.put (end_at m.span (length items))
   pub taking : y.take ≡ x.take
-  pub buffers : n.buffers.items
-      ≡ (if is_done reply then filter (λ b. not (list_any (λ c. c == b) (flat_map tags items))) m.buffers.items
-      else m.buffers.items)
-  pub member : MemberSettled m n reply
+  pub places : end_at m.span (length items) < 2 ^ 64 → new ≡ with_items_at old number (start_at m.span) items
+  pub counted : length (flat_map tags items) < 2 ^ 64 → n.count ≡ m.count - length (flat_map tags items)
+  pub member : SpanSettled m n
 
-pub record TakeResult (plan : RingPlan) (m n : Member) (x y : Ring) (count : ℕ) (reply : Reply) : Type 0 where
-  pub queue : y.queue.items ≡ (if is_done reply then drop count x.queue.items else x.queue.items)
-  pub taking : end_at m.span count < 2 ^ 64 → y.take ≡ words_settled plan.take x.take m.span count reply
-  pub refused : is_done reply ≡ false → y.take ≡ x.take
+-- so many items were dequeued at the first positions of a take span, and it was settled
+pub record IsDequeued (plan : RingPlan) (m n : Member) (x y : Ring) (old new : List Place) (count : ℕ) : Type 0 where
+  pub queue : y.queue.items ≡ drop count x.queue.items
+  pub capacity : y.queue.capacity ≡ x.queue.capacity
+  pub taking : end_at m.span count < 2 ^ 64 → y.take ≡ words_moved_to plan.take x.take (end_at m.span count)
   pub put : y.put ≡ x.put
-  pub buffers : n.buffers.items ≡ (if is_done reply then m.buffers.items ++ flat_map tags (take count x.queue.items)
-      else m.buffers.items)
-  pub member : MemberSettled m n reply
+  pub places : new ≡ with_each old (flat_map tags (take count x.queue.items)) (Held m.number)
+  pub counted : m.count + length (flat_map tags (take count x.queue.items)) < 2 ^ 64
+      → n.count ≡ m.count + length (flat_map tags (take count x.queue.items))
+  pub member : SpanSettled m n
 
-pub record StashResult (m n : Member) (b : ℕ) (reply : Reply) : Type 0 where
-  pub reply_is : reply ≡ (if holds_uncached m.buffers.items m.cached.items b then Seen b else NotYours)
-  pub cached : n.cached.items ≡ (if holds_uncached m.buffers.items m.cached.items b then m.cached.items ++ b ∷ []
-      else m.cached.items)
-  pub buffers : n.buffers.items ≡ m.buffers.items
-  pub span : n.span ≡ m.span
-  pub observed : n.observed ≡ m.observed
+-- what a settle did: the reply is told apart
+pub record PutResult (plan : RingPlan) (number : ℕ) (m n : Member) (x y : Ring) (old new : List Place)
+    (items : List Item) (reply : Reply) : Type 0 where
+  pub refused : is_done reply ≡ false → NothingSettled m n x y old new
+  pub done : is_done reply ≡ true → IsPublished plan number m n x y old new items
 
-pub record UnstashResult (m n : Member) (b : ℕ) (reply : Reply) : Type 0 where
-  pub reply_is : reply ≡ (if holds_cached m.buffers.items m.cached.items b then Seen b else NotYours)
-  pub cached : n.cached.items
-      ≡ (if holds_cached m.buffers.items m.cached.items b then filter (λ c. not (c == b)) m.cached.items
-      else m.cached.items)
-  pub buffers : n.buffers.items ≡ m.buffers.items
-  pub span : n.span ≡ m.span
-  pub observed : n.observed ≡ m.observed
+pub record TakeResult (plan : RingPlan) (m n : Member) (x y : Ring) (old new : List Place) (count : ℕ)
+    (reply : Reply) : Type 0 where
+  pub refused : is_done reply ≡ false → NothingSettled m n x y old new
+  pub done : is_done reply ≡ true → IsDequeued plan m n x y old new count

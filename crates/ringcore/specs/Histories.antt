@@ -8,7 +8,6 @@ use Rattle.ringcore.specs.declared.plan.WorldPlan.{WorldPlan}
 use Rattle.ringcore.specs.declared.world.World.{World}
 use Rattle.ringcore.specs.Agree.{ListsAgree}
 use Rattle.ringcore.specs.Runs.{IsOnRing}
-use Rattle.ringcore.specs.Same.{AreSame}
 use Rattle.ringcore.specs.Runs.{ExistAll}
 use Rattle.ringcore_laws.specs.declared.protocol.Step.{Step}
 
@@ -46,10 +45,10 @@ pub record IsRight (h : History) : Type 0 where
   pub one_span : OneSpanEach (opening_of h) h.events
   pub room : PutsFindRoom h.plans h.events
 
--- the world's queued items, lengths, spans, looks and buffers are those that the history gives
+-- the world's queued items, lengths, spans, looks and places of buffers are those that the history gives
 pub record AgreesWith (w : World) (h : History) : Type 0 where
   pub plans : w.plans.items ≡ h.plans
-  pub lists : ListsAgree h.plans w.rings.items w.members.items (actors_of h)
+  pub lists : ListsAgree h.plans (pool_size h) w.rings.items w.places.items w.members.items (actors_of h)
 
 -- the world has the actor and the ring of a step
 abbrev pub StepExists : World → ℕ → Step → Type 0
@@ -63,10 +62,11 @@ StepsExist w entries = ExistAll (vec_len w.members) (vec_len w.rings) (vec_len w
 abbrev pub IsPlanned : History → ℕ → Step → Type 0
 IsPlanned h actor step = (actor < h.actors) × IsOnRing (length h.plans) step
 
--- worlds that agree with the same histories: plans and lists are the same
+-- worlds that keep the same
 abbrev pub IsUnchanged : World → World → Type 0
 IsUnchanged old new =
-    (new.plans.items ≡ old.plans.items) × AreSame old.rings.items new.rings.items old.members.items new.members.items
+    (new.plans.items ≡ old.plans.items) × (new.rings.items ≡ old.rings.items)
+    × (new.places.items ≡ old.places.items) × (new.members.items ≡ old.members.items)
 
 -- the new world is what the old one's history, followed by a beginning of the list, leaves
 abbrev pub LeavesBeginning : World → World → List (ℕ × Step) → Type 0

@@ -1,10 +1,9 @@
 pub mod Agree
 pub mod Changes
+pub mod Entries
 pub mod Fifo
 pub mod Histories
 pub mod Opening
-pub mod Places
 pub mod Replies
 pub mod Runs
-pub mod Same
 pub mod Stepping

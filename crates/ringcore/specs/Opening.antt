@@ -1,5 +1,6 @@
 -- A plan that may be opened, part by part, and what stands right after
 use Rattle.std.specs.Prelude.{ℕ, ◌≡◌, ◌<◌, ◌≤◌, List, [], length, slice_index_or, None}
+use Rattle.geom.specs.declared.plan.RingPlan.{RingPlan}
 use Rattle.ringcore_laws.specs.History.{buffers_given}
 use Rattle.ringcore.specs.declared.ring.Ring.{Ring}
 use Rattle.ringcore.specs.declared.member.Member.{Member}
@@ -12,17 +13,22 @@ pub record AreFew (rings actors buffers : ℕ) : Type 0 where
   pub few_buffers : buffers ≤ 65536
 
 -- a ring of which nothing is reserved
-pub record IsFresh (ring : Ring) : Type 0 where
+pub record IsFresh (plan : RingPlan) (ring : Ring) : Type 0 where
   pub put_head : ring.put.head ≡ 0
   pub put_tail : ring.put.tail ≡ 0
   pub take_head : ring.take.head ≡ 0
   pub take_tail : ring.take.tail ≡ 0
   pub queue : ring.queue.items ≡ []
+  pub capacity : ring.queue.capacity ≡ plan.geometry.capacity
+
+pub record AreFresh (plans : List RingPlan) (rings : List Ring) : Type 0 where
+  pub each : (r : ℕ) (p : RingPlan) (x : Ring) → r < length rings
+      → IsFresh (slice_index_or plans r p) (slice_index_or rings r x)
 
 -- an actor that only was given buffers
 pub record IsGiven (gifts : List ℕ) (i : ℕ) (m : Member) : Type 0 where
-  pub buffers : m.buffers.items ≡ buffers_given gifts i
-  pub cached : m.cached.items ≡ []
+  pub number : m.number ≡ i
+  pub count : m.count ≡ length (buffers_given gifts i)
   pub span : m.span ≡ None
   pub observed : m.observed ≡ None
 

@@ -7,6 +7,7 @@ use Rattle.ringcore_laws.specs.declared.protocol.Step.TheVariants.{Unstash}
 use Rattle.ringcore_laws.specs.declared.protocol.Reply.{Reply}
 use Rattle.ringcore_laws.specs.Invariant.{Invariant}
 use Rattle.ringcore_laws.specs.History.{Actor, Event, IsRun, after_all}
+use Rattle.ringcore_laws.specs.declared.protocol.Place.{Place}
 use Rattle.ringcore.specs.declared.ring.Ring.{Ring}
 use Rattle.ringcore.specs.declared.member.Member.{Member}
 use Rattle.ringcore.specs.Agree.{ListsAgree}
@@ -36,10 +37,11 @@ events_of (e ∷ entries) (reply ∷ replies) =
 
 -- from these actors on, the entries but for the rest were answered so, and the lists agree with what they leave
 pub record RunsTo (plans : List RingPlan) (pool : ℕ) (actors : List Actor) (entries : List (ℕ × Step))
-    (replies : List Reply) (rest : List (ℕ × Step)) (rings : List Ring) (members : List Member) : Type 0 where
+    (replies : List Reply) (rest : List (ℕ × Step)) (rings : List Ring) (places : List Place)
+    (members : List Member) : Type 0 where
   pub done : List (ℕ × Step)
   pub split : done ++ rest ≡ entries
   pub count : length replies ≡ length done
   pub right : IsRun plans pool actors (events_of done replies)
   pub kept : Invariant plans pool (after_all actors (events_of done replies))
-  pub agree : ListsAgree plans rings members (after_all actors (events_of done replies))
+  pub agree : ListsAgree plans pool rings places members (after_all actors (events_of done replies))

@@ -24,6 +24,12 @@ SamePlans old new = new.plans.items ≡ old.plans.items
 abbrev pub SameRings : World → World → Type 0
 SameRings old new = (new.rings.items ≡ old.rings.items) × SamePlans old new
 
+abbrev pub SameMembers : World → World → Type 0
+SameMembers old new = new.members.items ≡ old.members.items
+
+abbrev pub SamePlaces : World → World → Type 0
+SamePlaces old new = new.places.items ≡ old.places.items
+
 -- what holds of the actor of this number, of the ring of this number, of both and the ring's plan
 abbrev pub MemberAt : World → ℕ → (Member → Type 0) → Type 0
 MemberAt w actor P = (m : Member) → slice_get w.members.items actor ≡ Some m → P m
@@ -52,22 +58,22 @@ BothSet old new actor ring P = (n : Member) × (y : Ring) × SetMember old new a
 abbrev pub Answers : World → World → ℕ → Step → Reply → Type 0
 Answers old new actor step reply =
     (pool : ℕ) (actors : List Actor) → AllFit old.plans.items pool → Invariant old.plans.items pool actors
-    → ListsAgree old.plans.items old.rings.items old.members.items actors
+    → ListsAgree old.plans.items pool old.rings.items old.places.items old.members.items actors
     → (reply ≡ reply_to old.plans.items pool actors actor step)
-    × ListsAgree old.plans.items new.rings.items new.members.items
+    × ListsAgree old.plans.items pool new.rings.items new.places.items new.members.items
     (after actors record { actor = actor; step = step; reply = reply })
 
 -- the same of entries that were answered so, but for the rest
 abbrev pub AnswersAll : World → World → List (ℕ × Step) → List Reply → List (ℕ × Step) → Type 0
 AnswersAll old new entries replies rest =
     (pool : ℕ) (actors : List Actor) → AllFit old.plans.items pool → Invariant old.plans.items pool actors
-    → ListsAgree old.plans.items old.rings.items old.members.items actors
-    → RunsTo old.plans.items pool actors entries replies rest new.rings.items new.members.items
+    → ListsAgree old.plans.items pool old.rings.items old.places.items old.members.items actors
+    → RunsTo old.plans.items pool actors entries replies rest new.rings.items new.places.items new.members.items
 
 -- the same of some beginning
 abbrev pub AnswersSome : World → World → List (ℕ × Step) → Type 0
 AnswersSome old new entries =
     (pool : ℕ) (actors : List Actor) → AllFit old.plans.items pool → Invariant old.plans.items pool actors
-    → ListsAgree old.plans.items old.rings.items old.members.items actors
+    → ListsAgree old.plans.items pool old.rings.items old.places.items old.members.items actors
     → (replies : List Reply) × (rest : List (ℕ × Step))
-    × RunsTo old.plans.items pool actors entries replies rest new.rings.items new.members.items
+    × RunsTo old.plans.items pool actors entries replies rest new.rings.items new.places.items new.members.items

@@ -1,34 +1,39 @@
 //! The local steps, which touch no word: a buffer is marked as cached, or as held again.
 
-ghost use Rattle.std.specs.Prelude.{IfOk, OnErr};
-ghost use Rattle.ringcore.specs.Changes.{StashResult, UnstashResult};
-ghost use Rattle.ringcore.specs.Same.{IsSame};
+ghost use Rattle.std.specs.Prelude.{◌≡◌, if◌then◌else◌, slice_set};
+ghost use Rattle.ringcore_laws.specs.declared.protocol.Place.TheVariants.{Held, Cached};
+ghost use Rattle.ringcore_laws.specs.declared.protocol.Reply.TheVariants.{Seen, NotYours};
+ghost use Rattle.ringcore.specs.Entries.{entry, is_cached_at, is_held_at};
 
-use crate::member::{Member, contains, occurrences, without_one};
-use ringcore_laws::Reply;
-use std::alloc::{AllocError, Global};
+use crate::places::{cached, place_at, set_place, uncached};
+use ringcore_laws::{Place, Reply};
 
-/// Marks a held buffer as cached. Takes memory for the mark.
-pub fn stash(member: &mut Member, b: u64) -> Result<Reply, AllocError>
-    ensures settled { IfOk result (λ r. StashResult member.old member.new b r) }
-    ensures memory { OnErr result (IsSame member.old member.new) }
+/// Marks a held buffer as cached.
+pub fn stash(places: &mut [Place], actor: usize, b: u64) -> Reply
+    ensures reply { result ≡ (if is_held_at actor (entry places.old b) then Seen b else NotYours) }
+    ensures after { places.new
+        ≡ (if is_held_at actor (entry places.old b) then slice_set places.old b (Cached actor) else places.old) }
 {
-    if !member.is_held(b) {
-        return Ok(Reply::NotYours);
+    match cached(place_at(places, b), actor) {
+        Some(place) => {
+            set_place(places, b, place);
+            Reply::Seen(b)
+        }
+        None => Reply::NotYours,
     }
-    member.cached.push(b)?;
-    Ok(Reply::Seen(b))
 }
 
-/// Marks a cached buffer as held again. Takes memory for the marks that are left.
-pub fn unstash(alloc: Global, member: &mut Member, b: u64) -> Result<Reply, AllocError>
-    ensures settled { IfOk result (λ r. UnstashResult member.old member.new b r) }
-    ensures memory { OnErr result (IsSame member.old member.new) }
+/// Marks a cached buffer as held again.
+pub fn unstash(places: &mut [Place], actor: usize, b: u64) -> Reply
+    ensures reply { result ≡ (if is_cached_at actor (entry places.old b) then Seen b else NotYours) }
+    ensures after { places.new
+        ≡ (if is_cached_at actor (entry places.old b) then slice_set places.old b (Held actor) else places.old) }
 {
-    if occurrences(&member.buffers, b) == 1 && contains(&member.cached, b) {
-        let kept = without_one(alloc, &member.cached, b)?;
-        member.cached = kept;
-        return Ok(Reply::Seen(b));
+    match uncached(place_at(places, b), actor) {
+        Some(place) => {
+            set_place(places, b, place);
+            Reply::Seen(b)
+        }
+        None => Reply::NotYours,
     }
-    Ok(Reply::NotYours)
 }

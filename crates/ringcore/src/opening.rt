@@ -1,31 +1,35 @@
 //! What a world has at its opening.
 
-ghost use Rattle.std.specs.Prelude.{◌≡◌, ◌<◌, vec_len, length, IfOk};
-ghost use Rattle.std.specs.List.{All};
+ghost use Rattle.std.specs.Prelude.{◌≡◌, length, map, IfOk};
 ghost use Rattle.ringcore_laws.specs.History.{buffers_given};
-ghost use Rattle.ringcore.specs.Opening.{AreGiven, IsFresh};
+ghost use Rattle.ringcore_laws.specs.declared.protocol.Place.TheVariants.{Held};
+ghost use Rattle.ringcore.specs.Opening.{AreFresh, AreGiven};
 
 use crate::member::Member;
+use crate::one_ring::OneRing;
 use crate::ring::{Ring, Words};
+use geom::RingPlan;
+use ringcore_laws::Place;
 use std::alloc::{AllocError, Global};
 
-/// Empty rings.
-pub fn fresh_rings(alloc: Global, many: usize) -> Result<Vec<Ring>, AllocError>
-    ensures count { IfOk result (λ rings. length rings.items ≡ many) }
-    ensures fresh { IfOk result (λ rings. All IsFresh rings.items) }
+/// An empty ring for each plan.
+pub fn fresh_rings(alloc: Global, plans: &[RingPlan]) -> Result<Vec<Ring>, AllocError>
+    ensures count { IfOk result (λ rings. length rings.items ≡ length plans.now) }
+    ensures fresh { IfOk result (λ rings. AreFresh plans.now rings.items) }
 {
     let mut rings = Vec::new(alloc);
-    for _ in 0..many {
+    for k in 0..plans.len() {
+        let queue = OneRing::new(alloc, plans[k].geometry)?;
         rings.push(Ring {
             put: Words { head: 0, tail: 0 },
             take: Words { head: 0, tail: 0 },
-            queue: Vec::new(alloc),
+            queue,
         })?;
     }
     Ok(rings)
 }
 
-/// Actors that have the buffers whose gifts name them.
+/// The actors, with so many buffers as gifts name them.
 pub fn given_members(
     alloc: Global,
     actors: usize,
@@ -36,10 +40,10 @@ pub fn given_members(
 {
     let mut members = Vec::new(alloc);
     for actor in 0..actors {
-        let buffers = given_to(alloc, gifts, actor)?;
+        let count = given_to(gifts, actor);
         members.push(Member {
-            buffers,
-            cached: Vec::new(alloc),
+            number: actor,
+            count,
             span: None,
             observed: None,
         })?;
@@ -47,15 +51,26 @@ pub fn given_members(
     Ok(members)
 }
 
-/// The buffers whose gift names this actor.
-fn given_to(alloc: Global, gifts: &[usize], actor: usize) -> Result<Vec<u64>, AllocError>
-    ensures { IfOk result (λ buffers. buffers.items ≡ buffers_given gifts.now actor) }
+/// How many buffers' gifts name this actor.
+fn given_to(gifts: &[usize], actor: usize) -> u64
+    ensures { result ≡ length (buffers_given gifts.now actor) }
 {
-    let mut buffers = Vec::new(alloc);
+    let mut count = 0;
     for b in 0..gifts.len() {
         if gifts[b] == actor {
-            buffers.push(b as u64)?;
+            count += 1;
         }
     }
-    Ok(buffers)
+    count
+}
+
+/// Each buffer is held by the actor that its gift names.
+pub fn given_places(alloc: Global, gifts: &[usize]) -> Result<Vec<Place>, AllocError>
+    ensures { IfOk result (λ places. places.items ≡ map (λ g. Held g) gifts.now) }
+{
+    let mut places = Vec::with_capacity(alloc, gifts.len())?;
+    for b in 0..gifts.len() {
+        places.push(Place::Held(gifts[b]))?;
+    }
+    Ok(places)
 }

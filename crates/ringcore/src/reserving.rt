@@ -1,6 +1,6 @@
 //! Reservations: one compare-and-exchange of the own word.
 
-ghost use Rattle.std.specs.Prelude.{◌≡◌, is_some, vec_len, if◌then◌else◌};
+ghost use Rattle.std.specs.Prelude.{◌≡◌, is_some, if◌then◌else◌};
 ghost use Rattle.geom.specs.Plan.{mode_of};
 ghost use Rattle.ringcore_laws.specs.declared.contents.Item.{Item as AnItem};
 ghost use Rattle.ringcore_laws.specs.declared.protocol.Reply.TheVariants.{NoSpan};
@@ -60,7 +60,7 @@ fn reserve_on(
     if member.span.is_some() {
         return Reply::NoSpan;
     }
-    let had = member.buffers.len() as u64;
+    let had = member.count;
     let reply = reserve_seen(words, plan, number, side, how, count, had, member.observed);
     note_tried(member, number, side, &reply);
     reply

@@ -1,4 +1,4 @@
-//! A ring of the machine: the numbers in its words, and its queue.
+//! A ring of the machine: the numbers in its words, and its row of slots.
 
 ghost use Rattle.ringcore_laws.specs.declared.protocol.Reply.TheVariants.{NoSpan};
 ghost use Rattle.std.specs.Prelude.{◌≡◌, ◌≢◌, ◌+◌, ◌^◌, ◌<◌, Some};
@@ -10,6 +10,7 @@ ghost use Rattle.ringcore_laws.specs.History.{own_word, is_busy as is_busy_of, p
 ghost use Rattle.ringcore.specs.Agree.{WordsAgree};
 ghost use Rattle.ringcore.specs.Changes.{words_after};
 
+use crate::one_ring::OneRing;
 use geom::{How, LAST, Mode, RESERVED, RingPlan, Side};
 use ringcore_laws::{Item, Reply};
 
@@ -49,12 +50,12 @@ impl Words {
     }
 }
 
-/// A ring: the words of both sides, and the items from the take tail to the put tail.
+/// A ring: the words of both sides, and the items from the take tail to the put tail, each in the slot of its position.
 #[derive(Drop)]
 pub struct Ring {
     pub put: Words,
     pub take: Words,
-    pub queue: Vec<Item>,
+    pub queue: OneRing<Item>,
 }
 
 /// The position in a word that was seen with nothing reserved.

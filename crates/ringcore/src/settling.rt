@@ -1,24 +1,22 @@
 //! Settles: one store to the tail, after which the items of a put are published, or those of a take dequeued.
 
-ghost use Rattle.std.specs.Prelude.{◌≡◌, ◌≤◌, List, take, drop, vec_len, IfOk, OnErr};
-ghost use Rattle.std.specs.List.{flat_map};
+ghost use Rattle.std.specs.Prelude.{◌≡◌, List, take, IfOk, OnErr};
 ghost use Rattle.ringcore_laws.specs.declared.contents.Item.{Item as AnItem};
-ghost use Rattle.ringcore_laws.specs.History.{tags, is_bad_settle as is_bad_count};
-ghost use Rattle.ringcore.specs.Changes.{words_moved_to, PutResult, TakeResult, with_items};
+ghost use Rattle.ringcore_laws.specs.History.{is_bad_settle as is_bad_count};
+ghost use Rattle.ringcore.specs.Changes.{IsPublished, PutResult, TakeResult, start_at, with_items, words_moved_to};
 ghost use Rattle.ringcore.specs.Replies.{put_answer, take_answer};
-ghost use Rattle.ringcore.specs.Same.{IsSame, IsSameRing};
 ghost use Rattle.ringcore_laws.specs.Runs.{is_done as is_done_reply};
 
-use crate::member::{Member, numbers_of, without};
+use crate::member::{Member, buffer_count};
+use crate::places::{hold_items, queue_items};
 use crate::ring::{Ring, Words};
 use crate::sides::is_on;
-use geom::{Mode, RingPlan, Side};
-use ringcore_laws::{Item, Items, Reply, Span};
+use geom::{How, Mode, RingPlan, Side};
+use ringcore_laws::{Item, Items, Place, Reply, Span};
 use std::alloc::{AllocError, Global};
-use std::mem;
+use std::collections::VecDeque;
 
-/// Publishes these items at the first positions of the open put span, if it is the first of its side. After want of
-/// memory nothing has changed.
+/// Publishes these items at the first positions of the open put span, if it is the first of its side. Takes no memory.
 pub fn settle_put(
     alloc: Global,
     plan: &RingPlan,
@@ -26,32 +24,54 @@ pub fn settle_put(
     number: usize,
     items: Items,
     member: &mut Member,
-) -> Result<Reply, AllocError>
-    ensures reply { IfOk result (λ r. r
-        ≡ put_answer plan.now number ring.old.put.tail member.old.buffers.items member.old.cached.items items
-        member.old.span) }
-    ensures settled { IfOk result (λ r. PutResult plan.now member.old member.new ring.old ring.new items r) }
-    ensures memory { OnErr result (IsSame member.old member.new × IsSameRing ring.old ring.new) }
+    places: &mut [Place],
+) -> Reply
+    ensures reply { result
+        ≡ put_answer plan.now number ring.old.put.tail member.old.number places.old items member.old.span }
+    ensures settled { PutResult plan.now number member.old member.new ring.old ring.new places.old places.new items
+        result }
 {
-    let Some(span) = member.span else {
-        return Ok(Reply::NoSpan);
-    };
-    let mut list = items.into_vec();
-    let numbers = numbers_of(alloc, &list)?;
-    let kept = without(alloc, &member.buffers, &numbers)?;
-    let count = list.len() as u64;
-    let reply = answer_put(alloc, plan, number, ring.put.tail, member, &list, &numbers);
+    let list = items.into_vec();
+    let reply = answer_put(alloc, plan, number, ring.put.tail, member, &list, places);
     if is_done(&reply) {
-        ring.queue.append(&mut list)?;
-        // A span that was granted ends at `LAST` at most, so the sum is exact; the member alone doesn't say so.
-        settle_words(&mut ring.put, plan.put, span.start.saturating_add(count));
-        member.buffers = kept;
-        member.span = None;
+        publish(plan, ring, number, list, member, places);
     }
-    Ok(reply)
+    reply
 }
 
-/// What a settle of a put is answered.
+/// Queues items at the first positions of the member's span, which is settled.
+fn publish(
+    plan: &RingPlan,
+    ring: &mut Ring,
+    number: usize,
+    items: Vec<Item>,
+    member: &mut Member,
+    places: &mut [Place],
+)
+    ensures { IsPublished plan.now number member.old member.new ring.old ring.new places.old places.new items.items }
+{
+    let start = first_of(member.span);
+    // A span that was granted ends at `LAST` at most, so the sum is exact; the member alone doesn't say so.
+    let end = start.saturating_add(items.len() as u64);
+    queue_items(places, number, start, &items);
+    member.count = member.count.saturating_sub(buffer_count(&items));
+    member.span = None;
+    settle_words(&mut ring.put, plan.put, end);
+    let mut rest = VecDeque::from(items);
+    ring.queue.put(How::Burst, &mut rest);
+}
+
+/// The first position of a span.
+fn first_of(span: Option<Span>) -> u64
+    ensures { result ≡ start_at span }
+{
+    match span {
+        None => 0,
+        Some(span) => span.start,
+    }
+}
+
+/// What a settle of a put is answered. The entries of the numbers stay as they are.
 fn answer_put(
     alloc: Global,
     plan: &RingPlan,
@@ -59,11 +79,11 @@ fn answer_put(
     tail: u64,
     member: &Member,
     items: &[Item],
-    numbers: &[u64],
+    numbers: &mut [Place],
 ) -> Reply
-    requires { numbers.now ≡ flat_map tags items.now }
-    ensures { result
-        ≡ put_answer plan.now number tail member.now.buffers.items member.now.cached.items items.now member.now.span }
+    ensures answer { result
+        ≡ put_answer plan.now number tail member.now.number numbers.old items.now member.now.span }
+    ensures kept { numbers.new ≡ numbers.old }
 {
     let Some(span) = member.span else {
         return Reply::NoSpan;
@@ -83,8 +103,8 @@ fn answer_put(
     Reply::Done(items.len() as u64, Items::of(Vec::new(alloc)))
 }
 
-/// Dequeues the items at the first so many positions of the open take span, if it is the first of its side. After want
-/// of memory nothing has changed.
+/// Dequeues the items at the first so many positions of the open take span, if it is the first of its side. Takes
+/// memory for their list; after want of it nothing has changed.
 pub fn settle_take(
     alloc: Global,
     plan: &RingPlan,
@@ -92,11 +112,13 @@ pub fn settle_take(
     number: usize,
     count: u64,
     member: &mut Member,
+    places: &mut [Place],
 ) -> Result<Reply, AllocError>
     ensures reply { IfOk result (λ r. r
         ≡ take_answer plan.now number ring.old.take.tail ring.old.queue.items count member.old.span) }
-    ensures settled { IfOk result (λ r. TakeResult plan.now member.old member.new ring.old ring.new count r) }
-    ensures memory { OnErr result (IsSame member.old member.new × IsSameRing ring.old ring.new) }
+    ensures settled { IfOk result (λ r. TakeResult plan.now member.old member.new ring.old ring.new places.old
+        places.new count r) }
+    ensures memory { OnErr result ((member.new ≡ member.old) × (ring.new ≡ ring.old) × (places.new ≡ places.old)) }
 {
     let Some(span) = member.span else {
         return Ok(Reply::NoSpan);
@@ -105,12 +127,11 @@ pub fn settle_take(
     if !is_done(&reply) {
         return Ok(reply);
     }
-    let many = ring.queue.len().min(count as usize);
-    let mut numbers = numbers_of(alloc, &ring.queue[..many])?;
-    member.buffers.reserve(numbers.len())?;
-    let taken = take_items(&mut ring.queue, many)?;
-    member.buffers.append(&mut numbers)?;
-    // Exact, as in `settle_put`.
+    let mut taken = Vec::new(alloc);
+    ring.queue.take(How::Burst, count, &mut taken)?;
+    hold_items(places, member.number, &taken);
+    member.count = member.count.saturating_add(buffer_count(&taken));
+    // Exact, as in `publish`.
     settle_words(&mut ring.take, plan.take, span.start.saturating_add(count));
     member.span = None;
     Ok(Reply::Done(count, Items::of(taken)))
@@ -141,17 +162,6 @@ fn answer_take(
         return Reply::NotYet(tail);
     }
     Reply::Done(count, Items::of(Vec::new(alloc)))
-}
-
-/// Takes the first so many items out of a queue.
-fn take_items(queue: &mut Vec<Item>, many: usize) -> Result<Vec<Item>, AllocError>
-    requires { many ≤ vec_len queue.old }
-    ensures ok { IfOk result (λ v. (v.items ≡ take many queue.old.items)
-        × (queue.new.items ≡ drop many queue.old.items)) }
-    ensures err { OnErr result (queue.new.items ≡ queue.old.items) }
-{
-    let rest = queue.split_off(many)?;
-    Ok(mem::replace(queue, rest))
 }
 
 fn is_bad_settle(mode: Mode, count: u64, reserved: u64) -> bool

@@ -1,6 +1,7 @@
 //! The machine of shared rings in single atomic steps, without threads: for each ring the numbers in its words and a
-//! queue of its items, for each actor its buffers, its open span and its look. What each step is answered is
-//! `ringcore_laws`' definition.
+//! row of slots, for each actor its open span and its look, for each buffer where it is. What each step is answered is
+//! `ringcore_laws`' definition. Nothing searches: a settle reads and writes one slot and one entry for each of its
+//! items and buffers, and the cost of any other step doesn't grow with anything.
 
 ghost use Rattle.std.specs.Prelude.{◌≡◌, ◌∷◌, [], List, ◌<◌, length, vec_len, IsTrue, ◌↔◌, ℕ, Err, IfOk, OnErr};
 ghost use Rattle.ringcore_laws.specs.History.{reply_to};
@@ -9,8 +10,8 @@ ghost use Rattle.ringcore_laws.specs.Runs.{IsPlan};
 ghost use Rattle.ringcore.specs.Runs.{ExistAll, IsOnRing, events_of};
 
 use crate::member::Member;
-use crate::opening::{fresh_rings, given_members};
-use crate::places::{actor_place, ring_place};
+use crate::opening::{fresh_rings, given_members, given_places};
+use crate::places::place_at;
 use crate::plan::{WorldFault, WorldPlan};
 use crate::ring::Ring;
 use crate::sides::is_among;
@@ -28,6 +29,8 @@ pub struct World {
     plans: Vec<RingPlan>,
     rings: Vec<Ring>,
     members: Vec<Member>,
+    /// Where each buffer is, at its number.
+    places: Vec<Place>,
 }
 
 impl World {
@@ -54,13 +57,15 @@ impl World {
         requires { IsPlan plan.rings.items plan.actors plan.gifts.items }
         ensures { IfOk result (λ world. AgreesWith world (opened_by plan) × IsRight (opened_by plan)) }
     {
-        let rings = fresh_rings(alloc, plan.rings.len())?;
+        let rings = fresh_rings(alloc, &plan.rings)?;
         let members = given_members(alloc, plan.actors, &plan.gifts)?;
+        let places = given_places(alloc, &plan.gifts)?;
         Ok(World {
             alloc,
             plans: plan.rings,
             rings,
             members,
+            places,
         })
     }
 
@@ -96,13 +101,10 @@ impl World {
     pub fn place(&self, b: u64) -> Place
         ensures { (h : History) → AgreesWith self.now h → IsRight h → result ≡ place (length h.plans) (actors_of h) b }
     {
-        match ring_place(&self.rings, b) {
-            Some(place) => place,
-            None => actor_place(&self.members, b).unwrap_or(Place::Nowhere),
-        }
+        place_at(&self.places, b)
     }
 
-    /// One step of an actor. Takes memory where buffers change hands or are marked.
+    /// One step of an actor. Takes memory for the items of a take, and for nothing else.
     ///
     /// Where the world is what a right history leaves, the reply is the one to the step, and the world is what that
     /// history with this event leaves, which is right again.
@@ -152,22 +154,13 @@ impl World {
             Step::Reserve(ring, side, how, count) => {
                 Ok(self.reserve_step(actor, ring, side, how, count))
             }
-            Step::SettlePut(ring, items) => {
-                let reply = self.put_step(actor, ring, items)?;
-                Ok(reply)
-            }
+            Step::SettlePut(ring, items) => Ok(self.put_step(actor, ring, items)),
             Step::SettleTake(ring, count) => {
                 let reply = self.take_step(actor, ring, count)?;
                 Ok(reply)
             }
-            Step::Stash(b) => {
-                let reply = self.stash_step(actor, b)?;
-                Ok(reply)
-            }
-            Step::Unstash(b) => {
-                let reply = self.unstash_step(actor, b)?;
-                Ok(reply)
-            }
+            Step::Stash(b) => Ok(self.stash_step(actor, b)),
+            Step::Unstash(b) => Ok(self.unstash_step(actor, b)),
         }
     }
 

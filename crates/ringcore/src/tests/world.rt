@@ -1,6 +1,7 @@
 //! Worked histories of the machine, by one list and step by step, and plans that are refused.
 
 use crate::{World, WorldFault, WorldPlan};
+use exhaust::take_all;
 use geom::{Geometry, How, Mode, RingPlan, Side};
 use ringcore_laws::{Item, Items, Numbers, Place, Reply, Step};
 use std::alloc::{AllocError, Global};
@@ -209,5 +210,88 @@ fn refuses_plans(rt: HostRuntime) -> Result<(), Fail> {
         World::new(rt.alloc(), free).err(),
         Some(WorldFault::BadPlan)
     );
+    Ok(())
+}
+
+/// Looks, reserves, a put that is settled, one that is refused, a stash and its end, and places: whether each reply is
+/// the one that is due.
+fn goes_on(world: &mut World, item: Items, twice: Items) -> Result<bool, AllocError> {
+    let mut right = matches!(step(world, 0, Step::Stash(1))?, Some(Reply::Seen(1)));
+    right &= world.place(1) == Place::Cached(0);
+    right &= matches!(step(world, 0, Step::Unstash(1))?, Some(Reply::Seen(1)));
+    right &= matches!(step(world, 1, Step::Stash(1))?, Some(Reply::NotYours));
+    for actor in 0..2 {
+        right &= matches!(step(world, actor, LOOK)?, Some(Reply::Seen(0)));
+        right &= matches!(step(world, actor, ROOM)?, Some(Reply::Seen(0)));
+    }
+    let two = reserve(Side::Put, How::Bulk, 2);
+    right &= matches!(step(world, 0, two)?, Some(Reply::Granted(0, 2, 1)));
+    let put = Step::SettlePut(0, item);
+    right &= matches!(step(world, 0, put)?, Some(Reply::Done(1, _)));
+    right &= world.place(0) == Place::AtRing(0, 0) && world.place(1) == Place::Held(0);
+    right &= world.place(2) == Place::Nowhere;
+    step(world, 0, LOOK)?;
+    step(world, 0, ROOM)?;
+    let one = reserve(Side::Put, How::Burst, 1);
+    right &= matches!(step(world, 0, one)?, Some(Reply::Granted(1, 1, 1)));
+    let again = Step::SettlePut(0, twice);
+    right &= matches!(step(world, 0, again)?, Some(Reply::NotYours));
+    Ok(right)
+}
+
+/// Every request for memory after `World::new` is refused.
+#[test]
+fn goes_on_without_memory(rt: HostRuntime) -> Result<(), Fail> {
+    let plan = plan(rt.alloc(), 1, Mode::Hts, 2, &[0, 0])?;
+    let item = buffer(rt.alloc(), 0)?;
+    let twice = buffer(rt.alloc(), 0)?;
+    let mut world = World::new(rt.alloc(), plan).ok().ok_or("a plan")?;
+    let held = take_all(rt.alloc())?.ok_or("memory can't be used up in this build")?;
+    let right = goes_on(&mut world, item, twice);
+    drop(held);
+    assert!(rt; right?);
+    Ok(())
+}
+
+/// More than a small ring, a small list of items or a small pool would take.
+const MANY: u64 = 300;
+
+#[test]
+fn hundreds_of_buffers_go_to_another_actor_at_once(rt: HostRuntime) -> Result<(), Fail> {
+    let mut rings = Vec::new(rt.alloc());
+    let geometry = Geometry::power(512).ok().ok_or("a size")?;
+    rings.push(RingPlan::alike(geometry, Mode::Multi, true))?;
+    let mut gifts = Vec::new(rt.alloc());
+    let mut items = Vec::new(rt.alloc());
+    for b in 0..MANY {
+        gifts.push(0)?;
+        let mut numbers = Vec::new(rt.alloc());
+        numbers.push(b)?;
+        items.push(Item::Buffers(Numbers::of(numbers)))?;
+    }
+    let plan = WorldPlan {
+        rings,
+        actors: 2,
+        gifts,
+    };
+    let mut world = World::new(rt.alloc(), plan).ok().ok_or("a plan")?;
+    step(&mut world, 0, LOOK)?;
+    step(&mut world, 0, ROOM)?;
+    step(&mut world, 0, reserve(Side::Put, How::Bulk, MANY))?;
+    let put = Step::SettlePut(0, Items::of(items));
+    assert!(rt; matches!(step(&mut world, 0, put)?, Some(Reply::Done(MANY, _))));
+    for b in 0..MANY {
+        assert_eq!(rt; world.place(b), Place::AtRing(0, b));
+    }
+    step(&mut world, 1, Step::Look(0, Side::Take))?;
+    step(&mut world, 1, Step::Room(0, Side::Take))?;
+    step(&mut world, 1, reserve(Side::Take, How::Bulk, MANY))?;
+    match step(&mut world, 1, Step::SettleTake(0, MANY))? {
+        Some(Reply::Done(MANY, taken)) => assert_eq!(rt; taken.as_slice().len() as u64, MANY),
+        _ => assert!(rt; false, "the take is done"),
+    }
+    for b in 0..MANY {
+        assert_eq!(rt; world.place(b), Place::Held(1));
+    }
     Ok(())
 }

@@ -1,7 +1,6 @@
 use Rattle.std.proofs.Common.{◌≡◌, length}
-use Rattle.std.specs.List.{All}
-use Rattle.ringcore.specs.Opening.{IsFresh}
+use Rattle.ringcore.specs.Opening.{AreFresh}
 use Rattle.ringcore.proofs.opening.fresh_rings.Given as goal
 
-abbrev pub invariant-loop : goal.invariant-loop
-invariant-loop l = (length l.rings.items ≡ l.counter) × All IsFresh l.rings.items
+abbrev pub invariant-loop-k : goal.invariant-loop-k
+invariant-loop-k l = (length l.rings.items ≡ l.k) × AreFresh l.plans l.rings.items

@@ -1,5 +1,5 @@
 use Rattle.std.proofs.Common.{◌≡◌, ◌∙◌, subst}
-use Rattle.std.specs.Prelude.{is_some, vec_len, if◌then◌else◌}
+use Rattle.std.specs.Prelude.{is_some, if◌then◌else◌}
 use Rattle.std.proofs.lemmas.Option.{get_or_from_slice_get}
 use Rattle.geom.specs.Plan.{mode_of}
 use Rattle.geom.specs.declared.plan.RingPlan.{RingPlan}
@@ -20,16 +20,16 @@ returns-clause-reply c = λ m plan r hm hp hr l.
     let er : c.index_mut.result.now ≡ r = c.index_mut.ensures.value ∙ get_or_from_slice_get c.args.self.now.rings.items c.args.ring r _ hr in
     subst (λ (v : Member). RuledSide (mode_of plan c.args.side) l → WordsAgree (mode_of plan c.args.side) l (side_words r c.args.side)
     → TailFits plan v.observed
-    → c.reserve.result ≡ (if is_some v.span then NoSpan else reserve_seen plan c.args.side c.args.how c.args.count l (vec_len v.buffers)
+    → c.reserve.result ≡ (if is_some v.span then NoSpan else reserve_seen plan c.args.side c.args.how c.args.count l v.count
     (seen_on c.args.ring c.args.side v.observed))) em
     (subst (λ (p : RingPlan). RuledSide (mode_of p c.args.side) l → WordsAgree (mode_of p c.args.side) l (side_words r c.args.side)
     → TailFits p c.index_mut-2.result.now.observed
     → c.reserve.result ≡ (if is_some c.index_mut-2.result.now.span then NoSpan
-    else reserve_seen p c.args.side c.args.how c.args.count l (vec_len c.index_mut-2.result.now.buffers)
+    else reserve_seen p c.args.side c.args.how c.args.count l c.index_mut-2.result.now.count
     (seen_on c.args.ring c.args.side c.index_mut-2.result.now.observed))) ep
     (subst (λ (x : Ring). RuledSide (mode_of c.index.result.now c.args.side) l
     → WordsAgree (mode_of c.index.result.now c.args.side) l (side_words x c.args.side) → TailFits c.index.result.now c.index_mut-2.result.now.observed
     → c.reserve.result ≡ (if is_some c.index_mut-2.result.now.span then NoSpan
-    else reserve_seen c.index.result.now c.args.side c.args.how c.args.count l (vec_len c.index_mut-2.result.now.buffers)
+    else reserve_seen c.index.result.now c.args.side c.args.how c.args.count l c.index_mut-2.result.now.count
     (seen_on c.args.ring c.args.side c.index_mut-2.result.now.observed))) er
     (c.reserve.ensures.reply l)))

@@ -20,7 +20,7 @@ loop-actor-preserved c =
       c.in_ok-reply.ensures.plans ∙ c.loop-actor.invariant.1,
       λ pool actors fits k agree.
           subst (λ (v : List Reply). RunsTo c.args.self.now.plans.items pool actors c.args.entries.items v c.pop_front.new.self.items new.rings.items
-          new.members.items)
+          new.places.items new.members.items)
           (sym c.in_ok-push.ensures.items)
           (run_goes_on c.args.self.now.plans.items old new pool actors c.args.entries.items c.loop-actor.replies.items c.loop-actor.rest.items
           c.pop_front.new.self.items c.in-Some.actor c.in-Some.step c.in_ok-reply.reply c.loop-actor.invariant.1 first c.in_ok-reply.ensures.step fits

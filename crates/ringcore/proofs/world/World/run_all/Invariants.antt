@@ -12,8 +12,8 @@ invariant-loop-actor l =
     ExistAll (vec_len l.self.members) (vec_len l.self.rings) (vec_len l.self.plans) l.rest.items
     × (l.self.plans.items ≡ l.fn.self.plans.items)
     × ((pool : ℕ) (actors : List Actor) → AllFit l.fn.self.plans.items pool → Invariant l.fn.self.plans.items pool actors
-    → ListsAgree l.fn.self.plans.items l.fn.self.rings.items l.fn.self.members.items actors
-    → RunsTo l.fn.self.plans.items pool actors l.fn.entries.items l.replies.items l.rest.items l.self.rings.items l.self.members.items)
+    → ListsAgree l.fn.self.plans.items pool l.fn.self.rings.items l.fn.self.places.items l.fn.self.members.items actors
+    → RunsTo l.fn.self.plans.items pool actors l.fn.entries.items l.replies.items l.rest.items l.self.rings.items l.self.places.items l.self.members.items)
 
 abbrev pub decreases-loop-actor : goal.decreases-loop-actor
 decreases-loop-actor l = deque_len l.rest
