@@ -18,7 +18,7 @@ use Rattle.fabric.specs.Views.{span_of}
 use Rattle.fabric.proofs.Rows.{bits_cleared, bits_marked, length-cleared, length-marked, some_missing}
 
 module _ {T : Type 0} (tags : T → List ℕ) where
-  holds_put : (b ring start count : ℕ) (party : Party T) (items : List T)
+  pub holds_put : (b ring start count : ℕ) (party : Party T) (items : List T)
       → holds tags b (with_settled party (span_of ring Put start count) items) ≡ holds tags b party - occurrences_in tags b items
   unfolding holds moved
   holds_put b ring start count party items =
@@ -28,7 +28,7 @@ module _ {T : Type 0} (tags : T → List ℕ) where
         sum_by-cons (settled_times tags Take b) record { ring = ring; side = Put; start = start; items = items } party.settled,
       )
 
-  holds_take : (b ring start count : ℕ) (party : Party T) (items : List T) → moved tags Put b party ≤ occurrences b party.given + moved tags Take b party
+  pub holds_take : (b ring start count : ℕ) (party : Party T) (items : List T) → moved tags Put b party ≤ occurrences b party.given + moved tags Take b party
       → holds tags b (with_settled party (span_of ring Take start count) items) ≡ holds tags b party + occurrences_in tags b items
   unfolding holds moved
   holds_take b ring start count party items had =

@@ -4,6 +4,7 @@ use Rattle.geom.specs.declared.plan.Mode.{Mode}
 use Rattle.geom.specs.declared.plan.Mode.TheVariants.{Multi, Hts}
 use Rattle.geom.specs.declared.plan.RingPlan.{RingPlan}
 use Rattle.ringcore_laws.specs.FreeRings.{AreSingle}
+use Rattle.ringcore_laws.specs.Moves.{Owns}
 use Rattle.ringcore_laws.specs.Sound.{holds, occurrences_in}
 use Rattle.fabric_laws.specs.declared.view.View.{View}
 use Rattle.fabric_laws.specs.Changes.{missed}
@@ -21,6 +22,11 @@ module _ {T : Type 0} (tags : T → List ℕ) where
   abbrev pub AreNotYours : RingPlan → View T → List T → Type 0
   AreNotYours plan v items = ((b : ℕ) × (holds tags b v.party < occurrences_in tags b items))
       ⊎ ((plan.free ≡ true) × (AreSingle tags items → ⊥))
+
+  -- the hand may put these items on a ring of this plan
+  pub record AreYours (plan : RingPlan) (v : View T) (items : List T) : Type 0 where
+    pub owned : Owns tags v.party items
+    pub single : plan.free ≡ true → AreSingle tags items
 
   -- nothing was settled, for this reason: k positions of a span of `count` from `start` on
   abbrev pub RefusesSettle : Mode → RingPlan → ℕ → ℕ → ℕ → List T → View T → View T → SettleFault → Type 0

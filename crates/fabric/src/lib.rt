@@ -7,6 +7,7 @@ mod carried;
 mod close;
 mod closed;
 mod fabric;
+mod firsts;
 mod hand;
 mod join;
 mod make;

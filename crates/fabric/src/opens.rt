@@ -2,7 +2,10 @@
 ghost use Rattle.std.specs.Prelude.{◌≡◌, ◌==◌, [], length, take, IfOk, IfErr, true, false};
 ghost use Rattle.std.specs.List.{flat_map, list_all};
 ghost use Rattle.fabric.specs.Hands.{RefusesPut, RefusesTake, HasPut, HasTaken, SamePut, SameTake, put_left};
-ghost use Rattle.fabric.specs.Hands.{put_span, take_left, take_span, take_view};
+ghost use Rattle.fabric.specs.Hands.{put_span, put_view, take_left, take_span, take_view};
+ghost use Rattle.burst.specs.Numbers.{AreDistinct};
+ghost use Rattle.fabric.specs.Views.{IsKept};
+ghost use Rattle.fabric.specs.declared.hand.SettleFault.TheVariants.{NotYours};
 ghost use Rattle.fabric.specs.Owned.{all_there, cleared};
 
 use crate::carried::are_single;
@@ -13,7 +16,11 @@ use burst::{Burst, Tagged};
 
 /// Whether items may be put on a ring: they carry buffers that are marked, none twice, and on a free ring exactly one
 /// each. The row is then without them; else nothing changes.
-fn may_put<T: Tagged, const N: usize>(owned: &mut Owned, free: bool, items: &Burst<T, N>) -> bool
+pub(crate) fn may_put<T: Tagged, const N: usize>(
+    owned: &mut Owned,
+    free: bool,
+    items: &Burst<T, N>,
+) -> bool
     ensures mine { result ≡ true → (owned.new ≡ cleared owned.old (flat_map T.numbers items.now))
         × (all_there owned.old (flat_map T.numbers items.now) ≡ true)
         × (free ≡ true → list_all (λ x. length (T.numbers x) == 1) items.now ≡ true) }
@@ -62,6 +69,7 @@ impl<'f, T: Tagged, const N: usize> PutOpen<'f, T, N> {
         ensures done { IfOk result (λ h. HasPut self.entry items.old h × (items.new ≡ [])) }
         ensures refused { IfErr result (λ e. SamePut self.entry e.0 × (items.new ≡ items.old)
             × RefusesPut T.numbers self.entry items.old e.0 e.1) }
+        ensures kept { IfErr result (λ e. IsKept (put_view self.entry) (put_view e.0)) }
     {
         if !is_count(self.ring.shape.plan.put, items.len(), self.place.count) {
             return Err((self, SettleFault::BadCount));
@@ -125,6 +133,9 @@ impl<'f, T: Tagged, const N: usize> TakeSpan<'f, T, N> {
         ensures done { IfOk result (λ h. HasTaken self.entry k items.old h × (items.new ≡ take k items.old)) }
         ensures refused { IfErr result (λ e. SameTake self.entry e.0 × (items.new ≡ items.old)
             × RefusesTake T.numbers self.entry k items.old e.0 e.1) }
+        ensures kept { IfErr result (λ e. IsKept (take_view self.entry) (take_view e.0)) }
+        ensures apart { IfOk result (λ _. AreDistinct (flat_map T.numbers items.new)) }
+        ensures named { IfErr result (λ e. e.1 ≡ NotYours → ⊥) }
     {
         if !is_count(self.ring.shape.plan.take, k, self.place.count) {
             return Err((self, SettleFault::BadCount));

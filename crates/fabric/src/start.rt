@@ -7,6 +7,7 @@ ghost use Rattle.geom.specs.declared.plan.RingPlan.{RingPlan};
 ghost use Rattle.geom.specs.declared.plan.Side.TheVariants.{Put, Take};
 ghost use Rattle.geom.specs.Plan.{granted, mode_of};
 ghost use Rattle.ringcore_laws.specs.History.{position_of};
+ghost use Rattle.ringcore_laws.specs.Party.{with_open};
 ghost use Rattle.fabric_laws.specs.Changes.{found_busy};
 ghost use Rattle.fabric_laws.specs.Kinds.{ReadsBack};
 ghost use Rattle.fabric.specs.Hands.{IsHandOf, OnRing, put_fabric, put_left, put_span, put_view, rings_of};
@@ -14,7 +15,8 @@ ghost use Rattle.fabric.specs.Hands.{take_fabric, take_left, take_span, take_vie
 ghost use Rattle.fabric.specs.Owned.{count_true};
 ghost use Rattle.fabric.specs.Rings.{IsSameSeat, IsSeated};
 ghost use Rattle.fabric.specs.Starts.{RefusesRoom, RefusesCount, MayAsk, Probes, RefusesStart, Starts};
-ghost use Rattle.fabric.specs.Views.{IsKept};
+ghost use Rattle.fabric.specs.Views.{IsKept, IsWornAt};
+ghost use Rattle.fabric.specs.declared.hand.StartFault.TheVariants.{Worn};
 
 use crate::fabric::Fabric;
 use crate::hand::{Hand, PutOpen, Share, StartFault, TakeSpan};
@@ -163,6 +165,9 @@ impl<T: Tagged, const N: usize> Fabric<T, N> {
             × OnRing self.now ring (λ plan. RefusesStart T.numbers N how n ring Put plan (view hand) (view e.0) e.1)) }
         ensures asked { OnRing self.now ring (λ plan. IfOk result (λ _. MayAsk T.numbers N n Put plan (view hand))
             × IfErr result (λ e. RefusesCount T.numbers N n Put plan (view hand) e.1)) }
+        ensures opened { IfOk result (λ o. (put_view o).party ≡ with_open (view hand).party (put_span o)) }
+        ensures kept { IfErr result (λ e. IsKept (view hand) (view e.0)) }
+        ensures worn { IfErr result (λ e. e.1 ≡ Worn → IsWornAt N (view e.0)) }
     {
         let target = Ring {
             fabric: self,
@@ -231,6 +236,9 @@ impl<T: Tagged, const N: usize> Fabric<T, N> {
             × OnRing self.now ring (λ plan. RefusesStart T.numbers N how n ring Take plan (view hand) (view e.0) e.1)) }
         ensures asked { OnRing self.now ring (λ plan. IfOk result (λ _. MayAsk T.numbers N n Take plan (view hand))
             × IfErr result (λ e. RefusesCount T.numbers N n Take plan (view hand) e.1)) }
+        ensures opened { IfOk result (λ o. (take_view o).party ≡ with_open (view hand).party (take_span o)) }
+        ensures kept { IfErr result (λ e. IsKept (view hand) (view e.0)) }
+        ensures worn { IfErr result (λ e. e.1 ≡ Worn → IsWornAt N (view e.0)) }
     {
         let target = Ring {
             fabric: self,

@@ -1,9 +1,15 @@
 //! Takes and settles that move their burst by value. They cost as much as all of its `N` places; those that are lent a
 //! burst cost as much as its items.
 ghost use Rattle.std.specs.Prelude.{◌≡◌, ◌<◌, length, take, IfErr, IfOk};
+ghost use Rattle.std.specs.List.{flat_map};
+ghost use Rattle.burst.specs.Numbers.{AreDistinct};
 ghost use Rattle.geom.specs.declared.plan.Side.TheVariants.{Take};
 ghost use Rattle.fabric.specs.Hands.{RefusesPut, RefusesTake, HasPut, HasTaken, IsHandOf, OnRing, SamePut, SameTake};
-ghost use Rattle.fabric.specs.Hands.{rings_of, take_fabric, take_left, take_span, take_view, view};
+ghost use Rattle.fabric.specs.Hands.{put_view, rings_of, take_fabric, take_left, take_span, take_view, view};
+ghost use Rattle.fabric.specs.Views.{IsKept, IsWornAt};
+ghost use Rattle.fabric.specs.declared.hand.SettleFault.TheVariants.{NotYours};
+ghost use Rattle.fabric.specs.declared.hand.StartFault.TheVariants.{Worn};
+ghost use Rattle.ringcore_laws.specs.Party.{with_open};
 ghost use Rattle.fabric.specs.Starts.{RefusesCount, MayAsk, RefusesStart, Starts};
 
 use crate::fabric::Fabric;
@@ -30,6 +36,10 @@ impl<T: Tagged, const N: usize> Fabric<T, N> {
             × OnRing self.now ring (λ plan. RefusesStart T.numbers N how n ring Take plan (view hand) (view e.0) e.1)) }
         ensures asked { OnRing self.now ring (λ plan. IfOk result (λ _. MayAsk T.numbers N n Take plan (view hand))
             × IfErr result (λ e. RefusesCount T.numbers N n Take plan (view hand) e.1)) }
+        ensures opened { IfOk result
+            (λ o. (take_view o.span).party ≡ with_open (view hand).party (take_span o.span)) }
+        ensures kept { IfErr result (λ e. IsKept (view hand) (view e.0)) }
+        ensures worn { IfErr result (λ e. e.1 ≡ Worn → IsWornAt N (view e.0)) }
     {
         let mut items = Burst::new();
         match self.try_start_take_into(hand, ring, n, how, &mut items) {
@@ -48,6 +58,7 @@ impl<'f, T: Tagged, const N: usize> PutOpen<'f, T, N> {
         ensures done { IfOk result (λ h. HasPut self.entry items h) }
         ensures refused { IfErr result (λ e. SamePut self.entry e.0 × (e.1 ≡ items)
             × RefusesPut T.numbers self.entry items e.0 e.2) }
+        ensures kept { IfErr result (λ e. IsKept (put_view self.entry) (put_view e.0)) }
     {
         let mut burst = items;
         match self.try_settle_from(&mut burst) {
@@ -95,6 +106,9 @@ impl<'f, T: Tagged, const N: usize> TakeOpen<'f, T, N> {
             × (h.1 ≡ take k self.entry.items)) }
         ensures refused { IfErr result (λ e. SameTake self.entry.span e.0.span × (e.0.items ≡ self.entry.items)
             × RefusesTake T.numbers self.entry.span k self.entry.items e.0.span e.1) }
+        ensures kept { IfErr result (λ e. IsKept (take_view self.entry.span) (take_view e.0.span)) }
+        ensures apart { IfOk result (λ h. AreDistinct (flat_map T.numbers h.1)) }
+        ensures named { IfErr result (λ e. e.1 ≡ NotYours → ⊥) }
     {
         let TakeOpen { span, mut items } = self;
         match span.try_settle_into(k, &mut items) {

@@ -2,6 +2,7 @@
 mod calls;
 mod closing;
 mod ends;
+mod peeks;
 mod rows;
 mod threads;
 

@@ -8,7 +8,9 @@ use Rattle.fabric_laws.specs.Kinds.{run}
 use Rattle.fabric_laws.specs.Words.{slot_at}
 use Rattle.fabric.specs.Starts.{RefusesCount, MayAsk, RefusesStart, Starts}
 use Rattle.fabric.specs.declared.hand.StartFault.TheVariants.{BadCount, Contended}
+use Rattle.fabric.specs.Hands.{rings_of, view}
 use Rattle.fabric.specs.Views.{span_of}
+use Rattle.fabric.proofs.Told.{refused_kept, ring_at, started_party, worn_at}
 use Rattle.fabric.proofs.Starting.{alive_on, bad_count, bad_put, contended, few_buffers, has_seen, idle_on, count_refused, may_put, put_room, row_on}
 use Rattle.fabric.proofs.Starting.{row_opened, same_ring, shape_at, started, well_on, well_opened}
 use Rattle.fabric.proofs.fabric.Fabric.try_start_put.Goals as goal
@@ -219,3 +221,31 @@ invariant_of-target g c =
 
 pub invariant_of-place : goal.invariant_of-place
 invariant_of-place g c = record { last = c.in-Ok.ensures.ok.5 }
+
+pub returns-then-is_bad_count-clause-kept : goal.returns-then-is_bad_count-clause-kept
+returns-then-is_bad_count-clause-kept g c = record { party = refl; parts = refl; plans = refl; pool = refl }
+
+pub returns-in-Err-clause-kept : goal.returns-in-Err-clause-kept
+returns-in-Err-clause-kept g c =
+    let w = ring_at (rings_of c.args.self.now) c.args.ring c.requires.ring in
+    refused_kept g.T.Tagged.numbers g.row.N c.args.how c.args.n c.args.ring Put w.0 (view c.args.hand) c.aim.new.seat.me.0 c.in-Err.fault
+    ((returns-in-Err-clause-refused g c).1 w.0 w.1)
+
+pub returns-then-found-probe-clause-kept : goal.returns-then-found-probe-clause-kept
+returns-then-found-probe-clause-kept g c =
+    let w = ring_at (rings_of c.args.self.now) c.args.ring c.requires.ring in
+    refused_kept g.T.Tagged.numbers g.row.N c.args.how c.args.n c.args.ring Put w.0 (view c.args.hand) c.reserve_put-found.new.seat.me.0
+    (Contended c.reserve_put-found.result) ((returns-then-found-probe-clause-refused g c).1 w.0 w.1)
+
+pub returns-clause-opened : goal.returns-clause-opened
+returns-clause-opened g c =
+    let w = ring_at (rings_of c.args.self.now) c.args.ring c.requires.ring in
+    started_party g.T.Tagged.numbers c.args.how c.args.n c.args.ring Put w.0 (view c.args.hand) _ _ _ _ c.reserve_put-found.new.seat.me.0
+    ((returns-clause-started g c).2 w.0 w.1)
+
+pub returns-in-Err-clause-worn : goal.returns-in-Err-clause-worn
+returns-in-Err-clause-worn g c is =
+    let w = ring_at (rings_of c.args.self.now) c.args.ring c.requires.ring in
+    let r = returns-in-Err-clause-refused g c in
+    worn_at g.T.Tagged.numbers g.row.N c.args.how c.args.n c.args.ring Put w.0 (rings_of c.args.self.now) (view c.args.hand) c.aim.new.seat.me.0
+    c.in-Err.fault (r.1 w.0 w.1) (returns-in-Err-clause-asked g c w.0 w.1).1 r.0.1 w.1 is

@@ -8,7 +8,9 @@ use Rattle.burst.specs.Items.{somes}
 use Rattle.fabric.specs.Owned.{IsRow}
 use Rattle.fabric.specs.Starts.{RefusesCount, MayAsk, RefusesStart, Starts}
 use Rattle.fabric.specs.declared.hand.StartFault.TheVariants.{Contended}
+use Rattle.fabric.specs.Hands.{rings_of, view}
 use Rattle.fabric.specs.Views.{span_of}
+use Rattle.fabric.proofs.Told.{refused_kept, ring_at, started_party, worn_at}
 use Rattle.fabric.proofs.Settling.{packed_from, row_held, row_values, somes_of}
 use Rattle.fabric.proofs.Starting.{alive_on, contended, has_seen, idle_on, count_refused, may_take, row_on, row_opened, same_ring, shape_at, started, take_room}
 use Rattle.fabric.proofs.Starting.{well_on, well_opened}
@@ -267,3 +269,28 @@ invariant_of-target g c =
 
 pub invariant_of-place : goal.invariant_of-place
 invariant_of-place g c = record { last = c.in-Ok.ensures.ok.5 }
+
+pub returns-in-Err-clause-kept : goal.returns-in-Err-clause-kept
+returns-in-Err-clause-kept g c =
+    let w = ring_at (rings_of c.args.self.now) c.args.ring c.requires.ring in
+    refused_kept g.T.Tagged.numbers g.row.N c.args.how c.args.n c.args.ring Take w.0 (view c.args.hand) c.aim.new.seat.me.0 c.in-Err.fault
+    ((returns-in-Err-clause-refused g c).2 w.0 w.1)
+
+pub returns-then-found-probe-clause-kept : goal.returns-then-found-probe-clause-kept
+returns-then-found-probe-clause-kept g c =
+    let w = ring_at (rings_of c.args.self.now) c.args.ring c.requires.ring in
+    refused_kept g.T.Tagged.numbers g.row.N c.args.how c.args.n c.args.ring Take w.0 (view c.args.hand) c.reserve_take-found.new.seat.me.0
+    (Contended c.reserve_take-found.result) ((returns-then-found-probe-clause-refused g c).2 w.0 w.1)
+
+pub returns-clause-opened : goal.returns-clause-opened
+returns-clause-opened g c =
+    let w = ring_at (rings_of c.args.self.now) c.args.ring c.requires.ring in
+    started_party g.T.Tagged.numbers c.args.how c.args.n c.args.ring Take w.0 (view c.args.hand) _ _ _ _ c.withdraw.new.seat.me.0
+    ((returns-clause-started g c).3 w.0 w.1)
+
+pub returns-in-Err-clause-worn : goal.returns-in-Err-clause-worn
+returns-in-Err-clause-worn g c is =
+    let w = ring_at (rings_of c.args.self.now) c.args.ring c.requires.ring in
+    let r = returns-in-Err-clause-refused g c in
+    worn_at g.T.Tagged.numbers g.row.N c.args.how c.args.n c.args.ring Take w.0 (rings_of c.args.self.now) (view c.args.hand) c.aim.new.seat.me.0
+    c.in-Err.fault (r.2 w.0 w.1) (returns-in-Err-clause-asked g c w.0 w.1).1 r.0.1 w.1 is

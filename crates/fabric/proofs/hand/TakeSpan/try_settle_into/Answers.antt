@@ -10,6 +10,8 @@ use Rattle.fabric.specs.Owned.{IsRow, marked}
 use Rattle.fabric.specs.Views.{span_of}
 use Rattle.fabric.proofs.Holding.{take_row}
 use Rattle.fabric.proofs.Rows.{take_whole}
+use Rattle.fabric.proofs.Told.{taken_apart}
+use Rattle.burst.specs.Numbers.{AreDistinct}
 use Rattle.fabric.proofs.Settling.{count_whole, packed_from, somes_of}
 use Rattle.fabric.proofs.hand.TakeSpan.try_settle_into.Goals as goal
 
@@ -89,3 +91,13 @@ returns-clause-refused g c =
       ap somes early.4 ∙ c.items.view_is,
       (early.0, count_whole o.ring.shape.plan.take c.args.k o.place.count early.0 count, early.1, early.2),
     )
+
+pub returns-in_default-clause-apart : goal.returns-in_default-clause-apart
+returns-in_default-clause-apart g c =
+    let o = c.args.self in
+    let tags = g.T.Tagged.numbers in
+    let v = o.share.seat.me.0 in
+    let done = c.in_default.ensures.done in
+    let same = ap somes done.3 ∙ somes_of (take c.args.k v.shown) in
+    subst (λ l. AreDistinct (flat_map tags l)) (sym same)
+    (taken_apart tags o.ring.index o.place.start o.place.count (take c.args.k v.shown) v _ done.0 o.share.well done.2)

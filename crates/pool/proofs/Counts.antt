@@ -1,0 +1,46 @@
+-- How often a buffer stands in what a get gives and keeps, and in what a put moves and keeps
+use Rattle.std.proofs.Common.{◌≡◌, ℕ, ◌+◌, ◌-◌, ◌++◌, List, length, take, drop, reverse, arith}
+use Rattle.std.specs.Prelude.{◌<◌, ◌≤◌, nat_lt, if◌then◌else◌}
+use Rattle.std.proofs.lemmas.Bool.Decides.{nat_tests}
+use Rattle.std.proofs.lemmas.List.Sums.{sum_by-append, sum_by-take-drop}
+use Rattle.std.proofs.lemmas.List.Sorted.{IsPermutation-reverse, sum_by-IsPermutation}
+use Rattle.ringcore_laws.specs.Sound.{occurrences, occurrences_in}
+use Rattle.pool.specs.Caches.{cached_after_get, cached_after_put, put_on_ring, spilled, taken_by_get}
+
+module _ {T : Type 0} (tags : T → List ℕ) (b : ℕ) where
+  pub count_turned : (items : List T) → occurrences_in tags b (reverse items) ≡ occurrences_in tags b items
+  count_turned items = sum_by-IsPermutation (λ x. occurrences b (tags x)) items (reverse items) (IsPermutation-reverse items)
+
+  pub count_both : (items more : List T) → occurrences_in tags b (items ++ more) ≡ occurrences_in tags b items + occurrences_in tags b more
+  count_both items more = sum_by-append (λ x. occurrences b (tags x)) items more
+
+  pub count_parts : (k : ℕ) (items : List T) → occurrences_in tags b (take k items) + occurrences_in tags b (drop k items) ≡ occurrences_in tags b items
+  count_parts k items = sum_by-take-drop (λ x. occurrences b (tags x)) items k
+
+  -- a get loses nothing and makes nothing up
+  pub count_get : (n : ℕ) (cache taken : List T)
+      → occurrences_in tags b (taken_by_get n cache taken) + occurrences_in tags b (cached_after_get n cache taken)
+      ≡ occurrences_in tags b cache + occurrences_in tags b taken
+  count_get n cache taken =
+      omega (
+        arith,
+        count_both (reverse (drop (length cache - n) cache)) (take (n - length cache) taken),
+        count_both (take (length cache - n) cache) (drop (n - length cache) taken),
+        count_turned (drop (length cache - n) cache),
+        count_parts (length cache - n) cache,
+        count_parts (n - length cache) taken,
+      )
+
+  -- nor does a put
+  pub count_put : (size : ℕ) (cache list : List T)
+      → occurrences_in tags b (put_on_ring size cache list) + occurrences_in tags b (cached_after_put size cache list)
+      ≡ occurrences_in tags b cache + occurrences_in tags b list
+  count_put size cache list =
+      omega (arith, count_both cache list, count_parts (spilled size (cache ++ list)) (cache ++ list))
+
+-- a put moves nothing to the ring up to the threshold, and else all but so many
+pub spilled_none : (size most long : ℕ) → long ≤ most → (if nat_lt most long then long - size else 0) ≡ 0
+spilled_none size most long few = grind (arith, nat_tests, few)
+
+pub spilled_some : (size most long : ℕ) → most < long → (if nat_lt most long then long - size else 0) ≡ long - size
+spilled_some size most long many = grind (arith, nat_tests, many)

@@ -1,0 +1,105 @@
+-- What the bulk requests of a cache answer
+use Rattle.std.specs.Prelude.{◌≡◌, ◌+◌, ◌-◌, ◌<◌, ◌≤◌, ◌++◌, ◌⊎◌, ℕ, List, [], length, Result, Ok, Err, IsOk}
+use Rattle.geom.specs.declared.plan.RingPlan.{RingPlan}
+use Rattle.ringcore_laws.specs.declared.party.Party.{Party}
+use Rattle.ringcore_laws.specs.Sound.{holds, occurrences_in}
+use Rattle.burst.specs.declared.tagged.Tagged.{Ghosts}
+use Rattle.fabric_laws.specs.declared.view.View.{View}
+use Rattle.fabric.specs.declared.hand.Hand.{Hand}
+use Rattle.fabric.specs.declared.hand.StartFault.{StartFault}
+use Rattle.fabric.specs.declared.hand.StartFault.TheVariants.{Busy, Contended, NoRoom, BadCount}
+use Rattle.fabric.specs.declared.hand.StartFault.TheVariants as start
+use Rattle.fabric.specs.Hands.{view}
+use Rattle.fabric.specs.Settles.{AreNotYours, AreYours}
+use Rattle.ringapi.specs.declared.answers.Moved.{Moved}
+use Rattle.ringapi.specs.declared.answers.PutAnswer.TheVariants as put
+use Rattle.ringapi.specs.declared.answers.Refusal.TheVariants.{Start}
+use Rattle.ringapi.specs.declared.answers.TakeAnswer.TheVariants as taken
+use Rattle.ringapi.specs.Puts.{PutHasTold}
+use Rattle.ringapi.specs.Takes.{TakeHasTold}
+use Rattle.ringapi.specs.Views.{by_bulk}
+use Rattle.pool.specs.Caches.{cached_after_get, cached_after_put, put_on_ring, taken_by_get, threshold}
+use Rattle.pool.specs.declared.faults.PoolFault.{PoolFault}
+use Rattle.pool.specs.declared.faults.PoolFault.TheVariants.{Short, Worn, CacheFull, NotYours, BadSize}
+
+-- what a refused take means to a caller that asks for buffers
+abbrev pub refusal_of : StartFault → PoolFault
+refusal_of (Busy x) = Short
+refusal_of (Contended x) = Short
+refusal_of (NoRoom left) = Short
+refusal_of start.Worn = Worn
+refusal_of BadCount = Short
+
+-- a party has the buffers of these items beside those that it had
+abbrev pub HasMore : {T : Type 0} → (T → List ℕ) → Party T → List T → Party T → Type 0
+HasMore tags before items after = (b : ℕ) → holds tags b after ≡ holds tags b before + occurrences_in tags b items
+
+-- a party has the buffers that it had, but for those of these items
+abbrev pub HasLess : {T : Type 0} → (T → List ℕ) → Party T → List T → Party T → Type 0
+HasLess tags before items after = (b : ℕ) → holds tags b after ≡ holds tags b before - occurrences_in tags b items
+
+module _ {T : Type 0} {G : Ghosts T} (tags : T → List ℕ) (most ring : ℕ) (plan : RingPlan) where
+  -- What one bulk take of n items answers, tried until it came through or was refused: n items, or none. Short is
+  -- answered only where it was NoRoom, Worn only where it was Worn
+  abbrev pub Takes : View T → ℕ → Result (Hand T G) (Hand T G × PoolFault) → List T → Type 0
+  Takes v n (Ok h) items = (length items ≡ n) × (moved : Moved)
+      × TakeHasTold {N = most} tags by_bulk n ring plan v (taken.Done h moved) items
+  Takes v n (Err (h, Short)) items = (left : ℕ)
+      × TakeHasTold {N = most} tags by_bulk n ring plan v (taken.Refused h (NoRoom left)) items
+  Takes v n (Err (h, Worn)) items = TakeHasTold {N = most} tags by_bulk n ring plan v (taken.Refused h start.Worn) items
+  Takes v n (Err (h, CacheFull)) items = ⊥
+  Takes v n (Err (h, NotYours)) items = ⊥
+  Takes v n (Err (h, BadSize)) items = ⊥
+
+  -- What a get asks of the ring where the cache has too few, by `missing` items: a bulk take of so many and `size`
+  -- more; if that is refused, and it was of more, one of `missing` alone
+  abbrev pub Refills : ℕ → View T → ℕ → Result (Hand T G) (Hand T G × PoolFault) → List T → Type 0
+  Refills size v missing result items =
+      (((size ≡ 0) ⊎ IsOk result) × Takes v (missing + size) result items)
+      ⊎ ((0 < size) × (h : Hand T G) × (e : PoolFault) × Takes v (missing + size) (Err (h, e)) []
+      × Takes (view h) missing result items)
+
+  -- What a bulk put of these items answers, tried until it came through or was refused: all of them are put, or the
+  -- ring is worn
+  abbrev pub Spills : View T → List T → Result (Hand T G) (Hand T G) → Type 0
+  Spills v items (Ok h) = (moved : Moved)
+      × PutHasTold {N = most} tags by_bulk ring plan v items (put.Done h moved) []
+  Spills v items (Err h) = PutHasTold {N = most} tags by_bulk ring plan v items (put.Refused h (Start start.Worn)) items
+
+  -- What a get of n items answers where the cache has fewer, with the items that it gives and the cache after it. The
+  -- items that the last request took are `taken`
+  abbrev pub Deals : ℕ → List T → Result (Hand T G) (Hand T G × PoolFault) → List T → List T → List T → Type 0
+  Deals n cache (Ok h) taken items later =
+      (items ≡ taken_by_get n cache taken) × (later ≡ cached_after_get n cache taken)
+  Deals n cache (Err e) taken items later = (items ≡ []) × (later ≡ cache)
+
+  abbrev pub Fetches : ℕ → View T → ℕ → List T → Result (Hand T G) (Hand T G × PoolFault) → List T → List T → Type 0
+  Fetches size v n cache result items later =
+      (taken : List T) × Refills size v (n - length cache) result taken × Deals n cache result taken items later
+
+  -- What a put of a list answers, with what is left of the list and the cache after it. Items that aren't the hand's to
+  -- put beside what is cached are refused before anything else; where the threshold isn't passed, nothing is asked of
+  -- the ring
+  abbrev pub Stores : ℕ → View T → List T → List T → Result (Hand T G) (Hand T G × PoolFault) → List T → List T → Type 0
+  Stores size v cache list (Ok h) rest later =
+      AreYours tags plan v (cache ++ list) × (rest ≡ []) × (later ≡ cached_after_put size cache list)
+      × (((length (cache ++ list) ≤ threshold size) × (view h ≡ v))
+      ⊎ ((threshold size < length (cache ++ list)) × Spills v (put_on_ring size cache list) (Ok h)))
+  Stores size v cache list (Err (h, NotYours)) rest later =
+      AreNotYours tags plan v (cache ++ list) × (rest ≡ list) × (later ≡ cache) × (view h ≡ v)
+  Stores size v cache list (Err (h, Worn)) rest later =
+      AreYours tags plan v (cache ++ list) × (rest ≡ list) × (later ≡ cache)
+      × (threshold size < length (cache ++ list)) × Spills v (put_on_ring size cache list) (Err h)
+  Stores size v cache list (Err (h, Short)) rest later = ⊥
+  Stores size v cache list (Err (h, CacheFull)) rest later = ⊥
+  Stores size v cache list (Err (h, BadSize)) rest later = ⊥
+
+  -- What a flush answers, with the cache after it. An empty cache asks nothing of the ring
+  abbrev pub Flushes : View T → List T → Result (Hand T G) (Hand T G × PoolFault) → List T → Type 0
+  Flushes v cache (Ok h) later =
+      (later ≡ []) × (((cache ≡ []) × (view h ≡ v)) ⊎ (AreYours tags plan v cache × Spills v cache (Ok h)))
+  Flushes v cache (Err (h, NotYours)) later = AreNotYours tags plan v cache × (later ≡ cache) × (view h ≡ v)
+  Flushes v cache (Err (h, Worn)) later = AreYours tags plan v cache × (later ≡ cache) × Spills v cache (Err h)
+  Flushes v cache (Err (h, Short)) later = ⊥
+  Flushes v cache (Err (h, CacheFull)) later = ⊥
+  Flushes v cache (Err (h, BadSize)) later = ⊥

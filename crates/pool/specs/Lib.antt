@@ -1,0 +1,5 @@
+pub mod Caches
+pub mod Hands
+pub mod Asks
+pub mod Calls
+pub mod Locals

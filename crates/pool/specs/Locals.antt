@@ -1,0 +1,35 @@
+-- What a contract sees of a pool's cache
+use Rattle.std.specs.Prelude.{◌≡◌, ℕ, List, Option}
+use Rattle.burst.specs.declared.tagged.Tagged.{Ghosts}
+use Rattle.fabric_laws.specs.declared.view.View.{View}
+use Rattle.fabric.specs.declared.fabric.Fabric.{Fabric}
+use Rattle.fabric.specs.declared.hand.Hand.{Hand}
+use Rattle.pool.specs.declared.local.Local.{Local}
+use Rattle.pool.specs.Hands.{IsIn, view_in}
+
+module _ {T : Type 0} {G : Ghosts T} {N : ℕ} where
+  -- the items in the cache, the oldest first
+  abbrev pub cache_of : Local T N G → List T
+  cache_of l = l.cache
+
+  abbrev pub size_of : Local T N G → ℕ
+  size_of l = l.size
+
+  -- the free ring
+  abbrev pub ring_of : Local T N G → ℕ
+  ring_of l = l.ring
+
+  abbrev pub hand_of : Local T N G → Option (Hand T G)
+  hand_of l = l.hand
+
+  -- the view of its hand
+  abbrev pub view_of : Local T N G → View T
+  view_of l = view_in l.hand
+
+  -- its hand comes from this fabric
+  abbrev pub IsLocalOf : Fabric T N → Local T N G → Type 0
+  IsLocalOf f l = IsIn f l.hand
+
+  -- the same ring and size
+  abbrev pub SameRing : Local T N G → Local T N G → Type 0
+  SameRing l m = (m.ring ≡ l.ring) × (m.size ≡ l.size)

@@ -1,0 +1,134 @@
+//! Gets, puts and flushes that are lent a list.
+ghost use Rattle.std.specs.Prelude.{◌≡◌, ◌+◌, ◌<◌, ◌≤◌, ◌++◌, [], length, IfOk, IfErr};
+ghost use Rattle.ringcore_laws.specs.Moves.{Owns};
+ghost use Rattle.fabric.specs.Hands.{OnRing};
+ghost use Rattle.pool.specs.Calls.{FlushTells, GetTells, GetsCached, PutTells};
+ghost use Rattle.pool.specs.Locals.{IsLocalOf, SameRing, cache_of, ring_of, view_of};
+
+use crate::asks::{empty, fetch, store};
+use crate::faults::PoolFault;
+use crate::local::Local;
+use crate::moves::pour;
+use burst::{Burst, Tagged};
+use fabric::Fabric;
+use std::sync::Wait;
+
+impl<T: Tagged, const N: usize> Local<T, N> {
+    /// Gets `n` items from the cache alone, the newest first, into an empty list. Refused as `Short` where it has
+    /// fewer; nothing moves then. No step on a word, no memory, no waiting.
+    pub fn get_cached_into(&mut self, n: usize, into: &mut Burst<T, N>) -> Result<(), PoolFault>
+        requires few { n ≤ 64 }
+        requires empty { into.old ≡ [] }
+        ensures same { SameRing self.old self.new × (view_of self.new ≡ view_of self.old) }
+        ensures told { GetsCached n (cache_of self.old) result into.new (cache_of self.new) }
+    {
+        let cached = self.cache.len();
+        if cached < n {
+            return Err(PoolFault::Short);
+        }
+        pour(&mut self.cache, cached - n, into);
+        Ok(())
+    }
+
+    /// Gets `n` items into an empty list, 1 to 64: the newest of the cache, the newest first. Where it has too few, all
+    /// of them, and behind them the first that one bulk take of the missing and `size` more gave; the others of these
+    /// are the cache then, in the ring's order. Where that take is refused, one of the missing alone.
+    ///
+    /// Refused, where that is refused too: `Short`, where it found too few; `Worn`. Nothing moves then. No memory; it
+    /// waits while the ring is busy, and not for items.
+    pub fn get_into<R: Wait>(
+        &mut self,
+        rt: &R,
+        f: &Fabric<T, N>,
+        n: usize,
+        into: &mut Burst<T, N>,
+    ) -> Result<(), PoolFault>
+        requires local { IsLocalOf f.now self.old }
+        requires some { 0 < n }
+        requires few { n ≤ 64 }
+        requires empty { into.old ≡ [] }
+        ensures local { IsLocalOf f.now self.new }
+        ensures same { SameRing self.old self.new }
+        ensures told { OnRing f.now (ring_of self.old)
+            (λ plan. GetTells T.numbers plan self.old self.new n result into.new) }
+        ensures own { IfOk result (λ _. Owns T.numbers (view_of self.new).party (into.new ++ cache_of self.new)) }
+    {
+        let cached = self.cache.len();
+        if n <= cached {
+            pour(&mut self.cache, cached - n, into);
+            return Ok(());
+        }
+        let Some(hand) = self.hand.take() else {
+            unreachable!();
+        };
+        match fetch(rt, f, hand, self.ring, self.size, &mut self.cache, n, into) {
+            Ok(hand) => {
+                self.hand = Some(hand);
+                Ok(())
+            }
+            Err((hand, fault)) => {
+                self.hand = Some(hand);
+                Err(fault)
+            }
+        }
+    }
+
+    /// Puts a list of at most 64 items: pushes them behind the cache, in order. Where its threshold,
+    /// `floor(3 * size / 2)`, would be passed, the oldest of cache and list together go to the ring in one bulk put,
+    /// until `size` are left.
+    ///
+    /// Refused: `NotYours`, tested first; `Worn`. Nothing moves then, and the list has its items. No memory; it waits
+    /// while the ring is busy.
+    pub fn put_from<R: Wait>(
+        &mut self,
+        rt: &R,
+        f: &Fabric<T, N>,
+        list: &mut Burst<T, N>,
+    ) -> Result<(), PoolFault>
+        requires local { IsLocalOf f.now self.old }
+        requires few { length list.old ≤ 64 }
+        ensures local { IsLocalOf f.now self.new }
+        ensures same { SameRing self.old self.new }
+        ensures told { OnRing f.now (ring_of self.old)
+            (λ plan. PutTells T.numbers plan self.old self.new list.old result list.new) }
+    {
+        let Some(hand) = self.hand.take() else {
+            unreachable!();
+        };
+        match store(rt, f, hand, self.ring, self.size, &mut self.cache, list) {
+            Ok(hand) => {
+                self.hand = Some(hand);
+                Ok(())
+            }
+            Err((hand, fault)) => {
+                self.hand = Some(hand);
+                Err(fault)
+            }
+        }
+    }
+
+    /// Puts all of the cache on the ring in one bulk put, the oldest first, where it isn't empty.
+    ///
+    /// Refused: `NotYours`, where an item of the cache doesn't carry exactly one buffer; `Worn`. The cache stays as it
+    /// is then. No memory; it waits while the ring is busy.
+    pub fn flush<R: Wait>(&mut self, rt: &R, f: &Fabric<T, N>) -> Result<(), PoolFault>
+        requires local { IsLocalOf f.now self.old }
+        ensures local { IsLocalOf f.now self.new }
+        ensures same { SameRing self.old self.new }
+        ensures told { OnRing f.now (ring_of self.old) (λ plan. FlushTells T.numbers plan self.old self.new result) }
+    {
+        let Some(hand) = self.hand.take() else {
+            unreachable!();
+        };
+        match empty(rt, f, hand, self.ring, &mut self.cache) {
+            Ok(hand) => {
+                self.hand = Some(hand);
+                Ok(())
+            }
+            Err((hand, fault)) => {
+                self.hand = Some(hand);
+                Err(fault)
+            }
+        }
+    }
+}

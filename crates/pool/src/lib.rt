@@ -1,0 +1,13 @@
+//! A pool of buffers with a cache for one thread: a free ring that all threads share, and in front of it a stack of
+//! buffers that this thread's hand owns, so that most gets and puts touch no word of the ring.
+#![tactic(auto)]
+
+mod asks;
+mod faults;
+mod lent;
+mod local;
+mod moves;
+mod opening;
+
+pub use faults::PoolFault;
+pub use local::Local;

@@ -1,0 +1,33 @@
+//! A thread's way to a pool: its hand, the free ring, and its cache.
+ghost use Rattle.std.specs.Prelude.{◌≡◌, ◌≤◌, ◌+◌, length, true};
+ghost use Rattle.std.specs.Option.{is_some};
+ghost use Rattle.ringcore_laws.specs.Moves.{Owns};
+ghost use Rattle.pool.specs.Caches.{threshold};
+ghost use Rattle.pool.specs.Hands.{IsFreeRing, view_in};
+
+use burst::{Burst, Tagged};
+use fabric::Hand;
+
+/// The largest size of a cache.
+pub(crate) const LARGEST: usize = 512;
+
+/// The most items that one call gets or puts.
+pub(crate) const BATCH: usize = 64;
+
+/// A hand with a cache of buffers of a free ring: a stack, its newest last. The buffers in it are the hand's own and
+/// distinct, so none of them is on a ring or at another hand.
+///
+/// The hand is in a place of its own since calls on rings take it whole; between calls it is always there.
+#[derive(Drop)]
+pub struct Local<T: Tagged, const N: usize> {
+    pub(crate) hand: Option<Hand<T>>,
+    pub(crate) ring: usize,
+    pub(crate) size: usize,
+    pub(crate) cache: Burst<T, N>,
+    pub ghost here: { is_some hand ≡ true },
+    pub ghost free: { IsFreeRing (view_in hand).plans ring },
+    pub ghost small: { size ≤ 512 },
+    pub ghost room: { threshold size + 64 ≤ N },
+    pub ghost within: { length cache ≤ threshold size },
+    pub ghost own: { Owns T.numbers (view_in hand).party cache },
+}

@@ -1,0 +1,5 @@
+pub mod Yours
+pub mod Tries
+pub mod Putting
+pub mod Again
+pub mod Taking

@@ -1,0 +1,69 @@
+use Rattle.std.proofs.Common.{rules, subst, sym, ◌∙◌}
+use Rattle.ringcore_laws.proofs.Laws.{same_plan}
+use Rattle.fabric.specs.Hands.{view}
+use Rattle.fabric.specs.Settles.{AreYours}
+use Rattle.ringapi.specs.Puts.{IsPutOf, IsUnfinishedPut, PutHasTold}
+use Rattle.ringapi.proofs.Again.{had_is, open_first, put_again, refused_yours, settle_more}
+use Rattle.ringapi.proofs.Putting.{plan_of}
+use Rattle.ringapi.proofs.put.again.Goals as goal
+
+pub attempt-requires : goal.attempt-requires
+attempt-requires g c =
+    let tags = g.T.Tagged.numbers in
+    let had = c.args.list.now in
+    let is = c.in-Refused.is in (
+      search rules,
+      (
+        search rules,
+        (
+          search rules,
+          (
+            subst (IsPutOf c.args.f.now c.args.ring) is c.requires.made,
+            (
+              c.requires.ring,
+              λ plan there.
+                  let told = c.requires.told plan there in
+                  subst (AreYours tags plan (view c.in-Refused.hand)) (sym (had_is g.row.N tags c.args.how c.args.ring plan told.0 told.1 c.in-Refused.hand
+                  c.in-Refused.field-1 had (subst IsUnfinishedPut is c.requires.unfinished)
+                  (subst (λ a. PutHasTold tags c.args.how c.args.ring plan told.0 told.1 a had) is told.2)))
+                  (refused_yours g.row.N tags c.args.how c.args.ring plan told.0 told.1 c.in-Refused.hand c.in-Refused.field-1 had
+                  (subst IsUnfinishedPut is c.requires.unfinished)
+                  (subst (λ a. PutHasTold tags c.args.how c.args.ring plan told.0 told.1 a had) is told.2)),
+            ),
+          ),
+        ),
+      ),
+    )
+
+pub settle-requires : goal.settle-requires
+settle-requires g c =
+    let tags = g.T.Tagged.numbers in
+    let had = c.args.list.now in
+    let is = c.in-Open.is in
+    let o = c.in-Open.span in
+    let made = subst (IsPutOf c.args.f.now c.args.ring) is c.requires.made in
+    let at = plan_of o c.args.f.now c.args.ring made.0 made.1 in
+    let told = c.requires.told o.ring.shape.plan at in
+    let first = open_first g.row.N tags c.args.how c.args.ring o.ring.shape.plan told.0 told.1 o c.in-Open.field-1 had
+    (subst (λ a. PutHasTold tags c.args.how c.args.ring o.ring.shape.plan told.0 told.1 a had) is told.2) made.1 in
+    (search rules, (search rules, (search rules, (first.0, first.1))))
+
+pub returns-in-Refused-clause-told : goal.returns-in-Refused-clause-told
+returns-in-Refused-clause-told g c plan there v items told =
+    let tags = g.T.Tagged.numbers in
+    let had = c.args.list.now in
+    let is = c.in-Refused.is in
+    put_again g.row.N tags c.args.how c.args.ring plan v items c.in-Refused.hand c.in-Refused.field-1 had c.attempt.new.list c.attempt.result
+    (subst IsUnfinishedPut is c.requires.unfinished) (subst (λ a. PutHasTold tags c.args.how c.args.ring plan v items a had) is told)
+    (c.attempt.ensures.told plan there)
+
+pub returns-in-Open-clause-told : goal.returns-in-Open-clause-told
+returns-in-Open-clause-told g c plan there v items told =
+    let tags = g.T.Tagged.numbers in
+    let had = c.args.list.now in
+    let is = c.in-Open.is in
+    let o = c.in-Open.span in
+    let made = subst (IsPutOf c.args.f.now c.args.ring) is c.requires.made in
+    let at = plan_of o c.args.f.now c.args.ring made.0 made.1 in
+    settle_more g.row.N tags c.args.how c.args.ring plan v items o c.in-Open.field-1 had c.settle.new.list c.settle.result made.1 (same_plan (sym at ∙ there))
+    (subst (λ a. PutHasTold tags c.args.how c.args.ring plan v items a had) is told) c.settle.ensures.settled

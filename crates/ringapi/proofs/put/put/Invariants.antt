@@ -1,0 +1,10 @@
+use Rattle.fabric.specs.Hands.{OnRing, view}
+use Rattle.ringapi.specs.Puts.{IsPutOf, PutHasTold}
+use Rattle.ringapi.proofs.put.put.Given as goal
+
+abbrev pub invariant-loop : goal.invariant-loop
+invariant-loop g l = record {
+  iterator : (goal.iterator-loop g).can_next l.iterator' × (goal.iterator-loop g).is_finite l.iterator';
+  made : IsPutOf l.f l.ring l.answer;
+  told : OnRing l.f l.ring (λ plan. PutHasTold g.T.Tagged.numbers l.how l.ring plan (view l.fn.hand) l.fn.list l.answer l.list);
+}

@@ -1,0 +1,19 @@
+use Rattle.std.proofs.Common.{ap, length, subst, sym, take, ◌∙◌}
+use Rattle.std.proofs.lemmas.List.{length-take-le}
+use Rattle.fabric.specs.Hands.{put_span, put_view}
+use Rattle.fabric.specs.Settles.{AreYours}
+use Rattle.ringapi.proofs.Putting.{only_early}
+use Rattle.ringapi.proofs.put.settle.Goals as goal
+
+pub unreachable-requires : goal.unreachable-requires
+unreachable-requires g c =
+    let o = c.args.span in
+    let items = c.args.list.now in
+    let k = c.count.result in
+    let plan = o.ring.shape.plan in
+    let first = take k items in
+    let long = length-take-le (put_span o).count items c.requires.fits in
+    only_early g.T.Tagged.numbers plan.put plan (length first) (put_span o).count (put_span o).start first (put_view o) (put_view c.in-Err.span) c.in-Err.fault
+    (ap (λ n. length (take n items)) c.count.ensures ∙ long) (c.in-Err.ensures.refused).2
+    (subst (λ n. AreYours g.T.Tagged.numbers plan (put_view o) (take n items)) (sym c.count.ensures) c.requires.yours)
+    c.in_default.not-NotYet

@@ -1,0 +1,43 @@
+use Rattle.std.proofs.Common.{rules, subst, sym, ◌∙◌}
+use Rattle.ringcore_laws.proofs.Laws.{same_plan}
+use Rattle.fabric.specs.Hands.{rings_of}
+use Rattle.fabric.proofs.Told.{ring_at}
+use Rattle.ringapi.specs.Takes.{IsTakeOf, TakeHasTold}
+use Rattle.ringapi.proofs.Taking.{plan_of, settle_more, take_again}
+use Rattle.ringapi.proofs.take.again.Goals as goal
+
+pub try_take-requires : goal.try_take-requires
+try_take-requires g c =
+    let is = c.in-Refused.is in
+    let w = ring_at (rings_of c.args.f.now) c.args.ring c.requires.ring in
+    let told = c.requires.told w.0 w.1 in
+    let before =
+    subst (λ a. TakeHasTold g.T.Tagged.numbers c.args.how c.args.n c.args.ring w.0 told.0 a c.args.into.now) is told.1 in
+    (search rules, (search rules, (search rules, (subst (IsTakeOf c.args.f.now c.args.ring) is c.requires.made, (c.requires.ring, before.2.0)))))
+
+pub settle-requires : goal.settle-requires
+settle-requires g c =
+    let is = c.in-Open.is in
+    let w = ring_at (rings_of c.args.f.now) c.args.ring c.requires.ring in
+    let told = c.requires.told w.0 w.1 in
+    let before =
+    subst (λ a. TakeHasTold g.T.Tagged.numbers c.args.how c.args.n c.args.ring w.0 told.0 a c.args.into.now) is told.1 in
+    (search rules, (search rules, (search rules, before.2.0)))
+
+pub returns-in-Refused-clause-told : goal.returns-in-Refused-clause-told
+returns-in-Refused-clause-told g c plan there v told =
+    let tags = g.T.Tagged.numbers in
+    let had = c.args.into.now in
+    take_again g.row.N tags c.args.how c.args.n c.args.ring plan v c.in-Refused.hand c.in-Refused.field-1 had c.try_take.new.into c.try_take.result
+    (subst (λ a. TakeHasTold tags c.args.how c.args.n c.args.ring plan v a had) c.in-Refused.is told) (c.try_take.ensures.told plan there)
+
+pub returns-in-Open-clause-told : goal.returns-in-Open-clause-told
+returns-in-Open-clause-told g c plan there v told =
+    let tags = g.T.Tagged.numbers in
+    let had = c.args.into.now in
+    let is = c.in-Open.is in
+    let o = c.in-Open.span in
+    let made = subst (IsTakeOf c.args.f.now c.args.ring) is c.requires.made in
+    let at = plan_of o c.args.f.now c.args.ring made.0 made.1 in
+    settle_more g.row.N tags c.args.how c.args.n c.args.ring plan v o c.in-Open.field-1 had c.settle.new.items c.settle.result made.1
+    (same_plan (sym at ∙ there)) (subst (λ a. TakeHasTold tags c.args.how c.args.n c.args.ring plan v a had) is told) c.settle.ensures.settled

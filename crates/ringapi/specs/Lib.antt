@@ -1,0 +1,3 @@
+pub mod Views
+pub mod Puts
+pub mod Takes

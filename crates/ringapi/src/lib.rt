@@ -1,0 +1,22 @@
+//! Whole calls on the rings of a fabric: a start and a settle in one, tried once, or again until they come through; and
+//! peeks, which look at items before they are taken.
+#![tactic(auto)]
+
+mod answers;
+mod lent;
+mod peek;
+mod put;
+mod take;
+mod unfinished;
+mod values;
+
+pub use answers::{Moved, PutAnswer, Refusal, TakeAnswer};
+pub use lent::{
+    put_bulk_from, put_burst_from, take_bulk_into, take_burst_into, try_put_bulk_from,
+    try_put_burst_from, try_take_bulk_into, try_take_burst_into,
+};
+pub use peek::{PeekPut, PeekSpan, PeekTake, peek_put, peek_take, peek_take_into};
+pub use values::{
+    put_bulk, put_burst, take_bulk, take_burst, try_put_bulk, try_put_burst, try_take_bulk,
+    try_take_burst,
+};

@@ -1,0 +1,133 @@
+//! Whole puts.
+ghost use Rattle.std.specs.Prelude.{◌≡◌, ◌<◌, ◌≤◌, [], length, take, drop};
+ghost use Rattle.std.specs.Prelude.{ℕ, List};
+ghost use Rattle.fabric_laws.specs.declared.view.View.{View};
+ghost use Rattle.fabric.specs.Hands.{IsHandOf, OnRing, put_fabric, put_span, put_view, rings_of, view};
+ghost use Rattle.fabric.specs.Settles.{AreYours};
+ghost use Rattle.ringapi.specs.Puts.{IsPutOf, IsUnfinishedPut, PutHasTold, PutSettles, PutTells, SettlesPut};
+
+use crate::answers::{Moved, PutAnswer, Refusal};
+use burst::{Burst, Tagged};
+use crossbeam_utils::Backoff;
+use fabric::{Fabric, Hand, PutOpen, SettleFault};
+use geom::How;
+use std::sync::Wait;
+
+/// Tries once to settle a span with the first items of a list.
+fn settle<'f, T: Tagged, const N: usize>(
+    span: PutOpen<'f, T, N>,
+    list: &mut Burst<T, N>,
+) -> PutAnswer<'f, T, N>
+    requires fits { (put_span span).count ≤ length list.old }
+    requires yours { AreYours T.numbers span.ring.shape.plan (put_view span) (take (put_span span).count list.old) }
+    ensures settled { SettlesPut span.entry list.old result list.new }
+{
+    let moved = Moved {
+        count: span.count(),
+        left: span.left(),
+    };
+    match span.try_settle_first(moved.count, list) {
+        Ok(hand) => PutAnswer::Done(hand, moved),
+        Err((span, fault)) => match fault {
+            SettleFault::NotYet(tail) => PutAnswer::Open(span, tail),
+            _ => unreachable!(),
+        },
+    }
+}
+
+/// Tries once to reserve a span, and to settle it with the first items of a list.
+fn attempt<'f, T: Tagged, const N: usize>(
+    f: &'f Fabric<T, N>,
+    hand: Hand<T>,
+    ring: usize,
+    how: How,
+    list: &mut Burst<T, N>,
+) -> PutAnswer<'f, T, N>
+    requires hand { IsHandOf f.now hand }
+    requires ring { ring < length (rings_of f.now) }
+    requires yours { OnRing f.now ring (λ plan. AreYours T.numbers plan (view hand) list.old) }
+    ensures made { IsPutOf f.now ring result }
+    ensures told { OnRing f.now ring
+        (λ plan. PutTells T.numbers how ring plan (view hand) list.old [] [] result list.new) }
+{
+    match f.try_start_put(hand, ring, list.len(), how) {
+        Ok(span) => settle(span, list),
+        Err((hand, fault)) => PutAnswer::Refused(hand, Refusal::Start(fault)),
+    }
+}
+
+/// A whole put, tried once.
+pub(crate) fn try_put<'f, T: Tagged, const N: usize>(
+    f: &'f Fabric<T, N>,
+    hand: Hand<T>,
+    ring: usize,
+    how: How,
+    list: &mut Burst<T, N>,
+) -> PutAnswer<'f, T, N>
+    requires hand { IsHandOf f.now hand }
+    requires ring { ring < length (rings_of f.now) }
+    ensures made { IsPutOf f.now ring result }
+    ensures told { OnRing f.now ring
+        (λ plan. PutTells T.numbers how ring plan (view hand) list.old [] [] result list.new) }
+    ensures settled { PutSettles ring (view hand) list.old result }
+{
+    let mut hand = hand;
+    if !hand.may_put(f, ring, list) {
+        return PutAnswer::Refused(hand, Refusal::NotYours);
+    }
+    attempt(f, hand, ring, how, list)
+}
+
+/// The next try of a put that isn't finished.
+fn again<'f, T: Tagged, const N: usize>(
+    f: &'f Fabric<T, N>,
+    answer: PutAnswer<'f, T, N>,
+    ring: usize,
+    how: How,
+    list: &mut Burst<T, N>,
+) -> PutAnswer<'f, T, N>
+    requires made { IsPutOf f.now ring answer }
+    requires ring { ring < length (rings_of f.now) }
+    requires unfinished { IsUnfinishedPut answer }
+    requires told { OnRing f.now ring (λ plan. (v : View T) × (items : List T)
+        × PutHasTold T.numbers how ring plan v items answer list.old) }
+    ensures made { IsPutOf f.now ring result }
+    ensures told { OnRing f.now ring (λ plan. (v : View T) (items : List T)
+        → PutHasTold T.numbers how ring plan v items answer.entry list.old
+        → PutHasTold T.numbers how ring plan v items result list.new) }
+{
+    match answer {
+        PutAnswer::Done(_, _) => unreachable!(),
+        PutAnswer::Refused(hand, _) => attempt(f, hand, ring, how, list),
+        PutAnswer::Open(span, _) => settle(span, list),
+    }
+}
+
+/// A whole put, tried until it is finished.
+pub(crate) fn put<'f, T: Tagged, const N: usize, R: Wait>(
+    rt: &R,
+    f: &'f Fabric<T, N>,
+    hand: Hand<T>,
+    ring: usize,
+    how: How,
+    list: &mut Burst<T, N>,
+) -> PutAnswer<'f, T, N>
+    requires hand { IsHandOf f.now hand }
+    requires ring { ring < length (rings_of f.now) }
+    ensures made { IsPutOf f.now ring result }
+    ensures told { OnRing f.now ring
+        (λ plan. PutHasTold T.numbers how ring plan (view hand) list.old result list.new) }
+    ensures settled { PutSettles ring (view hand) list.old result }
+    ensures finished { IsUnfinishedPut result → ⊥ }
+{
+    let backoff = Backoff::new();
+    let mut answer = try_put(f, hand, ring, how, list);
+    for _ in rt.forever() {
+        if !answer.is_unfinished() {
+            return answer;
+        }
+        backoff.snooze();
+        answer = again(f, answer, ring, how, list);
+    }
+    unreachable!()
+}

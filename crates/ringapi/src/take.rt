@@ -1,0 +1,110 @@
+//! Whole takes.
+ghost use Rattle.std.specs.Prelude.{◌≡◌, ◌<◌, [], ℕ, length};
+ghost use Rattle.fabric_laws.specs.declared.view.View.{View};
+ghost use Rattle.fabric.specs.Hands.{IsHandOf, OnRing, rings_of, take_view, view};
+ghost use Rattle.ringapi.specs.Takes.{IsTakeOf, IsUnfinishedTake, SettlesTake, TakeHasTold, TakeSettles, TakeTells};
+
+use crate::answers::{Moved, TakeAnswer};
+use burst::{Burst, Tagged};
+use crossbeam_utils::Backoff;
+use fabric::{Fabric, Hand, SettleFault, TakeSpan};
+use geom::How;
+use std::sync::Wait;
+
+/// Tries once to settle a span with all its items.
+fn settle<'f, T: Tagged, const N: usize>(
+    span: TakeSpan<'f, T, N>,
+    items: &mut Burst<T, N>,
+) -> TakeAnswer<'f, T, N>
+    requires shows { items.old ≡ (take_view span).shown }
+    ensures settled { SettlesTake T.numbers span.entry items.old result items.new }
+{
+    let moved = Moved {
+        count: span.count(),
+        left: span.left(),
+    };
+    match span.try_settle_into(moved.count, items) {
+        Ok(hand) => TakeAnswer::Done(hand, moved),
+        Err((span, fault)) => match fault {
+            SettleFault::NotYet(tail) => TakeAnswer::Open(span, tail),
+            _ => unreachable!(),
+        },
+    }
+}
+
+/// A whole take, tried once.
+pub(crate) fn try_take<'f, T: Tagged, const N: usize>(
+    f: &'f Fabric<T, N>,
+    hand: Hand<T>,
+    ring: usize,
+    n: usize,
+    how: How,
+    into: &mut Burst<T, N>,
+) -> TakeAnswer<'f, T, N>
+    requires hand { IsHandOf f.now hand }
+    requires ring { ring < length (rings_of f.now) }
+    requires empty { into.old ≡ [] }
+    ensures made { IsTakeOf f.now ring result }
+    ensures told { OnRing f.now ring (λ plan. TakeTells T.numbers how n ring plan (view hand) [] [] result into.new) }
+    ensures settled { TakeSettles ring (view hand) result into.new }
+{
+    match f.try_start_take_into(hand, ring, n, how, into) {
+        Ok(span) => settle(span, into),
+        Err((hand, fault)) => TakeAnswer::Refused(hand, fault),
+    }
+}
+
+/// The next try of a take that isn't finished.
+fn again<'f, T: Tagged, const N: usize>(
+    f: &'f Fabric<T, N>,
+    answer: TakeAnswer<'f, T, N>,
+    ring: usize,
+    n: usize,
+    how: How,
+    into: &mut Burst<T, N>,
+) -> TakeAnswer<'f, T, N>
+    requires made { IsTakeOf f.now ring answer }
+    requires ring { ring < length (rings_of f.now) }
+    requires unfinished { IsUnfinishedTake answer }
+    requires told { OnRing f.now ring (λ plan. (v : View T) × TakeHasTold T.numbers how n ring plan v answer into.old) }
+    ensures made { IsTakeOf f.now ring result }
+    ensures told { OnRing f.now ring (λ plan. (v : View T)
+        → TakeHasTold T.numbers how n ring plan v answer.entry into.old
+        → TakeHasTold T.numbers how n ring plan v result into.new) }
+{
+    match answer {
+        TakeAnswer::Done(_, _) => unreachable!(),
+        TakeAnswer::Refused(hand, _) => try_take(f, hand, ring, n, how, into),
+        TakeAnswer::Open(span, _) => settle(span, into),
+    }
+}
+
+/// A whole take, tried until it is finished.
+pub(crate) fn take<'f, T: Tagged, const N: usize, R: Wait>(
+    rt: &R,
+    f: &'f Fabric<T, N>,
+    hand: Hand<T>,
+    ring: usize,
+    n: usize,
+    how: How,
+    into: &mut Burst<T, N>,
+) -> TakeAnswer<'f, T, N>
+    requires hand { IsHandOf f.now hand }
+    requires ring { ring < length (rings_of f.now) }
+    requires empty { into.old ≡ [] }
+    ensures made { IsTakeOf f.now ring result }
+    ensures told { OnRing f.now ring (λ plan. TakeHasTold T.numbers how n ring plan (view hand) result into.new) }
+    ensures settled { TakeSettles ring (view hand) result into.new }
+    ensures finished { IsUnfinishedTake result → ⊥ }
+{
+    let backoff = Backoff::new();
+    let mut answer = try_take(f, hand, ring, n, how, into);
+    for _ in rt.forever() {
+        if !answer.is_unfinished() {
+            return answer;
+        }
+        backoff.snooze();
+        answer = again(f, answer, ring, n, how, into);
+    }
+    unreachable!()
+}

@@ -1,0 +1,52 @@
+//! What a waiting call tries again.
+ghost use Rattle.std.specs.Prelude.{◌≡◌, true, false};
+ghost use Rattle.ringapi.specs.Puts.{IsUnfinishedPut};
+ghost use Rattle.ringapi.specs.Takes.{IsUnfinishedTake};
+ghost use Rattle.ringapi.specs.Views.{PassesBy};
+
+use crate::answers::{PutAnswer, Refusal, TakeAnswer};
+use burst::Tagged;
+use fabric::StartFault;
+
+/// Whether the next start may not find this refusal, with nothing done by the caller in between.
+fn passes_by(fault: StartFault) -> bool
+    ensures some { result ≡ true → PassesBy fault }
+    ensures none { result ≡ false → PassesBy fault → ⊥ }
+{
+    match fault {
+        StartFault::Busy(_) => true,
+        StartFault::Contended(_) => true,
+        _ => false,
+    }
+}
+
+impl<T: Tagged, const N: usize> PutAnswer<'_, T, N> {
+    /// Whether a waiting put tries again: after `Busy` and `Contended`, and where its span is open.
+    pub fn is_unfinished(&self) -> bool
+        ensures some { result ≡ true → IsUnfinishedPut self.now }
+        ensures none { result ≡ false → IsUnfinishedPut self.now → ⊥ }
+    {
+        match self {
+            PutAnswer::Done(_, _) => false,
+            PutAnswer::Refused(_, refusal) => match refusal {
+                Refusal::Start(fault) => passes_by(*fault),
+                Refusal::NotYours => false,
+            },
+            PutAnswer::Open(_, _) => true,
+        }
+    }
+}
+
+impl<T: Tagged, const N: usize> TakeAnswer<'_, T, N> {
+    /// Whether a waiting take tries again: after `Busy` and `Contended`, and where its span is open.
+    pub fn is_unfinished(&self) -> bool
+        ensures some { result ≡ true → IsUnfinishedTake self.now }
+        ensures none { result ≡ false → IsUnfinishedTake self.now → ⊥ }
+    {
+        match self {
+            TakeAnswer::Done(_, _) => false,
+            TakeAnswer::Refused(_, fault) => passes_by(*fault),
+            TakeAnswer::Open(_, _) => true,
+        }
+    }
+}
