@@ -9,3 +9,4 @@ pub mod SentAgain
 pub mod Heads
 pub mod Fronts
 pub mod Rows
+pub mod Ways

@@ -19,6 +19,12 @@ pub fn a_sent_frame_is_right()
         sent.verdict ≡ Send port tagged → length sent.frame ≡ length frame }
 {}
 
+/// A frame is sent by one of the ports that there are.
+pub fn a_frame_is_sent_by_a_port()
+    ensures { (routes : Members) (ports : Ports) (frame : List ℕ) (wire port : ℕ) (tagged : Bool)
+        → (forwarded routes ports frame wire).verdict ≡ Send port tagged → port < length ports.sources.items }
+{}
+
 /// A frame that was sent, and has time to live left, is sent again by the same port, with the same routes and ports.
 pub fn a_sent_frame_is_sent_again()
     ensures { (routes : Members) (ports : Ports) (frame : List ℕ) (wire port : ℕ) (tagged : Bool)

@@ -1,0 +1,27 @@
+use Rattle.std.proofs.Common.{◌∙◌, sym, ap, subst, map}
+use Rattle.std.specs.FinMap.{get-empty}
+use Rattle.std.specs.Ordering.{nat_cmp}
+use Rattle.pcapio.specs.Counted.{told}
+use Rattle.stages.specs.Ports.{devices_of}
+use Rattle.stages.specs.Turns.{IsVacant}
+use Rattle.stages.proofs.Known.{if_err}
+use Rattle.stages.proofs.Opened.{untold}
+use Rattle.stages.proofs.Reasons.{why_stopped_at}
+use Rattle.stages.proofs.running.run_opened.Goals as goal
+
+pub returns-in-Err-clause-begun : goal.returns-in-Err-clause-begun
+returns-in-Err-clause-begun g c all known =
+    untold g.W.Write.contents g.J.Run.before g.J.Run.resolution all c.into_devices-devices.result.items
+    (ap (map (told g.W.Write.contents)) (c.into_devices-devices.ensures ∙ ap (λ o. devices_of o.writers.items) c.in-Err.ensures.refused) ∙ c.requires.before)
+
+pub pass_all-stamped-requires-clause-vacant : goal.pass_all-stamped-requires-clause-vacant
+pass_all-stamped-requires-clause-vacant g c =
+    subst IsVacant (sym c.in-Ok.ensures.window) (λ n high. get-empty nat_cmp n)
+
+pub returns-clause-why : goal.returns-clause-why
+returns-clause-why g c =
+    let p = c.pass_all-stamped in
+    if_err c.end-devices.result.1
+    (λ fault why. why_stopped_at g.J.Run g.J.Run.input g.J.Run.failures p.new.sink.window.next p.result c.args.reader p.new.reader p.new.sink.outputs.failed
+    c.into_inner-2.result c.end-devices.result.0.items fault p.ensures.turn p.ensures.why c.into_inner-2.ensures why)
+    c.end-devices.ensures.why

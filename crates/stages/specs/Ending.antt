@@ -1,0 +1,27 @@
+-- What a run answers at its end.
+use Rattle.std.specs.Prelude.{◌≡◌, ◌≢◌, ℕ, List, Option, Some, Result, Ok, Err}
+use Rattle.pcapio.specs.declared.counted.Counted.{Counted}
+use Rattle.pcapio_laws.specs.Capture.{end_of}
+use Rattle.stages_laws.specs.Input.{Input}
+use Rattle.stages_laws.specs.Output.{Forwarding, tally_of}
+use Rattle.stages_laws.specs.declared.run.Run.{Ghosts}
+use Rattle.stages.specs.Failing.{FailedAt}
+use Rattle.stages.specs.declared.ending.Summary.{Summary}
+use Rattle.stages.specs.declared.fault.RunFault.{RunFault}
+use Rattle.stages.specs.declared.fault.RunFault.TheVariants.{Write, Window}
+use Rattle.stages.specs.declared.stamped.Stamped.{Stamped}
+
+-- the counts are those of the input, and it ends so
+abbrev pub Sums : Option Input → ℕ → ℕ → Forwarding → Summary → Type 0
+Sums input ports room forwarding summary = (i : Input) → input ≡ Some i
+    → (summary.counts ≡ tally_of ports forwarding room i.packets)
+    × (i.ending ≡ end_of summary.torn)
+
+-- why there is no summary: what the reader answered, a number of records that isn't the sink's, or a device that failed
+abbrev pub WhyNone : {J : Type 0} {G : Ghosts J} → ℕ → Result (Stamped J G) RunFault → RunFault → Type 0
+WhyNone next (Ok stamped) fault = (fault ≡ Window) × (next ≢ stamped.count)
+WhyNone next (Err reason) fault = fault ≡ reason
+
+abbrev pub WhyFaulted : {J W : Type 0} {G : Ghosts J} → List ℕ → ℕ → Result (Stamped J G) RunFault → List (Counted W) → RunFault → Type 0
+WhyFaulted failures next stamped devices (Write p) = FailedAt failures p devices
+WhyFaulted failures next stamped devices fault = WhyNone next stamped fault

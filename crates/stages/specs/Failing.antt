@@ -1,0 +1,33 @@
+-- How often the devices of a run's ports failed: as often as before, and the one that failed once more.
+use Rattle.std.specs.Prelude.{◌≡◌, ◌<◌, ℕ, ◌+◌, ◌-◌, ◌^◌, ◌==◌, min, List, length, Option, None, Some, slice_get, if◌then◌else◌}
+use Rattle.pcapio.specs.Counted.{failures_of}
+use Rattle.pcapio.specs.Writer.{sink_of}
+use Rattle.pcapio.specs.declared.counted.Counted.{Counted}
+use Rattle.pcapio.specs.declared.writer.Writer.{Writer}
+
+-- how often device q failed, after n times, where the device of this port failed
+abbrev pub failures_after : ℕ → ℕ → Option ℕ → ℕ
+failures_after n q None = n
+failures_after n q (Some p) = if p == q then min (n + 1) (2 ^ 64 - 1) else n
+
+module _ {W : Type 0} where
+  -- the devices failed as often as this, and the one of this port once more
+  abbrev pub FailedOnce : List ℕ → Option ℕ → List (Counted W) → Type 0
+  FailedOnce before failed devices = (q : ℕ) (d : Counted W) (n : ℕ)
+      → slice_get devices q ≡ Some d → slice_get before q ≡ Some n → failures_of d ≡ failures_after n q failed
+
+  -- the device of each writer failed as often as it had, and the one of this port once more
+  abbrev pub FailsOnce : List (Writer W) → List (Writer W) → Option ℕ → Type 0
+  FailsOnce old new failed = (q : ℕ) (w : Writer W) → slice_get new q ≡ Some w
+      → (was : Writer W) × (slice_get old q ≡ Some was)
+      × (failures_of (sink_of w) ≡ failures_after (failures_of (sink_of was)) q failed)
+
+  -- the same of the devices that were the writers'
+  abbrev pub AllFailOnce : List (Writer W) → List (Counted W) → Option ℕ → Type 0
+  AllFailOnce writers devices failed = (q : ℕ) (d : Counted W) → slice_get devices q ≡ Some d
+      → (w : Writer W) × (slice_get writers q ≡ Some w)
+      × (failures_of d ≡ failures_after (failures_of (sink_of w)) q failed)
+
+  -- the device of this port failed, once, and no other one
+  abbrev pub FailedAt : List ℕ → ℕ → List (Counted W) → Type 0
+  FailedAt before port devices = (port < length devices) × FailedOnce before (Some port) devices

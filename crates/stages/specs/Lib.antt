@@ -1,0 +1,12 @@
+pub mod Faults
+pub mod Packets
+pub mod Keyed
+pub mod Ports
+pub mod PortSteps
+pub mod Failing
+pub mod Tallies
+pub mod Stamps
+pub mod Reading
+pub mod Turns
+pub mod Ending
+pub mod Whole

@@ -1,0 +1,41 @@
+//! Why a run has no answer.
+ghost use Rattle.std.specs.Prelude.{◌≡◌};
+ghost use Rattle.stages.specs.Faults.{number_of};
+
+use pcapio::CapFault;
+
+/// Why a run has no answer. Of several faults the one with the lowest number is told.
+#[derive(Clone, Copy, Debug, PartialEq, Eq)]
+pub enum RunFault {
+    /// 1: memory was refused.
+    Memory,
+    /// 2: a thread couldn't be started.
+    Thread,
+    /// 3: the input's device failed.
+    Read,
+    /// 4: the device of this port failed.
+    Write(u32),
+    /// 5: the input is no capture.
+    Capture(CapFault),
+    /// 6: the input has more records than a number counts, or a record didn't come to the sink.
+    Window,
+    /// 7: the positions of a ring are used up.
+    Worn,
+}
+
+impl RunFault {
+    /// The number of the fault.
+    pub fn number(self) -> u8
+        ensures { result ≡ number_of self }
+    {
+        match self {
+            RunFault::Memory => 1,
+            RunFault::Thread => 2,
+            RunFault::Read => 3,
+            RunFault::Write(_) => 4,
+            RunFault::Capture(_) => 5,
+            RunFault::Window => 6,
+            RunFault::Worn => 7,
+        }
+    }
+}

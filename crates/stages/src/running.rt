@@ -1,0 +1,117 @@
+//! A whole run by one thread: the input is opened, each of its records is taken to the ports, and all are closed.
+ghost use Rattle.std.specs.Prelude.{◌≡◌, ◌≤◌, ◌*◌, [], List, None, Some, IfErr, IfOk, IfSome, OnOk};
+ghost use Rattle.std.specs.Prelude.{length, min, vec_len, vec_capacity, map as mapped};
+ghost use Rattle.mbuf.specs.Chain.{space_of};
+ghost use Rattle.pcapio.specs.Counted.{to_come, told, failures_of};
+ghost use Rattle.pcapio.specs.Reader.{order_of, rest, stage_of};
+ghost use Rattle.pcapio.specs.declared.stage.Stage.TheVariants.{Between};
+ghost use Rattle.stages_laws.specs.Input.{IsInput};
+ghost use Rattle.stages_laws.specs.Output.{Fate};
+ghost use Rattle.stages.specs.Ending.{Sums};
+ghost use Rattle.stages.specs.Ports.{AreFresh, AreOutputs, AreBeginnings, devices_of};
+ghost use Rattle.stages.specs.Tallies.{fates_of};
+ghost use Rattle.stages.specs.Whole.{forwarding_by, IsRun, IsBegun, IsUntouched, WhyStoppedAt, WhyNoSummary};
+
+use crate::closing::into_devices;
+use crate::ending::{Summary, end};
+use crate::fault::RunFault;
+use crate::longest::longest_chain;
+use crate::one::pass_all;
+use crate::opening::open_all;
+use crate::outputs::Outputs;
+use crate::reading::input_fault;
+use crate::sink::Sink;
+use mbuf::Chain;
+use pcapio::{Counted, Reader};
+use settings::Settings;
+use stages_laws::Run;
+use std::alloc::Global;
+use std::io::{Read, Write};
+use std::marker::Brand;
+
+/// Forwards the capture that `reader` has, by these settings, and tells each port's device a capture of the frames that
+/// are sent there, in the order of the input. Asked: a device for each port. Records are streamed: memory is taken at
+/// the beginning, for one packet and a buffer of 64 KiB for each device, and doesn't grow with the capture.
+///
+/// All devices come back, the ports' in their order. Refused with 1 `Memory`; 3 `Read` and 4 `Write(port)`, where that
+/// device failed in this call; 5 `Capture`, where the input is refused; 6 `Window`, where it has 2^64 - 1 records or
+/// more. Each port's device was then told a beginning of its output, and after a device failed nothing more was written
+/// to any. 2 `Thread` and 7 `Worn` are never answered.
+pub fn run_one<R: Read, W: Write + Drop>(
+    alloc: Global,
+    reader: Counted<R>,
+    writers: Vec<Counted<W>>,
+    settings: &Settings,
+) -> (Counted<R>, Vec<Counted<W>>, Result<Summary, RunFault>)
+    requires ports { vec_len writers ≡ vec_len settings.now.ports.sources }
+    ensures run { IfOk result.2 (λ summary. IfSome (to_come R.remaining reader) (λ bytes.
+        IsRun W.contents settings.now bytes writers.items result.1.items summary)) }
+    ensures begun { IfSome (to_come R.remaining reader) (λ bytes.
+        IsBegun W.contents settings.now bytes writers.items result.1.items) }
+    ensures untouched { IfSome (to_come R.remaining reader) (λ bytes.
+        IsUntouched W.contents settings.now bytes writers.items result.1.items) }
+    ensures why { IfErr result.2 (WhyNoSummary R.remaining reader result.0 writers.items result.1.items) }
+{
+    let reader = match Reader::open(alloc, reader) {
+        Ok(reader) => reader,
+        Err((device, fault)) => return (device, writers, Err(input_fault(fault))),
+    };
+    let headroom = settings.headroom as usize;
+    let Ok(chain) = longest_chain(alloc, headroom, settings.room as usize) else {
+        return (reader.into_inner(), writers, Err(RunFault::Memory));
+    };
+    match open_all(alloc, writers, reader.resolution()) {
+        Ok((outputs, spare)) => {
+            run_opened::<Brand, R, W>(alloc, reader, outputs, spare, chain, settings)
+        }
+        Err(writers) => (reader.into_inner(), writers, Err(RunFault::Memory)),
+    }
+}
+
+/// The same from the first record on: nothing was told yet, and each writer has a file header to tell.
+fn run_opened<J: Run, R: Read, W: Write + Drop>(
+    alloc: Global,
+    mut reader: Reader<R>,
+    outputs: Outputs<W>,
+    spare: Vec<Counted<W>>,
+    chain: Chain,
+    settings: &Settings,
+) -> (Counted<R>, Vec<Counted<W>>, Result<Summary, RunFault>)
+    requires input { IsInput (order_of reader) (rest R.remaining reader) J.input }
+    requires between { stage_of reader ≡ Between }
+    requires room { settings.now.room ≡ J.room }
+    requires rules { forwarding_by settings.now ≡ J.forwarding }
+    requires before { mapped (told W.contents) (devices_of outputs.writers.items) ≡ J.before }
+    requires failures { mapped failures_of (devices_of outputs.writers.items) ≡ J.failures }
+    requires fresh { AreFresh W.contents J.resolution outputs.writers.items }
+    requires well { outputs.failed ≡ None }
+    requires ports { vec_len outputs.writers ≡ vec_len settings.now.ports.sources }
+    requires empty { spare.items ≡ [] }
+    requires spare { vec_len outputs.writers ≤ vec_capacity spare }
+    requires space { min (64 * settings.now.room) 262144 ≤ space_of chain }
+    ensures outputs { OnOk result.2 ((all : List Fate) → fates_of J.forwarding J.room J.input ≡ Some all
+        → AreOutputs W.contents J.before J.resolution all result.1.items) }
+    ensures begun { (all : List Fate) → fates_of J.forwarding J.room J.input ≡ Some all
+        → AreBeginnings W.contents J.before J.resolution all result.1.items }
+    ensures counts { IfOk result.2 (Sums J.input (length J.before) J.room J.forwarding) }
+    ensures why { IfErr result.2 (WhyStoppedAt J.input J.failures reader result.0 result.1.items) }
+{
+    let mut sink: Sink<J, W> = match Sink::new(alloc, 1, outputs) {
+        Ok(sink) => sink,
+        Err(outputs) => {
+            let devices = into_devices(outputs.writers, spare);
+            return (reader.into_inner(), devices, Err(RunFault::Memory));
+        }
+    };
+    let room = settings.room as usize;
+    let stamped = pass_all(
+        &mut reader,
+        &mut sink,
+        chain,
+        room,
+        &settings.table,
+        &settings.ports,
+    );
+    let (devices, told) = end(sink, spare, stamped);
+    (reader.into_inner(), devices, told)
+}

@@ -1,0 +1,132 @@
+//! The sink of a run: packets come in any order, and leave in that of their numbers.
+ghost use Rattle.std.specs.Prelude.{◌≡◌, ◌≤◌, ◌+◌, ◌-◌, ◌^◌, ◌<◌, ◌↔◌, None, Some, length, vec_len};
+ghost use Rattle.std.specs.Prelude.{IfOk, IfErr, IsOk, OnOk};
+ghost use Rattle.std.specs.Prelude.{map as mapped};
+ghost use Rattle.std.specs.FinMap as map;
+ghost use Rattle.pcapio.specs.Counted.{told, failures_of};
+ghost use Rattle.reorder.specs.Waiting.{empty_window, after_next, with_number, IsFree};
+ghost use Rattle.counters.specs.Tally.{records_of};
+ghost use Rattle.stages.specs.Failing.{FailedOnce};
+ghost use Rattle.stages.specs.Keyed.{IsKeyed, LetsGo};
+ghost use Rattle.stages.specs.Ports.{HasTexts, HasBegun, AreFresh, devices_of};
+ghost use Rattle.stages.specs.Tallies.{IsTally, fates_of};
+
+use crate::outputs::{MOST_PORTS, Outputs};
+use crate::packet::Judged;
+use counters::Counts;
+use mbuf::Chain;
+use reorder::Window;
+use stages_laws::Run;
+use std::alloc::Global;
+use std::io::Write;
+
+/// What waits for its turn, what was written, and what was counted.
+#[derive(Drop)]
+pub(crate) struct Sink<J: Run, W: Write> {
+    pub(crate) window: Window<Judged<J>>,
+    pub(crate) outputs: Outputs<W>,
+    pub(crate) counts: Counts,
+    pub ghost keyed: { IsKeyed window },
+    pub ghost counted: { IsTally (fates_of J.forwarding J.room J.input) (length J.before) window.next counts },
+    pub ghost bounded: { records_of counts ≤ window.next },
+    pub ghost ports: { length counts.sent ≡ length J.before },
+    pub ghost many: { vec_len outputs.writers ≡ length J.before },
+    pub ghost texts: { HasTexts W.contents J.before J.resolution (fates_of J.forwarding J.room J.input) window.next
+        outputs.failed outputs.writers.items },
+    pub ghost begun: { HasBegun W.contents J.before J.resolution (fates_of J.forwarding J.room J.input)
+        outputs.failed outputs.writers.items },
+    pub ghost failures: { FailedOnce J.failures outputs.failed (devices_of outputs.writers.items) },
+}
+
+impl<J: Run, W: Write + Drop> Sink<J, W> {
+    /// A sink before the first packet, with a window of `size` numbers. Refused for want of memory, and the writers
+    /// come back.
+    pub(crate) fn new(
+        alloc: Global,
+        size: usize,
+        outputs: Outputs<W>,
+    ) -> Result<Sink<J, W>, Outputs<W>>
+        requires some { 0 < size }
+        requires small { size ≤ 65536 }
+        requires before { mapped (told W.contents) (devices_of outputs.writers.items) ≡ J.before }
+        requires failures { mapped failures_of (devices_of outputs.writers.items) ≡ J.failures }
+        requires one { 0 < vec_len outputs.writers }
+        requires few { vec_len outputs.writers ≤ MOST_PORTS }
+        requires fresh { AreFresh W.contents J.resolution outputs.writers.items }
+        requires well { outputs.failed ≡ None }
+        ensures window { IfOk result (λ sink. sink.window ≡ empty_window size) }
+        ensures outputs { IfOk result (λ sink. sink.outputs ≡ outputs) }
+        ensures refused { IfErr result (λ back. back ≡ outputs) }
+    {
+        match Window::new(alloc, size) {
+            Ok(window) => {
+                let counts = Counts::new(outputs.writers.len());
+                Ok(Sink {
+                    window,
+                    outputs,
+                    counts,
+                })
+            }
+            Err(_) => Err(outputs),
+        }
+    }
+
+    /// Takes a packet, to leave in its turn.
+    pub(crate) fn accept(&mut self, packet: Judged<J>) -> Result<(), Judged<J>>
+        ensures free { IsOk result ↔ IsFree self.old.window packet.seq }
+        ensures joined { OnOk result (self.new.window ≡ with_number self.old.window packet.seq packet) }
+        ensures outputs { self.new.outputs ≡ self.old.outputs }
+    {
+        let seq = packet.seq;
+        match self.window.insert(seq, packet) {
+            Ok(()) => Ok(()),
+            Err((packet, _)) => Err(packet),
+        }
+    }
+
+    /// Lets the packet go whose turn it is, where it is here: it is counted, and written where it is sent.
+    pub(crate) fn give(&mut self) -> Option<Chain>
+        ensures gone { LetsGo self.old.window self.new.window result }
+        ensures many { vec_len self.new.outputs.writers ≡ vec_len self.old.outputs.writers }
+    {
+        let _turn = self.window.next();
+        let Judged {
+            seconds,
+            fraction,
+            wire,
+            verdict,
+            chain,
+            ..
+        } = self.window.pop()?;
+        self.counts.add(&verdict);
+        self.outputs.pass(verdict, seconds, fraction, wire, &chain);
+        Some(chain)
+    }
+
+    /// The number of the packet whose turn it is: so many have left.
+    pub(crate) fn next(&self) -> u64
+        ensures { result ≡ self.now.window.next }
+    {
+        self.window.next()
+    }
+
+    /// Takes the packet whose turn it is, lets it go at once, and gives its segments back: what a run by one thread
+    /// does with each.
+    pub(crate) fn pass(&mut self, packet: Judged<J>) -> Chain
+        requires turn { packet.seq ≡ self.old.window.next }
+        requires below { self.old.window.next < 2 ^ 64 - 1 }
+        requires vacant { map.get self.old.window.held self.old.window.next ≡ None }
+        ensures chain { result ≡ packet.chain }
+        ensures window { self.new.window ≡ after_next (with_number self.old.window packet.seq packet) }
+        ensures many { vec_len self.new.outputs.writers ≡ vec_len self.old.outputs.writers }
+    {
+        let _turn = self.window.next();
+        match self.accept(packet) {
+            Ok(()) => match self.give() {
+                Some(chain) => chain,
+                None => unreachable!(),
+            },
+            Err(_) => unreachable!(),
+        }
+    }
+}
