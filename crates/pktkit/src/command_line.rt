@@ -1,7 +1,12 @@
 //! The words of the command line, and what they ask for.
 
-use clap::{Arg, ArgAction, Command, Error};
+use clap::builder::ValueParser;
+use clap::error::ErrorKind;
+use clap::{Arg, ArgAction, ArgMatches, Command, Error};
 use std::alloc::Global;
+
+/// The most workers that a run may have beside the calling thread. So far that thread does all.
+const MOST_WORKERS: u64 = 0;
 
 /// What a command line asks for.
 #[derive(Clone, Copy, Debug, PartialEq, Eq)]
@@ -10,6 +15,19 @@ pub enum Asked<'a> {
     Ring(Option<&'a str>),
     /// The replies to the steps of a file.
     Steps(Option<&'a str>),
+    /// The report of a run over a capture.
+    Run(RunFiles<'a>),
+}
+
+/// The files that a run is told.
+#[derive(Clone, Copy, Debug, PartialEq, Eq)]
+pub struct RunFiles<'a> {
+    /// The file of its settings.
+    pub config: &'a str,
+    /// The file of the capture.
+    pub input: &'a str,
+    /// What the names of the ports' files begin with.
+    pub out: &'a str,
 }
 
 /// Reads the words after the program's name. Without any the input is asked for.
@@ -20,9 +38,31 @@ pub fn read_words<'a>(alloc: Global, words: &'a [String]) -> Result<Asked<'a>, E
     let matches = pktkit(alloc)?.try_get_matches_from(words)?;
     match matches.subcommand() {
         Some(("steps", steps)) => Ok(Asked::Steps(steps.get_str("FILE"))),
+        Some(("run", run)) => match run_files(run) {
+            Some(files) => Ok(Asked::Run(files)),
+            None => Err(lacks_a_file(alloc)?),
+        },
         Some((_, ring)) => Ok(Asked::Ring(ring.get_str("FILE"))),
         None => Ok(Asked::Ring(None)),
     }
+}
+
+/// The files that a run is told.
+fn run_files<'a>(run: &ArgMatches<'a>) -> Option<RunFiles<'a>> {
+    Some(RunFiles {
+        config: run.get_str("config")?,
+        input: run.get_str("in")?,
+        out: run.get_str("out")?,
+    })
+}
+
+/// The refusal of a run that isn't told each of its files.
+fn lacks_a_file(alloc: Global) -> Result<Error, Error> {
+    let error = run_command(alloc)?.error(
+        ErrorKind::MissingRequiredArgument,
+        "a run needs settings, a capture and a prefix",
+    )?;
+    Ok(error)
 }
 
 /// The command line of `pktkit`.
@@ -42,8 +82,42 @@ fn pktkit<'a>(alloc: Global) -> Result<Command<'a>, Error> {
         .no_binary_name(true)
         .subcommand_required(true)
         .subcommand(ring)?
-        .subcommand(steps)?;
+        .subcommand(steps)?
+        .subcommand(run_command(alloc)?)?;
     Ok(command)
+}
+
+/// The subcommand that forwards a capture.
+fn run_command<'a>(alloc: Global) -> Result<Command<'a>, Error> {
+    let workers = Arg::new(alloc, "workers")
+        .long("workers")
+        .value_name("N")
+        .action(ArgAction::Set)
+        .value_parser(ValueParser::unsigned(0, MOST_WORKERS))
+        .default_value("0")
+        .help("How many workers judge packets; with 0 one thread does all");
+    let command = Command::new(alloc, "run")
+        .about("Forwards a capture by routes, and prints a report")
+        .arg(path(alloc, "config", "FILE", "The settings, a TOML document"))?
+        .arg(path(alloc, "in", "FILE", "The capture, a pcap file"))?
+        .arg(path(
+            alloc,
+            "out",
+            "PREFIX",
+            "Port 0 is written to PREFIX.0.pcap, and so on",
+        ))?
+        .arg(workers)?;
+    Ok(command)
+}
+
+/// An option that names a file, or what files' names begin with.
+fn path<'a>(alloc: Global, name: &'a str, value: &'a str, help: &'a str) -> Arg<'a> {
+    Arg::new(alloc, name)
+        .long(name)
+        .value_name(value)
+        .required(true)
+        .action(ArgAction::Set)
+        .help(help)
 }
 
 /// A subcommand that names a file.

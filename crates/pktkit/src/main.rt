@@ -1,12 +1,14 @@
-//! The program `pktkit`: rings from the bytes of a file of commands. `main` hands over the words and the standard
-//! streams alone.
+//! The program `pktkit`: rings from the bytes of a file of commands, and captures forwarded by routes. `main` hands
+//! over the words and the standard streams alone.
 #![tactic(auto)]
 
 mod command_line;
+mod fault;
 mod program;
 mod ring_answer;
 mod ring_command;
 mod ring_text;
+mod run_answer;
 #[cfg(test)]
 mod tests;
 

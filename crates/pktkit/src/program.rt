@@ -2,32 +2,19 @@
 
 ghost use Rattle.std.specs.Prelude.{◌≤◌};
 
-use crate::command_line::{Asked, read_words};
+use crate::command_line::{Asked, RunFiles, read_words};
+use crate::fault::Fault;
 use crate::ring_text::ring_text;
+use crate::run_answer::run_files;
 use clap::Error;
 use lines::TextFault;
-use std::alloc::AllocError;
 use std::fs;
-use std::io::{self, ErrorKind, Read, Write};
+use std::io::{Read, Write};
 use std::rt::Files;
 use steps::steps_text;
-use thiserror::Error as Fails;
 
 /// The name that stands for the input where no file is named.
 const INPUT: &str = "-";
-
-/// Why a run ended early: one line on the error stream, after `pktkit: `.
-#[derive(Debug, Drop, Fails)]
-enum Fault<'a> {
-    #[error("file {0}")]
-    File(&'a str),
-    #[error("{0}")]
-    Text(TextFault),
-    #[error("memory")]
-    Memory,
-    #[error("output")]
-    Output,
-}
 
 /// Runs the program and tells its status: 0 where all went well or help was asked for, 1 after a fault, which is
 /// told in one line on `err`, and 2 where the command line is refused. Where `out` fails, that is the one fault
@@ -44,6 +31,7 @@ pub fn program<R: Files + AllocGlobal, I: Read + Drop, O: Write, E: Write>(
     let done = match read_words(rt.alloc(), words) {
         Ok(Asked::Ring(file)) => answer_ring(rt, file, input, out),
         Ok(Asked::Steps(file)) => answer_steps(rt, file, input, out),
+        Ok(Asked::Run(files)) => answer_run(rt, &files, out),
         Err(refusal) => return refuse(&refusal, out, err),
     };
     match done {
@@ -120,6 +108,16 @@ fn well<'a>(answered: Result<(), TextFault>) -> Result<(), Fault<'a>> {
     }
 }
 
+/// Prints the report of a run over a capture.
+fn answer_run<'a, R: Files + AllocGlobal, O: Write>(
+    rt: &R,
+    files: &RunFiles<'a>,
+    out: &mut O,
+) -> Result<(), Fault<'a>> {
+    let report = run_files(rt, files)?;
+    print(report.as_slice(), out)
+}
+
 /// The bytes of a file, or of the input.
 fn read<'a, R: Files + AllocGlobal, I: Read + Drop>(
     rt: &R,
@@ -134,14 +132,9 @@ fn read<'a, R: Files + AllocGlobal, I: Read + Drop>(
             input.read_to_end(&mut bytes).map(|_| bytes)
         }
     };
-    bytes.map_err(|error| unreadable(name, &error))
-}
-
-/// What a failed read is told as.
-fn unreadable<'a>(name: &'a str, error: &io::Error) -> Fault<'a> {
-    match error.kind() {
-        ErrorKind::OutOfMemory => Fault::Memory,
-        _ => Fault::File(name),
+    match bytes {
+        Ok(bytes) => Ok(bytes),
+        Err(error) => Err(Fault::of_file(&error, Fault::File(name))),
     }
 }
 

@@ -7,9 +7,13 @@ use std::process::Abort;
 use std::rt::Files;
 use std::test::Fail;
 
+mod captures;
 mod faults;
 mod forms;
 mod rows;
+mod run_faults;
+mod run_rows;
+mod starved;
 mod steps_forms;
 mod steps_plans;
 mod steps_rows;

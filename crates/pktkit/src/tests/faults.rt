@@ -8,7 +8,7 @@ use std::test::Fail;
 
 /// A device that takes and gives nothing.
 #[derive(Drop)]
-struct Broken;
+pub struct Broken;
 
 impl Write for Broken {
     fn write(&mut self, _buf: &[u8]) -> io::Result<usize> {
@@ -113,12 +113,15 @@ fn no_memory_for_the_words(rt: HostRuntime) -> Result<(), Fail> {
 
 #[test]
 fn refused_command_lines(rt: HostRuntime) -> Result<(), Fail> {
-    let lines: [&[&str]; 6] = [
+    let lines: [&[&str]; 9] = [
         &["ring"],
         &["ring", "a", "b"],
         &["rings", "a"],
         &["steps"],
         &["run"],
+        &["run", "--in", "a", "--out", "b"],
+        &["run", "--config", "a", "--out", "b"],
+        &["run", "--config", "a", "--in", "b"],
         &["ring", "--loud", "a"],
     ];
     for words in lines {
@@ -131,7 +134,12 @@ fn refused_command_lines(rt: HostRuntime) -> Result<(), Fail> {
 
 #[test]
 fn help(rt: HostRuntime) -> Result<(), Fail> {
-    let lines: [&[&str]; 3] = [&["--help"], &["-h"], &["ring", "--help"]];
+    let lines: [&[&str]; 4] = [
+        &["--help"],
+        &["-h"],
+        &["ring", "--help"],
+        &["run", "--help"],
+    ];
     for words in lines {
         let Ran { status, out, err } = run(&rt, words, b"count\n")?;
         assert_eq!(rt; (status, err.len()), (0, 0));

@@ -5,8 +5,8 @@ use Rattle.std.proofs.lemmas.List.{length-map, length_push}
 use Rattle.std.proofs.lemmas.Iterator.Consumers.{YieldsList-turn, YieldsList-end}
 use Rattle.std.proofs.lemmas.Iterator.Splits.{YieldsList-from_slice_split}
 use Rattle.lines.specs.Text.{lines_of, words_of}
-use Rattle.lines.specs.Files.{is_admitted, reply_at, state_past, left_by, IsAnsweredTo, IsFirstBad}
-use Rattle.pktkit.specs.RingReplies.{RingState, contents, ring_file}
+use Rattle.lines.specs.Files.{is_admitted, reply_at, state_past, IsAnsweredTo, IsFirstBad}
+use Rattle.pktkit.specs.RingReplies.{RingState, ring_file}
 use Rattle.lines.specs.declared.fault.TextFault.TheVariants.{BadLine}
 use Rattle.lines.proofs.Lines.{line_there, at_number}
 use Rattle.lines.proofs.Runs.{answered_more, left_more, first_bad}

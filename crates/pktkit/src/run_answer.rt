@@ -1,0 +1,104 @@
+//! The run over a capture: its files are opened in their order, the capture goes through `run_one`, and the report is
+//! made.
+
+ghost use Rattle.std.specs.Prelude.{◌≡◌, ◌++◌, IfOk, codes, decimal, vec_len};
+ghost use Rattle.counters.specs.Report.{report_of};
+
+use crate::command_line::RunFiles;
+use crate::fault::Fault;
+use itoa::Buffer;
+use pcapio::Counted;
+use settings::Settings;
+use stages::{Summary, run_one};
+use std::alloc::{AllocError, Global};
+use std::fs;
+use std::rt::Files;
+
+/// The report of a run over these files. The settings are read first, then the capture is opened, then the files of
+/// the ports are created or emptied, and then the run begins: a fault leaves the files alone that come after it.
+pub fn run_files<'a, R: Files + AllocGlobal>(
+    rt: &R,
+    files: &RunFiles<'a>,
+) -> Result<Vec<u8>, Fault<'a>> {
+    let settings = read_settings(rt, files.config)?;
+    let input = match fs::open(rt, files.input) {
+        Ok(input) => Counted::new(input),
+        Err(error) => return Err(Fault::of_file(&error, Fault::File(files.input))),
+    };
+    let ports = create_ports(rt, files.out, settings.ports.sources.len())?;
+    let (_input, _ports, summary) = run_one(rt.alloc(), input, ports, &settings);
+    match summary {
+        Ok(summary) => {
+            let report = report(rt.alloc(), &summary)?;
+            Ok(report)
+        }
+        Err(fault) => Err(Fault::of_run(fault)),
+    }
+}
+
+/// The settings in a file.
+fn read_settings<'a, R: Files + AllocGlobal>(
+    rt: &R,
+    config: &'a str,
+) -> Result<Settings, Fault<'a>> {
+    let text = match fs::read(rt, config) {
+        Ok(text) => text,
+        Err(error) => return Err(Fault::of_file(&error, Fault::File(config))),
+    };
+    match Settings::read(rt.alloc(), text.as_slice()) {
+        Ok(settings) => Ok(settings),
+        Err(fault) => Err(Fault::of_settings(fault)),
+    }
+}
+
+/// The files of so many ports, created or emptied in their order, up to the first that can't be.
+fn create_ports<'a, R: Files + AllocGlobal>(
+    rt: &R,
+    prefix: &str,
+    count: usize,
+) -> Result<Vec<Counted<R::File>>, Fault<'a>>
+    ensures { IfOk result (λ ports. vec_len ports ≡ count) }
+{
+    let mut ports = Vec::new(rt.alloc());
+    for port in 0..count {
+        let file = create_port(rt, prefix, port)?;
+        if ports.push(Counted::new(file)).is_err() {
+            return Err(Fault::Memory);
+        }
+    }
+    Ok(ports)
+}
+
+/// The file of a port, created or emptied.
+fn create_port<'a, R: Files + AllocGlobal>(
+    rt: &R,
+    prefix: &str,
+    port: usize,
+) -> Result<R::File, Fault<'a>> {
+    let name = port_name(rt.alloc(), prefix, port)?;
+    match fs::create(rt, name.as_str()) {
+        Ok(file) => Ok(file),
+        Err(error) => Err(Fault::of_file(&error, Fault::PortFile(name))),
+    }
+}
+
+/// The name of a port's file.
+fn port_name(alloc: Global, prefix: &str, port: usize) -> Result<String, AllocError>
+    ensures { IfOk result (λ name. name.bytes.items ≡ prefix.now ++ (codes "." ++ (decimal port ++ codes ".pcap"))) }
+{
+    let mut number = Buffer::new();
+    let mut name = String::from_str(alloc, prefix)?;
+    name.push('.')?;
+    name.push_str(number.format(port))?;
+    name.push_str(".pcap")?;
+    Ok(name)
+}
+
+/// The text of a report.
+fn report(alloc: Global, summary: &Summary) -> Result<Vec<u8>, AllocError>
+    ensures { IfOk result (λ text. text.items ≡ report_of summary.now.counts summary.now.torn) }
+{
+    let mut text = Vec::new(alloc);
+    summary.counts.report(alloc, summary.torn, &mut text)?;
+    Ok(text)
+}
