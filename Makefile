@@ -1,22 +1,26 @@
 # Thin targets over the kit's command `rt`, which has to be on the path.
 
-FILE ?= examples/first.ring
+CONFIG ?= examples/router.toml
+IN ?= examples/traffic.pcap
+OUT ?= out/traffic
 PREFIX ?= /usr/local
-NAME ?= ring_text
+NAME ?= run
 
-.PHONY: run test try build install bench
+.PHONY: run test build install bench
 
-# Proves and builds pktkit, and runs its main job on a file of examples/.
-run: build
-	crates/pktkit/out/pktkit ring $(FILE)
+# Runs pktkit's main job on the examples, built without proofs: the report is printed, the captures of the ports are
+# OUT.0.pcap, OUT.1.pcap and so on. What the build says is shown where the run fails.
+run: WORDS = run --config $(abspath $(CONFIG)) --in $(abspath $(IN)) --out $(abspath $(OUT))
+run: LOG = $(abspath $(OUT)).log
+run:
+	@echo "make run: this pktkit is built without proofs, in a minute or so; make build proves it and builds it" >&2
+	@mkdir -p $(dir $(LOG))
+	@cd crates/pktkit && rt try -- $(WORDS) < /dev/null 2> $(LOG) || { cat $(LOG) >&2; exit 1; }
+	@rm $(LOG)
 
 # The merge gate: every proof from nothing, the must-fail edits, the tests and the programs.
 test:
 	rt ci
-
-# The same run as `make run`, built without proofs, in seconds.
-try:
-	cd crates/pktkit && rt try < ../../$(FILE)
 
 # Proves pktkit and what it stands on, and leaves the program in crates/pktkit/out.
 build:
@@ -25,6 +29,6 @@ build:
 install: build
 	install -D -m 755 crates/pktkit/out/pktkit $(DESTDIR)$(PREFIX)/bin/pktkit
 
-# Measures one part beside its yardstick: make bench NAME=ring_text
+# Measures one part beside its yardstick: make bench NAME=run
 bench:
 	bench/run $(NAME)

@@ -5,57 +5,18 @@
  *   pcapio.yardstick libpcap IN OUT     pcap_next_ex and pcap_dump
  *   pcapio.yardstick peak PROGRAM ..    runs a program, and prints the most memory that it had, in KiB
  */
-#include "bench.h"
+#include "captures.h"
 #include <pcap/pcap.h>
-#include <sys/resource.h>
-#include <sys/wait.h>
-#include <unistd.h>
 
 #define ROOM 65536
-#define MOST 262144
 
 static uint8_t bytes[MOST];
-
-static void fail(const char *what)
-{
-	perror(what);
-	exit(1);
-}
 
 static FILE *opened(const char *path, const char *mode, char *room)
 {
 	FILE *file = fopen(path, mode);
 	if (!file || setvbuf(file, room, _IOFBF, ROOM)) fail(path);
 	return file;
-}
-
-static uint32_t field(const uint8_t *at)
-{
-	uint32_t value;
-	memcpy(&value, at, 4);
-	return value;
-}
-
-static void put(uint8_t *at, uint32_t value)
-{
-	memcpy(at, &value, 4);
-}
-
-/* Frames of 60 to 1,514 bytes: seven of twelve have 60, one has 1,514, the others any length between. */
-static unsigned frame(uint64_t *state)
-{
-	uint64_t number = splitmix64(state);
-	unsigned kind = number % 12;
-	return kind < 7 ? 60 : kind < 11 ? 61 + (number >> 8) % 1453 : 1514;
-}
-
-static void file_header(uint8_t *header)
-{
-	memset(header, 0, 24);
-	put(header, 0xa1b2c3d4);
-	put(header + 4, 0x00040002);
-	put(header + 16, MOST);
-	put(header + 20, 1);
 }
 
 static void make(const char *path, unsigned records)
@@ -67,12 +28,9 @@ static void make(const char *path, unsigned records)
 	file_header(header);
 	fwrite(header, 24, 1, out);
 	for (unsigned i = 0; i < records; i++) {
-		unsigned length = frame(&state);
+		unsigned length = frame_length(splitmix64(&state));
 		for (unsigned k = 0; k < length; k++) bytes[k] = i + k;
-		put(header, 1700000000 + i / 1000000);
-		put(header + 4, i % 1000000);
-		put(header + 8, length);
-		put(header + 12, length);
+		record_header(header, i, length, length);
 		fwrite(header, 16, 1, out);
 		fwrite(bytes, length, 1, out);
 	}
@@ -110,21 +68,6 @@ static void libpcap(const char *from, const char *to)
 	while (pcap_next_ex(in, &header, &packet) == 1) pcap_dump((u_char *)out, header, packet);
 	pcap_dump_close(out);
 	pcap_close(in);
-}
-
-/* From here and not from a larger program, whose memory would count until the other one runs. */
-static int peak(char **command)
-{
-	struct rusage used;
-	int status;
-	pid_t child = fork();
-	if (child == 0) {
-		execv(command[0], command);
-		_exit(127);
-	}
-	if (child < 0 || wait4(child, &status, 0, &used) < 0) fail("wait4");
-	printf("%ld\n", used.ru_maxrss);
-	return status != 0;
 }
 
 int main(int argc, char **argv)
