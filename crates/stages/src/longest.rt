@@ -10,8 +10,8 @@ use std::alloc::{AllocError, Global};
 /// The most bytes that a segment has room for.
 const MOST_ROOM: usize = 65_536;
 
-/// A chain with space for the longest record that isn't oversize. How long its segments are shows nowhere, so they are as
-/// long as may be: a call on a chain goes over its segments.
+/// A chain with space for the longest record that isn't oversize. How long its segments are shows nowhere, so they are
+/// as long as may be: a call on a chain goes over its segments.
 pub(crate) fn longest_chain(
     alloc: Global,
     headroom: usize,
