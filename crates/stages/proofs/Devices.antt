@@ -1,5 +1,5 @@
 -- What the devices of a run's ports were told at its end.
-use Rattle.std.proofs.Common.{◌≡◌, ℕ, List, [], ◌++◌, take, Option, None, Some, slice_get, refl, sym, ap, ◌∙◌, subst, append-nil}
+use Rattle.std.proofs.Common.{◌≡◌, ℕ, List, ◌++◌, take, Option, None, Some, slice_get, refl, sym, ap, ◌∙◌, subst}
 use Rattle.std.specs.Io.KnownBytes.{Keeps}
 use Rattle.std.specs.Option.{option_map}
 use Rattle.std.proofs.lemmas.Option.{slice_get-map}
@@ -15,18 +15,12 @@ use Rattle.pcapio_laws.specs.Text.{record_text}
 use Rattle.std.proofs.Common.{drop, append_assoc}
 use Rattle.stages.specs.Ports.{devices_of, AreTexts, AreBegun, AreOutputs, AreBeginnings, IsBeginning}
 use Rattle.stages.specs.PortSteps.{AreTold, AreCutShort, AllTold, AllBegun}
+use Rattle.stages.proofs.Flushing.{kept_begins}
 use Rattle.stages.proofs.Texts.{beginning, output_front}
 
 kept_known : (a : Option (List ℕ)) (x : List ℕ) → Keeps (Some x) a → a ≡ Some x
 kept_known None x k = absurd k
 kept_known (Some y) x k = ap Some k
-
-kept_begins : (a : Option (List ℕ)) (x : List ℕ) → Keeps (Some x) a → Begins a (Some x)
-kept_begins None x k = absurd k
-kept_begins (Some y) x k = ([], append_nil y ∙ k)
-  where
-    append_nil : (l : List ℕ) → l ++ [] ≡ l
-    append_nil l = append-nil l
 
 module _ {W : Type 0} where
   -- a device at a place is that of the writer there
@@ -78,7 +72,7 @@ module _ {W : Type 0} where
       let e = texts q m.0 x m.1 known in
       let rest = flat_map record_text (records_at q (drop n all)) in
       beginning (told contents d) (x ++ output_of resolution q (take n all)) rest (x ++ output_of resolution q all)
-      (kept_begins (told contents d) (x ++ output_of resolution q (take n all)) (subst (λ t. Keeps t (told contents d)) e m.2))
+      (kept_begins (Some (x ++ output_of resolution q (take n all))) (told contents d) (subst (λ t. Keeps t (told contents d)) e m.2))
       (append_assoc x (output_of resolution q (take n all)) rest ∙ ap (λ l. x ++ l) (sym (output_front resolution q all n)))
 
   -- after a failure nothing was told any more

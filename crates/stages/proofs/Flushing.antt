@@ -11,7 +11,7 @@ use Rattle.pcapio.specs.declared.writer.Writer.{Writer}
 use Rattle.stages.specs.PortSteps.{AreTold, AreCutShort, AreToldBelow}
 use Rattle.stages.proofs.Lists.{at_set}
 
-kept_begins : (a t : Option (List ℕ)) → Keeps a t → Begins t a
+pub kept_begins : (a t : Option (List ℕ)) → Keeps a t → Begins t a
 kept_begins None t k = ([], tt)
 kept_begins (Some x) None k = absurd k
 kept_begins (Some x) (Some y) k = ([], append-nil y ∙ k)

@@ -1,5 +1,5 @@
 -- Ports before the first packet: each has a file header to tell.
-use Rattle.std.proofs.Common.{◌≡◌, ℕ, zero, suc, ◌+◌, Bool, length, sum, arith, List, [], ◌++◌, Option, None, Some, slice_get, map, refl, sym, ap, ◌∙◌, subst, append-nil}
+use Rattle.std.proofs.Common.{◌≡◌, ℕ, zero, suc, ◌+◌, Bool, length, sum, arith, List, [], ◌++◌, Option, Some, slice_get, map, refl, sym, ap, ◌∙◌, subst, append-nil}
 use Rattle.std.specs.Io.KnownBytes.{Appends}
 use Rattle.std.proofs.lemmas.Option.{slice_get-map}
 use Rattle.std.specs.Option.{option_map}
@@ -14,10 +14,7 @@ use Rattle.pcapio.specs.declared.writer.Writer.{Writer}
 use Rattle.stages_laws.specs.Output.{Fate}
 use Rattle.stages.specs.Ports.{AreFresh, HasTexts, devices_of}
 use Rattle.stages.specs.Tallies.{IsTally}
-
-grown : (a : Option (List ℕ)) (x part : List ℕ) → Appends (Some x) a part → a ≡ Some (x ++ part)
-grown None x part p = absurd p
-grown (Some y) x part p = ap Some p
+use Rattle.stages.proofs.Texts.{appended_text}
 
 module _ {W : Type 0} where
   -- what a device was told before the run is what it was told now
@@ -34,7 +31,7 @@ module _ {W : Type 0} where
       → map (told contents) (devices_of writers) ≡ before → AreFresh contents resolution writers → HasTexts contents before resolution outs 0 failed writers
   fresh_texts contents before resolution outs failed writers same fresh all known well q w x got at =
       let f = fresh q w got in
-      grown (text contents w) x (file_header resolution) (subst (λ t. Appends t (text contents w) (file_header resolution)) (told_before contents writers before q w x same got at) f.0)
+      appended_text (text contents w) x (file_header resolution) (subst (λ t. Appends t (text contents w) (file_header resolution)) (told_before contents writers before q w x same got at) f.0)
       ∙ ap (λ l. Some (x ++ l)) (sym (append-nil (file_header resolution)))
 
 pub fresh_tally : (outs : Option (List Fate)) (ports : ℕ) → IsTally outs ports 0 (counts_of ports 0 [])

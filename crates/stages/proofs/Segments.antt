@@ -1,7 +1,8 @@
 -- Fresh segments in a row: those from a number on, as one chain.
-use Rattle.std.proofs.Common.{◌≡◌, ◌<◌, ◌≤◌, ℕ, zero, suc, ◌+◌, ◌-◌, ◌*◌, ◌/◌, min, List, [], ◌∷◌, ◌++◌, length, length-append, map, inl, inr, refl, sym, ap, ◌∙◌, subst, arith, mul_comm}
+use Rattle.std.proofs.Common.{◌≡◌, ◌≤◌, ℕ, zero, suc, ◌+◌, ◌-◌, ◌*◌, List, [], ◌∷◌, ◌++◌, length, length-append, map, refl, sym, ap, ◌∙◌, subst, arith}
 use Rattle.std.specs.List.{range_with_len}
 use Rattle.std.proofs.lemmas.List.FromFn.{length-map-range_with_len}
+use Rattle.std.proofs.lemmas.List.{map-append}
 use Rattle.std.proofs.lemmas.List.Sums.{sum_by-cons}
 use Rattle.burst.specs.Numbers.{AreDistinct}
 use Rattle.mbuf.specs.Buffer.{Buffer, made, room_of}
@@ -18,10 +19,6 @@ range-last first zero = let e : first ≡ first + 0 = omega arith in ap (λ k. k
 range-last first (suc n) =
     let e : (first + 1) + n ≡ first + suc n = omega arith in
     ap (λ l. first ∷ l) (range-last (first + 1) n) ∙ ap (λ k. first ∷ (range_with_len (first + 1) n ++ k ∷ [])) e
-
-map-append : {A B : Type 0} (f : A → B) (xs ys : List A) → map f (xs ++ ys) ≡ map f xs ++ map f ys
-map-append f [] ys = refl
-map-append f (x ∷ xs) ys = ap (λ l. f x ∷ l) (map-append f xs ys)
 
 pub made-last : (headroom room n : ℕ) → made_all headroom room (suc n) ≡ made_all headroom room n ++ (made headroom room n ∷ []) ∷ []
 made-last headroom room n =

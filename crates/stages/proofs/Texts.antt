@@ -51,7 +51,7 @@ beginning (Some y) part more whole b e =
     let all : whole ≡ y ++ (b.0 ++ more) = sym e ∙ (ap (λ l. l ++ more) (sym b.1) ∙ append_assoc y b.0 more) in
     ap Some (sym (ap (take (length y)) all ∙ take-append_seam y (b.0 ++ more)))
 
-appended_text : (a : Option (List ℕ)) (x part : List ℕ) → Appends (Some x) a part → a ≡ Some (x ++ part)
+pub appended_text : (a : Option (List ℕ)) (x part : List ℕ) → Appends (Some x) a part → a ≡ Some (x ++ part)
 appended_text None x part p = absurd p
 appended_text (Some y) x part p = ap Some p
 

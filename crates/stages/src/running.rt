@@ -35,8 +35,8 @@ use std::marker::Brand;
 ///
 /// All devices come back, the ports' in their order. Refused with 1 `Memory`; 3 `Read` and 4 `Write(port)`, where that
 /// device failed in this call; 5 `Capture`, where the input is refused; 6 `Window`, where it has 2^64 - 1 records or
-/// more. Each port's device was then told a beginning of its output, and after a device failed nothing more was written
-/// to any. 2 `Thread` and 7 `Worn` are never answered.
+/// more. Each port's device was then told a beginning of its output, and after a port's device failed nothing more was
+/// written to any port. 2 `Thread` and 7 `Worn` are never answered.
 pub fn run_one<R: Read, W: Write + Drop>(
     alloc: Global,
     reader: Counted<R>,

@@ -1,4 +1,4 @@
-use Rattle.std.proofs.Common.{◌≡◌, ◌≤◌, ◌<◌, ◌+◌, ◌-◌, ◌*◌, ◌++◌, ◌∙◌, min, [], ◌∷◌, refl, sym, ap, subst, arith, length, length-append}
+use Rattle.std.proofs.Common.{◌≡◌, ◌<◌, ◌+◌, ◌-◌, ◌*◌, ◌++◌, ◌∙◌, min, [], ◌∷◌, refl, sym, ap, arith, length, length-append}
 use Rattle.mbuf.specs.Chain.{space_of}
 use Rattle.stages.proofs.Segments.{row, last-made, row-joined, joined-apart, row-long, row-space}
 use Rattle.stages.proofs.longest.longest_chain.Goals as goal
