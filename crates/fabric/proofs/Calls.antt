@@ -87,10 +87,10 @@ module _ {T : Type 0} (tags : T → List ℕ) (key plan : FabricPlan) (is : key 
     pub reserve_take_call : word ≡ own_at ring Take → HasSeen ring Take old t me.0 → position_of ring_plan.take old + n ≤ t
         → position_of ring_plan.take old + n ≤ LAST
         → Allows (IsConsistent tags key.rings.items key.buffers) slots id me word (λ y. either (eqb y old) (old + n) y)
-        (reserve_take_tells (step slots word old (old + n) none) me)
-    reserve_take_call e seen room low = at_key (λ y. either (eqb y old) (old + n) y) (reserve_take_tells (step slots word old (old + n) none) me)
+        (reserve_take_tells tags (step slots word old (old + n) none) me)
+    reserve_take_call e seen room low = at_key (λ y. either (eqb y old) (old + n) y) (reserve_take_tells tags (step slots word old (old + n) none) me)
         (subst (λ (w : ℕ). Allows (IsConsistent tags plan.rings.items plan.buffers) slots id me w (λ y. either (eqb y old) (old + n) y)
-        (reserve_take_tells (step slots w old (old + n) none) me)) (sym e)
+        (reserve_take_tells tags (step slots w old (old + n) none) me)) (sym e)
         (reserves_take tags plan.rings.items plan.buffers slots id me ring ring_plan record { ring = ring; side = Take; looked_at = old; tail_seen = Some t } t
         n at alive idle seen refl refl some_n refl room low))
 

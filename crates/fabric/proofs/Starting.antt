@@ -16,7 +16,7 @@ use Rattle.geom.specs.declared.word.TheConstants.{LAST}
 use Rattle.geom.specs.Plan.{granted, mode_of}
 use Rattle.ringcore_laws.specs.declared.party.Party.{Party}
 use Rattle.ringcore_laws.specs.declared.protocol.Span.{Span}
-use Rattle.ringcore_laws.specs.FreeRings.{buffers_had}
+use Rattle.ringcore_laws.specs.FreeRings.{AreSingle, buffers_had}
 use Rattle.ringcore_laws.specs.History.{position_of, room_by_look}
 use Rattle.ringcore_laws.specs.Party.{with_open}
 use Rattle.ringcore_laws.specs.Sound.{holds, moved}
@@ -85,8 +85,9 @@ module _ {T : Type 0} (tags : T → List ℕ) where
     pub started : (n : ℕ) (how : How) (v w w' : View T) (q : Probe) (m left : ℕ) (items : List T) → Probes tags ring side plan v q w → m ≡ granted how n q.room
         → 0 < m → q.start + m ≤ LAST
         → left ≡ q.room - m → w' ≡ reserved (span_of ring side (position_of (mode_of plan side) q.word) m) items w
+        → (side ≡ Take → plan.free ≡ true → AreSingle tags items)
         → Starts tags how n ring side plan v q.start m left items w'
-    started n how v w w' q m left items h is pos low rest e = record {
+    started n how v w w' q m left items h is pos low rest e single = record {
       word = q.word;
       tail = q.tail;
       seen = w;
@@ -97,6 +98,7 @@ module _ {T : Type 0} (tags : T → List ℕ) where
       last = low;
       rest = rest ∙ ap (λ r. r - m) h.2;
       view = e ∙ ap (λ p. reserved (span_of ring side p m) items w) (sym h.1);
+      single = single;
     }
 
     -- what a reservation asks of the view

@@ -36,6 +36,10 @@ abbrev pub IsHandOf : {T : Type 0} {G : Ghosts T} {N : ℕ} → Fabric T N → H
 IsHandOf f h = (h.share.seat.table_id ≡ f.table.shared.table_id) × (h.share.seat.me.0.plans ≡ f.plan.rings.items)
     × (h.share.seat.me.0.pool ≡ f.plan.buffers)
 
+-- the same hand still: it comes from the same fabric, and its view is the same
+abbrev pub SameHand : {T : Type 0} {G : Ghosts T} → Hand T G → Hand T G → Type 0
+SameHand h k = k.share.seat ≡ h.share.seat
+
 -- the fabric that an open span is of
 abbrev pub put_fabric : {T : Type 0} {G : Ghosts T} {N : ℕ} → PutOpen T N G → Fabric T N
 put_fabric o = o.ring.fabric.now

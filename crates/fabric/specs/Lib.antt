@@ -5,6 +5,7 @@ pub mod Owned
 pub mod Starts
 pub mod Settles
 pub mod Hands
+pub mod Keepers
 pub mod Making
 pub mod Closing
 pub mod Closed

@@ -23,6 +23,14 @@ module _ {T : Type 0} (tags : T → List ℕ) where
   AreNotYours plan v items = ((b : ℕ) × (holds tags b v.party < occurrences_in tags b items))
       ⊎ ((plan.free ≡ true) × (AreSingle tags items → ⊥))
 
+  -- the hand may put these items on any free ring: each carries one buffer, which is its own, and none stands twice
+  abbrev pub AreOwnBuffers : View T → List T → Type 0
+  AreOwnBuffers v items = Owns tags v.party items × AreSingle tags items
+
+  abbrev pub AreNotOwnBuffers : View T → List T → Type 0
+  AreNotOwnBuffers v items =
+      ((b : ℕ) × (holds tags b v.party < occurrences_in tags b items)) ⊎ (AreSingle tags items → ⊥)
+
   -- the hand may put these items on a ring of this plan
   pub record AreYours (plan : RingPlan) (v : View T) (items : List T) : Type 0 where
     pub owned : Owns tags v.party items

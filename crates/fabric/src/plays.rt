@@ -36,7 +36,7 @@ pub struct ReservesTake;
 impl<T: Tagged> Play<Option<T>, View<T>> for ReservesTake {
     ghost use Rattle.fabric_laws.specs.Kinds.{reserve_take_tells};
 
-    ghost then = { reserve_take_tells };
+    ghost then = { reserve_take_tells T.numbers };
 }
 
 /// Settle of a multi side: an exchange of its tail.

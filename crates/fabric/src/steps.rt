@@ -150,7 +150,8 @@ impl<T: Tagged, const N: usize> Ring<'_, T, N> {
         )
     }
 
-    /// Reserve of the take side: the slots come to the hand with the items that are published there.
+    /// Reserve of the take side: the slots come to the hand with the items that are published there. Those of a free
+    /// ring carry one buffer each.
     pub(crate) fn reserve_take(
         &self,
         seat: &mut Seat<Option<T>, View<T>>,
@@ -168,7 +169,8 @@ impl<T: Tagged, const N: usize> Ring<'_, T, N> {
             → (items : List T) × (length items ≡ count)
             × (seat.new.me.0 ≡ reserved (span_of self.now.index Take start count) items seat.old.me.0)
             × (seat.new.me.1 ≡ slots_of self.now start (map Some items)
-            ++ seat.old.me.1) }
+            ++ seat.old.me.1)
+            × (self.now.shape.plan.free ≡ true → AreSingle T.numbers items) }
         ensures lost { result ≢ word → (seat.new.me.0 ≡ missed result seat.old.me.0) × (seat.new.me.1 ≡ seat.old.me.1) }
     {
         self.fabric.table.shared.compare_exchange::<ReservesTake>(

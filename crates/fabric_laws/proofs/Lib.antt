@@ -6,6 +6,7 @@ pub mod Truths
 pub mod Lanes
 pub mod Steps
 pub mod Loads
+pub mod Singles
 pub mod Reserves
 pub mod Settles
 pub mod Hands

@@ -42,6 +42,7 @@ use Rattle.fabric_laws.proofs.Cells.{cell_of, get_dropped, get_taken, length-cel
 use Rattle.fabric_laws.proofs.Homes.{home_put_reserved, home_take_reserved, rings_apart, run_apart}
 use Rattle.fabric_laws.proofs.Lanes.{own_inside, own_no_tail, own_same, word_else, word_set}
 use Rattle.fabric_laws.proofs.Loads.{lost}
+use Rattle.fabric_laws.proofs.Singles.{singles_queued}
 use Rattle.fabric_laws.proofs.Slots.{emptied, emptied_else, length-emptied, some_below, takes_all, takes_carried, takes_homes, takes_valid}
 use Rattle.fabric_laws.proofs.Steps.{St, built, ring_sound, side_ruled, span_within, told_on, word_is}
 use Rattle.fabric_laws.proofs.Truths.{GoOn, observed_on, true_on}
@@ -342,7 +343,7 @@ module _ {T : Type 0} (tags : T → List ℕ) (plans : List RingPlan) (pool : �
 
     pub reserves_take : o.side ≡ Take → position_of plan.take o.looked_at + n ≤ t → position_of plan.take o.looked_at + n ≤ LAST
         → Allows (IsConsistent tags plans pool) slots id me (own_at r Take) (λ y. either (eqb y o.looked_at) (o.looked_at + n) y)
-        (reserve_take_tells (step slots (own_at r Take) o.looked_at (o.looked_at + n) none) me)
+        (reserve_take_tells tags (step slots (own_at r Take) o.looked_at (o.looked_at + n) none) me)
     reserves_take on_side room low s c _ here _ =
         let i : ℕ = own_at r Take in
         let y : ℕ = get_or s.words i 0 in
@@ -356,7 +357,7 @@ module _ {T : Type 0} (tags : T → List ℕ) (plans : List RingPlan) (pool : �
         let published : List T = listed (side_of (parties_of_views s.views) r Put) in
         let items : List T = take n (drop start published) in
         let ys : List (Option T) = map Some items in
-        exchanged y o.looked_at (o.looked_at + n) (Goes s i id me (reserve_take_tells (step slots i o.looked_at (o.looked_at + n) none) me))
+        exchanged y o.looked_at (o.looked_at + n) (Goes s i id me (reserve_take_tells tags (step slots i o.looked_at (o.looked_at + n) none) me))
         (λ hit.
         let next = next_is s c here Take on_side hit in
         let first = next_above (parties_of_views s.views) r Take plan.take start (side_ruled tags plans pool s c r plan at Take) next in
@@ -396,6 +397,8 @@ module _ {T : Type 0} (tags : T → List ℕ) (plans : List RingPlan) (pool : �
                   long ∙ count,
                   λ j. reserved record { ring = to j; side = Take; start = position_of (is j).take o.looked_at; count = count j } items v,
                   takes_carried me.1 (run slot start ys) ∙ (λ j. run (slot_at (sym told j) (to j) (is j)) (position_of (is j).take o.looked_at) ys ++ me.1),
+                  λ free. singles_queued tags n start (side_of (parties_of_views s.views) r Take).len published first.0
+                      (c.free.singles r plan at (ap (λ (p : RingPlan). p.free) is ∙ free)),
                 ),
                 λ miss. absurd (miss hit),
               ),

@@ -77,13 +77,16 @@ module _ {T : Type 0} where
       × (m'.1 ≡ run (slot_at m.0.plans r plan) start (replicate n None) ++ m.1))
       × (x ≢ st.first → (m'.0 ≡ missed x m.0) × (m'.1 ≡ m.1))
 
-  abbrev pub reserve_take_tells : Step (Option T) → Me (Option T) (View T) → ℕ → Me (Option T) (View T) → Type 0
-  reserve_take_tells st m x m' = (r n : ℕ) (plan : RingPlan) → st.word ≡ own_at r Take → st.second ≡ st.first + n
+  -- the items of a take from a free ring carry one buffer each
+  abbrev pub reserve_take_tells : (T → List ℕ) → Step (Option T) → Me (Option T) (View T) → ℕ → Me (Option T) (View T)
+      → Type 0
+  reserve_take_tells tags st m x m' = (r n : ℕ) (plan : RingPlan) → st.word ≡ own_at r Take → st.second ≡ st.first + n
       → slice_get m.0.plans r ≡ Some plan
       → let start = position_of plan.take st.first in let span : Span =
       record { ring = r; side = Take; start = start; count = n } in
       (x ≡ st.first → (items : List T) × (length items ≡ n) × (m'.0 ≡ reserved span items m.0)
-      × (m'.1 ≡ run (slot_at m.0.plans r plan) start (map Some items) ++ m.1))
+      × (m'.1 ≡ run (slot_at m.0.plans r plan) start (map Some items) ++ m.1)
+      × (plan.free ≡ true → AreSingle tags items))
       × (x ≢ st.first → (m'.0 ≡ missed x m.0) × (m'.1 ≡ m.1))
 
   -- the item before the others, where there is one

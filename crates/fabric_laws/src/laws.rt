@@ -68,7 +68,7 @@ pub fn a_reserve_is_allowed<T>()
         → o.side ≡ Take → position_of plan.take o.looked_at + n ≤ t → position_of plan.take o.looked_at + n ≤ LAST
         → Allows (IsConsistent tags plans pool) slots id me (own_at r Take)
         (λ y. either (y == o.looked_at) (o.looked_at + n) y)
-        (reserve_take_tells (step slots (own_at r Take) o.looked_at (o.looked_at + n) none) me) }
+        (reserve_take_tells tags (step slots (own_at r Take) o.looked_at (o.looked_at + n) none) me) }
 {}
 
 /// Settle, on each side: of a multi side a compare-and-exchange of its tail, from where the own span starts to its end;

@@ -164,7 +164,7 @@ returns-clause-started g c =
           [] c.reserve_put-found.new.seat.me.0)
           (same_ring f.plan.rings.items c.args.ring c.index.result.now.plan plan at.0 there)
           (started g.T.Tagged.numbers c.args.ring Put c.index.result.now.plan c.args.n c.args.how v w c.reserve_put-found.new.seat.me.0 c.in-Ok.aim.0
-          c.in-Ok.aim.1 (c.in-Ok.aim.0.room - c.in-Ok.aim.1) [] a.0 a.1 a.2 a.5 refl won.0),
+          c.in-Ok.aim.1 (c.in-Ok.aim.0.room - c.in-Ok.aim.1) [] a.0 a.1 a.2 a.5 refl won.0 (λ _ _. refl)),
     )
 
 pub returns-then-is_bad_count-clause-asked : goal.returns-then-is_bad_count-clause-asked

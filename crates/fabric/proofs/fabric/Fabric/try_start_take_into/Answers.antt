@@ -226,7 +226,7 @@ returns-clause-started g c =
           won.0 c.withdraw.new.seat.me.0)
           (same_ring f.plan.rings.items c.args.ring c.index.result.now.plan plan at.0 there)
           (started g.T.Tagged.numbers c.args.ring Take c.index.result.now.plan c.args.n c.args.how v w c.withdraw.new.seat.me.0 c.in-Ok.aim.0 c.in-Ok.aim.1
-          (c.in-Ok.aim.0.room - c.in-Ok.aim.1) won.0 a.0 a.1 a.2 a.5 refl is)),
+          (c.in-Ok.aim.0.room - c.in-Ok.aim.1) won.0 a.0 a.1 a.2 a.5 refl is (λ _. won.4))),
     )
 
 pub returns-in-Err-clause-asked : goal.returns-in-Err-clause-asked

@@ -26,6 +26,7 @@ returns-clause-won g c hit =
       t.2,
       t.3 ∙ reserved_as c.args.seat.now.me.0.plans c.args.self.now.fabric.now.plan.rings.items c.args.self.now.index p
           (position_of p.take c.args.word) (map Some t.0) c.args.seat.now.me.1 q.seat.plans,
+      t.4,
     )
 
 pub returns-clause-lost : goal.returns-clause-lost
