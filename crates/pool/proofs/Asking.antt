@@ -25,17 +25,17 @@ use Rattle.ringapi.specs.declared.answers.Refusal.TheVariants.{Start, NotYours}
 use Rattle.ringapi.specs.declared.answers.PutAnswer.{PutAnswer}
 use Rattle.ringapi.specs.Puts.{IsUnfinishedPut, PutHasTold}
 use Rattle.ringapi.proofs.Yours.{not_both}
-use Rattle.fabric.specs.Settles.{AreYours}
+use Rattle.fabric.specs.Settles.{AreOwnBuffers, AreYours}
 use Rattle.ringapi.specs.Takes.{IsUnfinishedTake, TakeHasTold}
 use Rattle.ringapi.specs.Views.{IsMoved, RefusedStarts, by_bulk}
 use Rattle.ringapi.proofs.Tries.{reserved_party, starts_kept}
 use Rattle.fabric.proofs.Told.{refused_kept}
 use Rattle.fabric.proofs.Pours.{all_first, none_behind}
 use Rattle.std.proofs.lemmas.List.{length-drop}
-use Rattle.ringcore_laws.specs.FreeRings.{buffers_had}
+use Rattle.ringcore_laws.specs.FreeRings.{AreSingle, buffers_had}
 use Rattle.std.specs.Prelude.{true}
 use Rattle.pool.proofs.Counts.{count_parts}
-use Rattle.ringcore_laws.specs.Moves.{Owns}
+use Rattle.pool.proofs.Singles.{single_drop, single_take}
 use Rattle.pool.specs.Asks.{HasLess, Spills, Takes, refusal_of}
 
 -- by bulk all positions are granted, or none
@@ -97,6 +97,11 @@ module _ {T : Type 0} {G : Ghosts T} (tags : T → List ℕ) (most ring : ℕ) (
       ap (holds tags b) (moved_party tags most n ring Take plan v (view h) told.0 takes.1.count takes.1.left items items told.1 is)
       ∙ holds_take tags b ring is.0 takes.1.count v.party items (once b).2
 
+  -- from a free ring, it is of one buffer each
+  pub took_single : (v : View T) (n : ℕ) (h : Hand T G) (items : List T) → Takes tags most ring plan v n (Ok h) items → plan.free ≡ true
+      → AreSingle tags items
+  took_single v n h items takes free = takes.2.2.2.2.started.single refl free
+
   -- a bulk put that came through
   pub put_all : (v : View T) (h : Hand T G) (m : Moved) (items rest : List T)
       → PutHasTold {N = most} tags by_bulk ring plan v items (put.Done h m) rest → (rest ≡ []) × Spills tags most ring plan v items (Ok h)
@@ -152,9 +157,17 @@ module _ {T : Type 0} {G : Ghosts T} (tags : T → List ℕ) (most ring : ℕ) (
       (refused_kept tags most by_bulk (length items) ring Put plan told.2.2 (view h) Worn told.2.4).party
       ∙ starts_kept tags most by_bulk (length items) ring Put plan v told.0 told.2.2 told.2.3
 
-module _ {T : Type 0} (tags : T → List ℕ) (plan : RingPlan) where
-  -- what is left of a hand's items after the first of them were put is its own still
-  pub left_own : (v w : View T) (items : List T) (k : ℕ) → AreYours tags plan v items → HasLess tags v.party (take k items) w.party
-      → Owns tags w.party (drop k items)
-  left_own v w items k yours less b =
-      omega (arith, yours.owned b, less b, count_parts tags b k items)
+module _ {T : Type 0} (tags : T → List ℕ) where
+  -- a hand's items are its own to put on a free ring
+  pub own_yours : (plan : RingPlan) (v : View T) (items : List T) → AreOwnBuffers tags v items → AreYours tags plan v items
+  own_yours plan v items own = record { owned = own.0; single = λ free. own.1 }
+
+  -- so are the first of them
+  pub first_own : (v : View T) (items : List T) (k : ℕ) → AreOwnBuffers tags v items → AreOwnBuffers tags v (take k items)
+  first_own v items k own = ((λ b. omega (arith, own.0 b, count_parts tags b k items)), single_take tags k items own.1)
+
+  -- and what is left after the first of them were put
+  pub left_own : (v w : View T) (items : List T) (k : ℕ) → AreOwnBuffers tags v items → HasLess tags v.party (take k items) w.party
+      → AreOwnBuffers tags w (drop k items)
+  left_own v w items k own less =
+      ((λ b. omega (arith, own.0 b, less b, count_parts tags b k items)), single_drop tags k items own.1)

@@ -1,35 +1,49 @@
 -- How often a buffer stands in what a get gives and keeps, and in what a put moves and keeps
 use Rattle.std.proofs.Common.{◌≡◌, ℕ, ◌+◌, ◌-◌, ◌++◌, List, length, take, drop, reverse, arith}
 use Rattle.std.specs.Prelude.{◌<◌, ◌≤◌, nat_lt, if◌then◌else◌}
+use Rattle.std.specs.List.{sum_by}
 use Rattle.std.proofs.lemmas.Bool.Decides.{nat_tests}
 use Rattle.std.proofs.lemmas.List.Sums.{sum_by-append, sum_by-take-drop}
 use Rattle.std.proofs.lemmas.List.Sorted.{IsPermutation-reverse, sum_by-IsPermutation}
 use Rattle.ringcore_laws.specs.Sound.{occurrences, occurrences_in}
 use Rattle.pool.specs.Caches.{cached_after_get, cached_after_put, put_on_ring, spilled, taken_by_get}
 
+-- a sum over the items
+module _ {T : Type 0} (f : T → ℕ) where
+  pub sum_turned : (items : List T) → sum_by f (reverse items) ≡ sum_by f items
+  sum_turned items = sum_by-IsPermutation f items (reverse items) (IsPermutation-reverse items)
+
+  pub sum_parts : (k : ℕ) (items : List T) → sum_by f (take k items) + sum_by f (drop k items) ≡ sum_by f items
+  sum_parts k items = sum_by-take-drop f items k
+
+  -- a get loses nothing and makes nothing up
+  pub sum_get : (n : ℕ) (cache taken : List T)
+      → sum_by f (taken_by_get n cache taken) + sum_by f (cached_after_get n cache taken) ≡ sum_by f cache + sum_by f taken
+  sum_get n cache taken =
+      omega (
+        arith,
+        sum_by-append f (reverse (drop (length cache - n) cache)) (take (n - length cache) taken),
+        sum_by-append f (take (length cache - n) cache) (drop (n - length cache) taken),
+        sum_turned (drop (length cache - n) cache),
+        sum_parts (length cache - n) cache,
+        sum_parts (n - length cache) taken,
+      )
+
+-- how often a buffer stands in them
 module _ {T : Type 0} (tags : T → List ℕ) (b : ℕ) where
   pub count_turned : (items : List T) → occurrences_in tags b (reverse items) ≡ occurrences_in tags b items
-  count_turned items = sum_by-IsPermutation (λ x. occurrences b (tags x)) items (reverse items) (IsPermutation-reverse items)
+  count_turned items = sum_turned (λ x. occurrences b (tags x)) items
 
   pub count_both : (items more : List T) → occurrences_in tags b (items ++ more) ≡ occurrences_in tags b items + occurrences_in tags b more
   count_both items more = sum_by-append (λ x. occurrences b (tags x)) items more
 
   pub count_parts : (k : ℕ) (items : List T) → occurrences_in tags b (take k items) + occurrences_in tags b (drop k items) ≡ occurrences_in tags b items
-  count_parts k items = sum_by-take-drop (λ x. occurrences b (tags x)) items k
+  count_parts k items = sum_parts (λ x. occurrences b (tags x)) k items
 
-  -- a get loses nothing and makes nothing up
   pub count_get : (n : ℕ) (cache taken : List T)
       → occurrences_in tags b (taken_by_get n cache taken) + occurrences_in tags b (cached_after_get n cache taken)
       ≡ occurrences_in tags b cache + occurrences_in tags b taken
-  count_get n cache taken =
-      omega (
-        arith,
-        count_both (reverse (drop (length cache - n) cache)) (take (n - length cache) taken),
-        count_both (take (length cache - n) cache) (drop (n - length cache) taken),
-        count_turned (drop (length cache - n) cache),
-        count_parts (length cache - n) cache,
-        count_parts (n - length cache) taken,
-      )
+  count_get n cache taken = sum_get (λ x. occurrences b (tags x)) n cache taken
 
   -- nor does a put
   pub count_put : (size : ℕ) (cache list : List T)

@@ -1,33 +1,114 @@
 -- What the calls of a pool keep: its ring is free, and its cache the hand's own
-use Rattle.std.proofs.Common.{◌≡◌, ℕ, ◌++◌, List, [], take, drop, reverse, sym, ap, ◌∙◌, subst, arith}
+use Rattle.std.proofs.Common.{◌≡◌, ℕ, ◌++◌, inl, inr, List, take, drop, reverse, sym, ap, ◌∙◌, subst, arith}
+use Rattle.burst.specs.declared.tagged.Tagged.{Ghosts}
 use Rattle.geom.specs.declared.plan.RingPlan.{RingPlan}
-use Rattle.ringcore_laws.specs.declared.party.Party.{Party}
-use Rattle.ringcore_laws.specs.Moves.{Owns}
+use Rattle.ringcore_laws.specs.FreeRings.{AreSingle}
 use Rattle.ringcore_laws.specs.Sound.{holds, occurrences_in}
+use Rattle.fabric_laws.specs.declared.view.View.{View}
+use Rattle.fabric.specs.declared.keeper.Keeper.{Keeper}
+use Rattle.fabric.specs.Keepers.{AreKept, Keeps, KeepsLess, KeepsMore, KeepsNoMore, SameKeeper, view_of_keeper}
+use Rattle.fabric.specs.Settles.{AreNotOwnBuffers, AreOwnBuffers}
 use Rattle.pool.specs.Hands.{IsFreeRing}
 use Rattle.pool.proofs.Counts.{count_both, count_parts, count_turned}
+use Rattle.pool.proofs.Singles.{single_both, single_later, single_poured}
 
 pub free_kept : (before after rings : List RingPlan) (ring : ℕ) → before ≡ rings → after ≡ rings → IsFreeRing before ring → IsFreeRing after ring
 free_kept before after rings ring was is free = subst (λ p. IsFreeRing p ring) (was ∙ sym is) free
 
-module _ {T : Type 0} (tags : T → List ℕ) where
-  pub later_own : (p : Party T) (items cache : List T) → Owns tags p (items ++ cache) → Owns tags p cache
-  later_own p items cache own b = omega (arith, own b, count_both tags b items cache)
+module _ {T : Type 0} {G : Ghosts T} (tags : T → List ℕ) where
+  -- what a keeper keeps back is the hand's own
+  pub own_kept : (k : Keeper T G) (cache : List T) → Keeps tags k cache → AreSingle tags cache → AreOwnBuffers tags (view_of_keeper k) cache
+  own_kept k cache keeps single = ((λ b. omega (arith, keeps b)), single)
 
-  pub same_own : (p q : Party T) (cache later : List T) → q ≡ p → later ≡ cache → Owns tags p cache → Owns tags q later
-  same_own p q cache later kept same own b = omega (arith, own b, ap (holds tags b) kept, ap (λ l. occurrences_in tags b l) same)
+  pub same_view : (k l : Keeper T G) → SameKeeper k l → view_of_keeper l ≡ view_of_keeper k
+  same_view k l same = ap (λ s. s.me.0) same
 
-  pub hit_own : (p : Party T) (k : ℕ) (cache none items later : List T) → none ≡ [] → items ≡ none ++ reverse (drop k cache) → later ≡ take k cache
-      → Owns tags p cache → Owns tags p (items ++ later)
-  hit_own p k cache none items later empty gives keeps own b =
+  -- it keeps a list back beside the cache
+  pub more_kept : (k l : Keeper T G) (cache list : List T) → SameKeeper k l → Keeps tags k cache → KeepsMore tags k list l → Keeps tags l (cache ++ list)
+  more_kept k l cache list same keeps more b =
+      omega (arith, keeps b, more.1 b, count_both tags b cache list, ap (λ (v : View T). holds tags b v.party) (same_view k l same))
+
+  pub more_own : (k l : Keeper T G) (cache list : List T) → Keeps tags k cache → AreSingle tags cache → KeepsMore tags k list l
+      → AreOwnBuffers tags (view_of_keeper k) (cache ++ list)
+  more_own k l cache list keeps single more =
+      ((λ b. omega (arith, keeps b, more.1 b, count_both tags b cache list)), single_both tags cache list single more.0)
+
+  pub added_kept : (k l : Keeper T G) (cache list : List T) → SameKeeper k l → Keeps tags k cache → KeepsMore tags k list l → AreKept tags l list
+  added_kept k l cache list same keeps more b =
+      omega (arith, keeps b, more.1 b, ap (λ (v : View T). holds tags b v.party) (same_view k l same))
+
+  -- it doesn't
+  pub none_kept : (k l : Keeper T G) (cache list : List T) → SameKeeper k l → Keeps tags k cache → KeepsNoMore tags k list l → Keeps tags l cache
+  none_kept k l cache list same keeps none b =
+      omega (arith, keeps b, none.0 b, ap (λ (v : View T). holds tags b v.party) (same_view k l same))
+
+  pub none_own : (k l : Keeper T G) (cache list : List T) → Keeps tags k cache → KeepsNoMore tags k list l
+      → AreNotOwnBuffers tags (view_of_keeper k) (cache ++ list)
+  none_own k l cache list keeps none = elim none.1 [
+    | inl more ↦ inl (more.0, omega (arith, keeps more.0, more.1, count_both tags more.0 cache list))
+    | inr odd ↦ inr (λ single. odd (single_later tags cache list single))
+  ]
+
+  -- it keeps back the newest of a cache no more
+  pub are_kept : (k : Keeper T G) (n : ℕ) (cache items : List T) → Keeps tags k cache → items ≡ reverse (drop n cache) → AreKept tags k items
+  are_kept k n cache items keeps is b =
       omega (
         arith,
-        own b,
-        count_both tags b items later,
-        ap (λ l. occurrences_in tags b l) gives,
-        ap (λ l. occurrences_in tags b l) empty,
-        count_both tags b none (reverse (drop k cache)),
-        count_turned tags b (drop k cache),
-        count_parts tags b k cache,
-        ap (λ l. occurrences_in tags b l) keeps,
+        keeps b,
+        ap (λ l. occurrences_in tags b l) is,
+        count_turned tags b (drop n cache),
+        count_parts tags b n cache,
+      )
+
+  pub less_kept : (k l : Keeper T G) (n : ℕ) (cache items later : List T) → SameKeeper k l → Keeps tags k cache → items ≡ reverse (drop n cache)
+      → later ≡ take n cache → KeepsLess tags k items l → Keeps tags l later
+  less_kept k l n cache items later same keeps is left less b =
+      omega (
+        arith,
+        keeps b,
+        less b,
+        ap (λ l. occurrences_in tags b l) is,
+        ap (λ l. occurrences_in tags b l) left,
+        count_turned tags b (drop n cache),
+        count_parts tags b n cache,
+        ap (λ (v : View T). holds tags b v.party) (same_view k l same),
+      )
+
+  -- it kept a list back, and has it free again
+  pub back_kept : (k l m : Keeper T G) (cache list : List T) → SameKeeper k l → SameKeeper l m → Keeps tags k cache → KeepsMore tags k list l
+      → KeepsLess tags l list m → Keeps tags m cache
+  back_kept k l m cache list same again keeps more less b =
+      omega (
+        arith,
+        keeps b,
+        more.1 b,
+        less b,
+        ap (λ (v : View T). holds tags b v.party) (same_view k l same),
+        ap (λ (v : View T). holds tags b v.party) (same_view l m again),
+      )
+
+module _ {T : Type 0} (tags : T → List ℕ) where
+  pub later_own : (v : View T) (items cache : List T) → AreOwnBuffers tags v (items ++ cache) → AreOwnBuffers tags v cache
+  later_own v items cache own =
+      ((λ b. omega (arith, own.0 b, count_both tags b items cache)), single_later tags items cache own.1)
+
+  pub same_own : (v w : View T) (cache later : List T) → w.party ≡ v.party → later ≡ cache → AreOwnBuffers tags v cache → AreOwnBuffers tags w later
+  same_own v w cache later kept same own = (
+    (λ b. omega (arith, own.0 b, ap (holds tags b) kept, ap (λ l. occurrences_in tags b l) same)),
+    subst (AreSingle tags) (sym same) own.1,
+  )
+
+  pub hit_own : (v : View T) (k : ℕ) (cache items later : List T) → items ≡ reverse (drop k cache) → later ≡ take k cache
+      → AreOwnBuffers tags v cache → AreOwnBuffers tags v (items ++ later)
+  hit_own v k cache items later gives keeps own =
+      let all : items ++ later ≡ reverse (drop k cache) ++ take k cache = λ i. gives i ++ keeps i in (
+        (λ b. omega (
+          arith,
+          own.0 b,
+          ap (λ l. occurrences_in tags b l) all,
+          count_both tags b (reverse (drop k cache)) (take k cache),
+          count_turned tags b (drop k cache),
+          count_parts tags b k cache,
+        )),
+        subst (AreSingle tags) (sym all) (single_poured tags k cache own.1),
       )

@@ -1,5 +1,8 @@
 pub mod Counts
+pub mod Singles
 pub mod Few
 pub mod Asking
 pub mod Kept
+pub mod Wholes
+pub mod ByValue
 mod Rows

@@ -1,16 +1,17 @@
 -- What the bulk requests of a cache answer
-use Rattle.std.specs.Prelude.{◌≡◌, ◌+◌, ◌-◌, ◌<◌, ◌≤◌, ◌++◌, ◌⊎◌, ℕ, List, [], length, Result, Ok, Err, IsOk}
+use Rattle.std.specs.Prelude.{◌≡◌, ◌+◌, ◌-◌, ◌<◌, ◌⊎◌, ℕ, List, [], length, take, drop, Result, Ok, Err, IsOk}
 use Rattle.geom.specs.declared.plan.RingPlan.{RingPlan}
 use Rattle.ringcore_laws.specs.declared.party.Party.{Party}
 use Rattle.ringcore_laws.specs.Sound.{holds, occurrences_in}
 use Rattle.burst.specs.declared.tagged.Tagged.{Ghosts}
 use Rattle.fabric_laws.specs.declared.view.View.{View}
 use Rattle.fabric.specs.declared.hand.Hand.{Hand}
+use Rattle.fabric.specs.declared.keeper.Keeper.{Keeper}
 use Rattle.fabric.specs.declared.hand.StartFault.{StartFault}
 use Rattle.fabric.specs.declared.hand.StartFault.TheVariants.{Busy, Contended, NoRoom, BadCount}
 use Rattle.fabric.specs.declared.hand.StartFault.TheVariants as start
 use Rattle.fabric.specs.Hands.{view}
-use Rattle.fabric.specs.Settles.{AreNotYours, AreYours}
+use Rattle.fabric.specs.Keepers.{IsKeeperFor}
 use Rattle.ringapi.specs.declared.answers.Moved.{Moved}
 use Rattle.ringapi.specs.declared.answers.PutAnswer.TheVariants as put
 use Rattle.ringapi.specs.declared.answers.Refusal.TheVariants.{Start}
@@ -18,7 +19,7 @@ use Rattle.ringapi.specs.declared.answers.TakeAnswer.TheVariants as taken
 use Rattle.ringapi.specs.Puts.{PutHasTold}
 use Rattle.ringapi.specs.Takes.{TakeHasTold}
 use Rattle.ringapi.specs.Views.{by_bulk}
-use Rattle.pool.specs.Caches.{cached_after_get, cached_after_put, put_on_ring, taken_by_get, threshold}
+use Rattle.pool.specs.Caches.{cached_after_get, taken_by_get}
 use Rattle.pool.specs.declared.faults.PoolFault.{PoolFault}
 use Rattle.pool.specs.declared.faults.PoolFault.TheVariants.{Short, Worn, CacheFull, NotYours, BadSize}
 
@@ -77,29 +78,17 @@ module _ {T : Type 0} {G : Ghosts T} (tags : T → List ℕ) (most ring : ℕ) (
   Fetches size v n cache result items later =
       (taken : List T) × Refills size v (n - length cache) result taken × Deals n cache result taken items later
 
-  -- What a put of a list answers, with what is left of the list and the cache after it. Items that aren't the hand's to
-  -- put beside what is cached are refused before anything else; where the threshold isn't passed, nothing is asked of
-  -- the ring
-  abbrev pub Stores : ℕ → View T → List T → List T → Result (Hand T G) (Hand T G × PoolFault) → List T → List T → Type 0
-  Stores size v cache list (Ok h) rest later =
-      AreYours tags plan v (cache ++ list) × (rest ≡ []) × (later ≡ cached_after_put size cache list)
-      × (((length (cache ++ list) ≤ threshold size) × (view h ≡ v))
-      ⊎ ((threshold size < length (cache ++ list)) × Spills v (put_on_ring size cache list) (Ok h)))
-  Stores size v cache list (Err (h, NotYours)) rest later =
-      AreNotYours tags plan v (cache ++ list) × (rest ≡ list) × (later ≡ cache) × (view h ≡ v)
-  Stores size v cache list (Err (h, Worn)) rest later =
-      AreYours tags plan v (cache ++ list) × (rest ≡ list) × (later ≡ cache)
-      × (threshold size < length (cache ++ list)) × Spills v (put_on_ring size cache list) (Err h)
-  Stores size v cache list (Err (h, Short)) rest later = ⊥
-  Stores size v cache list (Err (h, CacheFull)) rest later = ⊥
-  Stores size v cache list (Err (h, BadSize)) rest later = ⊥
-
   -- What a flush answers, with the cache after it. An empty cache asks nothing of the ring
-  abbrev pub Flushes : View T → List T → Result (Hand T G) (Hand T G × PoolFault) → List T → Type 0
-  Flushes v cache (Ok h) later =
-      (later ≡ []) × (((cache ≡ []) × (view h ≡ v)) ⊎ (AreYours tags plan v cache × Spills v cache (Ok h)))
-  Flushes v cache (Err (h, NotYours)) later = AreNotYours tags plan v cache × (later ≡ cache) × (view h ≡ v)
-  Flushes v cache (Err (h, Worn)) later = AreYours tags plan v cache × (later ≡ cache) × Spills v cache (Err h)
-  Flushes v cache (Err (h, Short)) later = ⊥
-  Flushes v cache (Err (h, CacheFull)) later = ⊥
-  Flushes v cache (Err (h, BadSize)) later = ⊥
+  abbrev pub Flushes : View T → List T → Result (Hand T G) (Hand T G) → List T → Type 0
+  Flushes v cache (Ok h) later = (later ≡ []) × (((cache ≡ []) × (view h ≡ v)) ⊎ Spills v cache (Ok h))
+  Flushes v cache (Err h) later = (later ≡ cache) × Spills v cache (Err h)
+
+  -- What it answers to put the oldest of a cache on the ring until `size` are left, with what is handed back and the
+  -- cache after it. Where it is refused, the items behind the first `before` are handed back
+  abbrev pub Sheds : ℕ → ℕ → View T → List T → Result (Keeper T G) (Keeper T G) → List T → List T → Type 0
+  Sheds size before v cache (Ok k) rest later =
+      (rest ≡ []) × (later ≡ drop (length cache - size) cache) × (h : Hand T G)
+      × Spills v (take (length cache - size) cache) (Ok h) × IsKeeperFor h k
+  Sheds size before v cache (Err k) rest later =
+      (rest ≡ drop before cache) × (later ≡ take before cache) × (h : Hand T G)
+      × Spills v (take (length cache - size) cache) (Err h) × IsKeeperFor h k

@@ -1,12 +1,15 @@
 -- What a contract sees of the hand in a cache
-use Rattle.std.specs.Prelude.{◌≡◌, ◌<◌, ℕ, List, length, slice_get, Option, Some, None, true}
+use Rattle.std.specs.Prelude.{◌≡◌, ◌+◌, ◌<◌, ℕ, List, length, slice_get, Option, Some, None, true}
 use Rattle.geom.specs.declared.plan.RingPlan.{RingPlan}
+use Rattle.ringcore_laws.specs.Sound.{holds, occurrences_in}
 use Rattle.burst.specs.declared.tagged.Tagged.{Ghosts}
 use Rattle.fabric_laws.specs.declared.view.View.{View}
 use Rattle.fabric_laws.specs.Changes.{spent}
 use Rattle.fabric.specs.declared.fabric.Fabric.{Fabric}
 use Rattle.fabric.specs.declared.hand.Hand.{Hand}
-use Rattle.fabric.specs.Hands.{IsHandOf, rings_of, view}
+use Rattle.fabric.specs.declared.keeper.Keeper.{Keeper}
+use Rattle.fabric.specs.Hands.{rings_of}
+use Rattle.fabric.specs.Keepers.{IsKeeperFor, IsKeeperOf, SameKeeper, spare, view_of_keeper}
 
 -- a ring of these is a free ring
 abbrev pub IsFreeRing : List RingPlan → ℕ → Type 0
@@ -15,14 +18,34 @@ IsFreeRing plans ring =
 
 module _ {T : Type 0} {G : Ghosts T} where
   -- the view of a hand that is there
-  abbrev pub view_in : Option (Hand T G) → View T
+  abbrev pub view_in : Option (Keeper T G) → View T
   view_in None = spent
-  view_in (Some h) = view h
+  view_in (Some k) = view_of_keeper k
 
   -- it is there, and comes from this fabric
-  abbrev pub IsIn : {N : ℕ} → Fabric T N → Option (Hand T G) → Type 0
+  abbrev pub IsIn : {N : ℕ} → Fabric T N → Option (Keeper T G) → Type 0
   IsIn f None = ⊥
-  IsIn f (Some h) = IsHandOf f h
+  IsIn f (Some k) = IsKeeperOf f k
+
+  -- it is there, and is this hand
+  abbrev pub IsHandIn : Hand T G → Option (Keeper T G) → Type 0
+  IsHandIn h None = ⊥
+  IsHandIn h (Some k) = IsKeeperFor h k
+
+  -- it is the same hand still
+  abbrev pub IsSameIn : Option (Keeper T G) → Option (Keeper T G) → Type 0
+  IsSameIn None after = ⊥
+  IsSameIn (Some k) None = ⊥
+  IsSameIn (Some k) (Some l) = SameKeeper k l
+
+  -- how often it has a buffer beside those that it keeps back
+  abbrev pub spare_in : Option (Keeper T G) → ℕ → ℕ
+  spare_in None b = 0
+  spare_in (Some k) b = spare k b
+
+  -- the buffers that it keeps back are those of these items
+  abbrev pub KeepsIn : (T → List ℕ) → Option (Keeper T G) → List T → Type 0
+  KeepsIn tags o items = (b : ℕ) → spare_in o b + occurrences_in tags b items ≡ holds tags b (view_in o).party
 
 -- a ring of a fabric is a free ring
 abbrev pub IsFreeOf : {T : Type 0} {N : ℕ} → Fabric T N → ℕ → Type 0

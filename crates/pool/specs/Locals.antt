@@ -1,11 +1,11 @@
 -- What a contract sees of a pool's cache
-use Rattle.std.specs.Prelude.{◌≡◌, ℕ, List, Option}
+use Rattle.std.specs.Prelude.{◌≡◌, ℕ, List}
 use Rattle.burst.specs.declared.tagged.Tagged.{Ghosts}
 use Rattle.fabric_laws.specs.declared.view.View.{View}
 use Rattle.fabric.specs.declared.fabric.Fabric.{Fabric}
 use Rattle.fabric.specs.declared.hand.Hand.{Hand}
 use Rattle.pool.specs.declared.local.Local.{Local}
-use Rattle.pool.specs.Hands.{IsIn, view_in}
+use Rattle.pool.specs.Hands.{IsHandIn, IsIn, IsSameIn, view_in}
 
 module _ {T : Type 0} {G : Ghosts T} {N : ℕ} where
   -- the items in the cache, the oldest first
@@ -19,9 +19,6 @@ module _ {T : Type 0} {G : Ghosts T} {N : ℕ} where
   abbrev pub ring_of : Local T N G → ℕ
   ring_of l = l.ring
 
-  abbrev pub hand_of : Local T N G → Option (Hand T G)
-  hand_of l = l.hand
-
   -- the view of its hand
   abbrev pub view_of : Local T N G → View T
   view_of l = view_in l.hand
@@ -29,6 +26,14 @@ module _ {T : Type 0} {G : Ghosts T} {N : ℕ} where
   -- its hand comes from this fabric
   abbrev pub IsLocalOf : Fabric T N → Local T N G → Type 0
   IsLocalOf f l = IsIn f l.hand
+
+  -- its hand is this one
+  abbrev pub HasHand : Hand T G → Local T N G → Type 0
+  HasHand h l = IsHandIn h l.hand
+
+  -- the same hand still: it comes from the same fabric, and its view is the same
+  abbrev pub HasSameHand : Local T N G → Local T N G → Type 0
+  HasSameHand l m = IsSameIn l.hand m.hand
 
   -- the same ring and size
   abbrev pub SameRing : Local T N G → Local T N G → Type 0

@@ -1,35 +1,19 @@
-//! Gets, puts and flushes that are lent a list.
+//! Gets, puts and flushes that are lent a list, through the cache to the ring.
 ghost use Rattle.std.specs.Prelude.{◌≡◌, ◌+◌, ◌<◌, ◌≤◌, ◌++◌, [], length, IfOk, IfErr};
-ghost use Rattle.ringcore_laws.specs.Moves.{Owns};
 ghost use Rattle.fabric.specs.Hands.{OnRing};
-ghost use Rattle.pool.specs.Calls.{FlushTells, GetTells, GetsCached, PutTells};
+ghost use Rattle.fabric.specs.Settles.{AreOwnBuffers};
+ghost use Rattle.pool.specs.Calls.{FlushTells, GetTells, PutTells};
 ghost use Rattle.pool.specs.Locals.{IsLocalOf, SameRing, cache_of, ring_of, view_of};
 
-use crate::asks::{empty, fetch, store};
+use crate::asks::{empty, fetch};
 use crate::faults::PoolFault;
+use crate::keeping::{admit, keep_back, shed};
 use crate::local::Local;
-use crate::moves::pour;
 use burst::{Burst, Tagged};
 use fabric::Fabric;
 use std::sync::Wait;
 
 impl<T: Tagged, const N: usize> Local<T, N> {
-    /// Gets `n` items from the cache alone, the newest first, into an empty list. Refused as `Short` where it has
-    /// fewer; nothing moves then. No step on a word, no memory, no waiting.
-    pub fn get_cached_into(&mut self, n: usize, into: &mut Burst<T, N>) -> Result<(), PoolFault>
-        requires few { n ≤ 64 }
-        requires empty { into.old ≡ [] }
-        ensures same { SameRing self.old self.new × (view_of self.new ≡ view_of self.old) }
-        ensures told { GetsCached n (cache_of self.old) result into.new (cache_of self.new) }
-    {
-        let cached = self.cache.len();
-        if cached < n {
-            return Err(PoolFault::Short);
-        }
-        pour(&mut self.cache, cached - n, into);
-        Ok(())
-    }
-
     /// Gets `n` items into an empty list, 1 to 64: the newest of the cache, the newest first. Where it has too few, all
     /// of them, and behind them the first that one bulk take of the missing and `size` more gave; the others of these
     /// are the cache then, in the ring's order. Where that take is refused, one of the missing alone.
@@ -51,23 +35,22 @@ impl<T: Tagged, const N: usize> Local<T, N> {
         ensures same { SameRing self.old self.new }
         ensures told { OnRing f.now (ring_of self.old)
             (λ plan. GetTells T.numbers plan self.old self.new n result into.new) }
-        ensures own { IfOk result (λ _. Owns T.numbers (view_of self.new).party (into.new ++ cache_of self.new)) }
+        ensures own { IfOk result (λ _. AreOwnBuffers T.numbers (view_of self.new) (into.new ++ cache_of self.new)) }
     {
-        let cached = self.cache.len();
-        if n <= cached {
-            pour(&mut self.cache, cached - n, into);
-            return Ok(());
+        if n <= self.cache.len() {
+            return self.get_cached_into(n, into);
         }
-        let Some(hand) = self.hand.take() else {
+        let Some(keeper) = self.hand.take() else {
             unreachable!();
         };
+        let hand = keeper.whole(&self.cache);
         match fetch(rt, f, hand, self.ring, self.size, &mut self.cache, n, into) {
             Ok(hand) => {
-                self.hand = Some(hand);
+                self.hand = Some(keep_back(hand, &self.cache));
                 Ok(())
             }
             Err((hand, fault)) => {
-                self.hand = Some(hand);
+                self.hand = Some(keep_back(hand, &self.cache));
                 Err(fault)
             }
         }
@@ -92,42 +75,62 @@ impl<T: Tagged, const N: usize> Local<T, N> {
         ensures told { OnRing f.now (ring_of self.old)
             (λ plan. PutTells T.numbers plan self.old self.new list.old result list.new) }
     {
-        let Some(hand) = self.hand.take() else {
+        let before = self.cache.len();
+        let may = match &mut self.hand {
+            Some(keeper) => admit(keeper, &mut self.cache, list),
+            None => unreachable!(),
+        };
+        if !may {
+            return Err(PoolFault::NotYours);
+        }
+        if self.cache.len() <= 3 * self.size / 2 {
+            return Ok(());
+        }
+        let Some(keeper) = self.hand.take() else {
             unreachable!();
         };
-        match store(rt, f, hand, self.ring, self.size, &mut self.cache, list) {
-            Ok(hand) => {
-                self.hand = Some(hand);
+        match shed(
+            rt,
+            f,
+            keeper,
+            self.ring,
+            self.size,
+            before,
+            &mut self.cache,
+            list,
+        ) {
+            Ok(keeper) => {
+                self.hand = Some(keeper);
                 Ok(())
             }
-            Err((hand, fault)) => {
-                self.hand = Some(hand);
-                Err(fault)
+            Err(keeper) => {
+                self.hand = Some(keeper);
+                Err(PoolFault::Worn)
             }
         }
     }
 
     /// Puts all of the cache on the ring in one bulk put, the oldest first, where it isn't empty.
     ///
-    /// Refused: `NotYours`, where an item of the cache doesn't carry exactly one buffer; `Worn`. The cache stays as it
-    /// is then. No memory; it waits while the ring is busy.
+    /// Refused: `Worn`. The cache stays as it is then. No memory; it waits while the ring is busy.
     pub fn flush<R: Wait>(&mut self, rt: &R, f: &Fabric<T, N>) -> Result<(), PoolFault>
         requires local { IsLocalOf f.now self.old }
         ensures local { IsLocalOf f.now self.new }
         ensures same { SameRing self.old self.new }
         ensures told { OnRing f.now (ring_of self.old) (λ plan. FlushTells T.numbers plan self.old self.new result) }
     {
-        let Some(hand) = self.hand.take() else {
+        let Some(keeper) = self.hand.take() else {
             unreachable!();
         };
+        let hand = keeper.whole(&self.cache);
         match empty(rt, f, hand, self.ring, &mut self.cache) {
             Ok(hand) => {
-                self.hand = Some(hand);
+                self.hand = Some(keep_back(hand, &self.cache));
                 Ok(())
             }
-            Err((hand, fault)) => {
-                self.hand = Some(hand);
-                Err(fault)
+            Err(hand) => {
+                self.hand = Some(keep_back(hand, &self.cache));
+                Err(PoolFault::Worn)
             }
         }
     }

@@ -3,11 +3,14 @@
 #![tactic(auto)]
 
 mod asks;
+mod cached;
 mod faults;
+mod keeping;
 mod lent;
 mod local;
 mod moves;
 mod opening;
+mod values;
 
 pub use faults::PoolFault;
 pub use local::Local;

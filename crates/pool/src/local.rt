@@ -1,12 +1,12 @@
 //! A thread's way to a pool: its hand, the free ring, and its cache.
 ghost use Rattle.std.specs.Prelude.{◌≡◌, ◌≤◌, ◌+◌, length, true};
 ghost use Rattle.std.specs.Option.{is_some};
-ghost use Rattle.ringcore_laws.specs.Moves.{Owns};
+ghost use Rattle.ringcore_laws.specs.FreeRings.{AreSingle};
 ghost use Rattle.pool.specs.Caches.{threshold};
-ghost use Rattle.pool.specs.Hands.{IsFreeRing, view_in};
+ghost use Rattle.pool.specs.Hands.{IsFreeRing, KeepsIn, view_in};
 
 use burst::{Burst, Tagged};
-use fabric::Hand;
+use fabric::Keeper;
 
 /// The largest size of a cache.
 pub(crate) const LARGEST: usize = 512;
@@ -14,13 +14,13 @@ pub(crate) const LARGEST: usize = 512;
 /// The most items that one call gets or puts.
 pub(crate) const BATCH: usize = 64;
 
-/// A hand with a cache of buffers of a free ring: a stack, its newest last. The buffers in it are the hand's own and
-/// distinct, so none of them is on a ring or at another hand.
+/// A hand with a cache of buffers of a free ring: a stack, its newest last. Each item in it carries one buffer, which
+/// is the hand's own and kept back by it, and none stands twice: so none of them is on a ring or at another hand.
 ///
 /// The hand is in a place of its own since calls on rings take it whole; between calls it is always there.
 #[derive(Drop)]
 pub struct Local<T: Tagged, const N: usize> {
-    pub(crate) hand: Option<Hand<T>>,
+    pub(crate) hand: Option<Keeper<T>>,
     pub(crate) ring: usize,
     pub(crate) size: usize,
     pub(crate) cache: Burst<T, N>,
@@ -29,5 +29,6 @@ pub struct Local<T: Tagged, const N: usize> {
     pub ghost small: { size ≤ 512 },
     pub ghost room: { threshold size + 64 ≤ N },
     pub ghost within: { length cache ≤ threshold size },
-    pub ghost own: { Owns T.numbers (view_in hand).party cache },
+    pub ghost kept: { KeepsIn T.numbers hand cache },
+    pub ghost single: { AreSingle T.numbers cache },
 }

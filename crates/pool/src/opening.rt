@@ -1,10 +1,10 @@
 //! How a cache begins, and how its hand and its items come back.
 ghost use Rattle.std.specs.Prelude.{◌≡◌, ◌+◌, ◌<◌, ◌≤◌, ◌⊎◌, [], IfOk, IfErr, true, false};
-ghost use Rattle.fabric.specs.Hands.{view};
+ghost use Rattle.fabric.specs.Hands.{SameHand, view};
 ghost use Rattle.pool.specs.Caches.{threshold};
+ghost use Rattle.pool.specs.Calls.{RefusesCache};
 ghost use Rattle.pool.specs.Hands.{IsFreeRing};
-ghost use Rattle.pool.specs.Locals.{cache_of, hand_of, ring_of, size_of};
-ghost use Rattle.std.specs.Prelude.{Some};
+ghost use Rattle.pool.specs.Locals.{HasHand, cache_of, ring_of, size_of};
 ghost use Rattle.pool.specs.declared.faults.PoolFault.TheVariants.{BadSize};
 
 use crate::faults::PoolFault;
@@ -30,7 +30,7 @@ impl<T: Tagged, const N: usize> Local<T, N> {
     /// back.
     pub fn new(hand: Hand<T>, ring: usize, size: usize) -> Result<Local<T, N>, (Hand<T>, PoolFault)>
         requires free { IsFreeRing (view hand).plans ring }
-        ensures made { IfOk result (λ l. (hand_of l ≡ Some hand) × (ring_of l ≡ ring) × (size_of l ≡ size)) }
+        ensures made { IfOk result (λ l. HasHand hand l × (ring_of l ≡ ring) × (size_of l ≡ size)) }
         ensures empty { IfOk result (λ l. cache_of l ≡ []) }
         ensures fits { IfOk result (λ l. (size ≤ 512) × (threshold size + 64 ≤ N)) }
         ensures refused { IfErr result (λ e. (e.0 ≡ hand) × (e.1 ≡ BadSize)) }
@@ -40,21 +40,57 @@ impl<T: Tagged, const N: usize> Local<T, N> {
             return Err((hand, PoolFault::BadSize));
         }
         Ok(Local {
-            hand: Some(hand),
+            hand: Some(hand.keeper()),
             ring,
             size,
             cache: Burst::new(),
         })
     }
 
+    /// A cache of this size that has these items, the oldest first, as `into_hand` gave them. Asked: as of `new`.
+    ///
+    /// Refused, in the order of the tests: `BadSize`, as of `new`; `NotYours`; `CacheFull` where there are more than
+    /// `floor(3 * size / 2)`. The hand and the items come back. No step on a word, no memory.
+    pub fn resume(
+        hand: Hand<T>,
+        items: Burst<T, N>,
+        ring: usize,
+        size: usize,
+    ) -> Result<Local<T, N>, (Hand<T>, Burst<T, N>, PoolFault)>
+        requires free { IsFreeRing (view hand).plans ring }
+        ensures made { IfOk result (λ l. HasHand hand l × (ring_of l ≡ ring) × (size_of l ≡ size)) }
+        ensures cached { IfOk result (λ l. cache_of l ≡ items) }
+        ensures fits { IfOk result (λ l. (size ≤ 512) × (threshold size + 64 ≤ N)) }
+        ensures back { IfErr result (λ e. SameHand hand e.0 × (e.1 ≡ items)) }
+        ensures refused { IfErr result (λ e. RefusesCache T.numbers (view hand) size N items e.2) }
+    {
+        if !may_be(size, N) {
+            return Err((hand, items, PoolFault::BadSize));
+        }
+        let mut keeper = hand.keeper();
+        if !keeper.keep(&items) {
+            let none: Burst<T, N> = Burst::new();
+            return Err((keeper.whole(&none), items, PoolFault::NotYours));
+        }
+        if items.len() > 3 * size / 2 {
+            return Err((keeper.whole(&items), items, PoolFault::CacheFull));
+        }
+        Ok(Local {
+            hand: Some(keeper),
+            ring,
+            size,
+            cache: items,
+        })
+    }
+
     /// The hand, and the items of the cache, the oldest first.
     pub fn into_hand(self) -> (Hand<T>, Burst<T, N>)
-        ensures hand { hand_of self ≡ Some result.0 }
+        ensures hand { HasHand result.0 self }
         ensures cache { cache_of self ≡ result.1 }
     {
         let Local { hand, cache, .. } = self;
         match hand {
-            Some(hand) => (hand, cache),
+            Some(keeper) => (keeper.whole(&cache), cache),
             None => unreachable!(),
         }
     }

@@ -1,9 +1,11 @@
-use Rattle.std.proofs.Common.{◌≡◌, ◌+◌, ◌-◌, Ok, Err, length, ap, refl, subst, ◌∙◌, arith}
+use Rattle.std.proofs.Common.{◌≡◌, ◌+◌, ◌-◌, ◌++◌, Ok, Err, length, ap, refl, sym, subst, ◌∙◌, arith}
+use Rattle.ringcore_laws.specs.FreeRings.{AreSingle}
 use Rattle.ringcore_laws.specs.Sound.{occurrences_in}
 use Rattle.fabric.specs.Hands.{view}
 use Rattle.pool.specs.Asks.{Refills}
 use Rattle.pool.specs.Caches.{cached_after_get, taken_by_get}
 use Rattle.pool.proofs.Counts.{count_both, count_get}
+use Rattle.pool.proofs.Singles.{single_get}
 use Rattle.pool.proofs.asks.fetch.Goals as goal
 
 pub returns-in-Ok-clause-told : goal.returns-in-Ok-clause-told
@@ -18,16 +20,20 @@ returns-in-Ok-clause-told g c plan there =
     )
 
 pub returns-in-Ok-clause-own : goal.returns-in-Ok-clause-own
-returns-in-Ok-clause-own g c own b =
+returns-in-Ok-clause-own g c own =
     let tags = g.T.Tagged.numbers in
-    omega (
-      arith,
-      count_both tags b c.deal.new.into c.deal.new.cache,
-      count_get tags b (length c.args.cache.now + (c.args.n - c.len.result)) c.args.cache.now c.refill.new.into,
-      ap (λ l. occurrences_in tags b l) c.deal.ensures.answer,
-      ap (λ l. occurrences_in tags b l) c.deal.ensures.cached,
-      c.in-Ok.ensures.more b,
-      own b,
+    let n = length c.args.cache.now + (c.args.n - c.len.result) in
+    let all : c.deal.new.into ++ c.deal.new.cache ≡ taken_by_get n c.args.cache.now c.refill.new.into ++ cached_after_get n c.args.cache.now c.refill.new.into =
+    λ i. c.deal.ensures.answer i ++ c.deal.ensures.cached i in (
+      (λ b. omega (
+        arith,
+        ap (λ l. occurrences_in tags b l) all,
+        count_both tags b (taken_by_get n c.args.cache.now c.refill.new.into) (cached_after_get n c.args.cache.now c.refill.new.into),
+        count_get tags b n c.args.cache.now c.refill.new.into,
+        c.in-Ok.ensures.more b,
+        own.0 b,
+      )),
+      subst (AreSingle tags) (sym all) (single_get tags n c.args.cache.now c.refill.new.into own.1 c.in-Ok.ensures.single),
     )
 
 pub returns-clause-told : goal.returns-clause-told

@@ -1,6 +1,6 @@
 use Rattle.fabric.proofs.Told.{ring_at}
 use Rattle.fabric.specs.Hands.{rings_of, view}
-use Rattle.pool.proofs.Asking.{kept_party, put_all, put_holds, put_none}
+use Rattle.pool.proofs.Asking.{kept_party, own_yours, put_all, put_holds, put_none}
 use Rattle.pool.proofs.Few.{own_few}
 use Rattle.pool.proofs.asks.place.Goals as goal
 
@@ -20,8 +20,8 @@ returns-in-Refused-clause-told g c plan there =
     let tags = g.T.Tagged.numbers in
     let v = view c.args.hand in
     let free = c.requires.free.1 plan there in
-    let yours = c.requires.yours plan there in
-    let few = own_few tags v.pool v.party c.args.list.now c.args.hand.share.well yours.owned (yours.single free) in
+    let yours = own_yours tags plan v c.args.list.now c.requires.own in
+    let few = own_few tags v.pool v.party c.args.list.now c.args.hand.share.well c.requires.own.0 c.requires.own.1 in
     (put_none tags g.row.N c.args.ring plan v c.in-Refused.hand c.in-Refused.field-1 c.args.list.now c.put_bulk_from.new.list yours free few
     c.requires.some c.requires.room c.in-Refused.ensures.finished (c.in-Refused.ensures.told plan there)).1
 
@@ -31,8 +31,8 @@ returns-in-Refused-clause-back g c =
     let tags = g.T.Tagged.numbers in
     let v = view c.args.hand in
     let free = c.requires.free.1 known.0 known.1 in
-    let yours = c.requires.yours known.0 known.1 in
-    let few = own_few tags v.pool v.party c.args.list.now c.args.hand.share.well yours.owned (yours.single free) in
+    let yours = own_yours tags known.0 v c.args.list.now c.requires.own in
+    let few = own_few tags v.pool v.party c.args.list.now c.args.hand.share.well c.requires.own.0 c.requires.own.1 in
     (put_none tags g.row.N c.args.ring known.0 v c.in-Refused.hand c.in-Refused.field-1 c.args.list.now c.put_bulk_from.new.list yours free few
     c.requires.some c.requires.room c.in-Refused.ensures.finished (c.in-Refused.ensures.told known.0 known.1)).0
 

@@ -1,12 +1,8 @@
 use Rattle.std.proofs.Common.{◌≡◌, Ok, Err, length, drop, ap, sym, subst, rules, arith}
 use Rattle.std.proofs.lemmas.List.{length-take}
 use Rattle.fabric.specs.Hands.{view}
-use Rattle.fabric.specs.Settles.{AreYours}
-use Rattle.ringapi.proofs.Yours.{first_yours}
-use Rattle.fabric.proofs.Told.{ring_at}
-use Rattle.fabric.specs.Hands.{rings_of}
-use Rattle.ringcore_laws.specs.Moves.{Owns}
-use Rattle.pool.proofs.Asking.{left_own}
+use Rattle.fabric.specs.Settles.{AreOwnBuffers}
+use Rattle.pool.proofs.Asking.{first_own, left_own}
 use Rattle.pool.specs.Asks.{HasLess, Spills}
 use Rattle.pool.proofs.asks.spill.Goals as goal
 
@@ -23,8 +19,8 @@ place-requires g c =
           (
             c.requires.free,
             (
-              (λ plan there. subst (AreYours tags plan (view c.args.hand)) (sym c.part.ensures.left)
-                  (first_yours tags plan (view c.args.hand) all c.args.spare (c.requires.yours plan there))),
+              subst (AreOwnBuffers tags (view c.args.hand)) (sym c.part.ensures.left)
+                  (first_own tags (view c.args.hand) all c.args.spare c.requires.own),
               (
                 omega (arith, ap length c.part.ensures.left, few, c.requires.some, c.requires.few),
                 omega (arith, ap length c.part.ensures.left, few, c.requires.room),
@@ -45,9 +41,8 @@ returns-clause-told g c plan there =
 
 pub returns-in-Ok-clause-own : goal.returns-in-Ok-clause-own
 returns-in-Ok-clause-own g c =
-    let known = ring_at (rings_of c.args.f.now) c.args.ring c.requires.free.0 in
     let tags = g.T.Tagged.numbers in
     let h = c.in-Ok.hand in
     let left : c.append.new.to ≡ drop c.args.spare c.args.cache.now = search rules in
-    subst (Owns tags (view h).party) (sym left) (left_own tags known.0 (view c.args.hand) (view h) c.args.cache.now c.args.spare
-    (c.requires.yours known.0 known.1) (subst (λ l. HasLess tags (view c.args.hand).party l (view h).party) c.part.ensures.left c.in-Ok.ensures.less))
+    subst (AreOwnBuffers tags (view h)) (sym left) (left_own tags (view c.args.hand) (view h) c.args.cache.now c.args.spare
+    c.requires.own (subst (λ l. HasLess tags (view c.args.hand).party l (view h).party) c.part.ensures.left c.in-Ok.ensures.less))

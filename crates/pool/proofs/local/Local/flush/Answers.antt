@@ -1,44 +1,101 @@
 use Rattle.std.proofs.Common.{◌≡◌, Some, Ok, Err, refl, sym, ap, subst, rules, arith, length}
-use Rattle.ringcore_laws.specs.Moves.{Owns}
-use Rattle.fabric.specs.Hands.{IsHandOf, view}
+use Rattle.ringcore_laws.specs.FreeRings.{AreSingle}
+use Rattle.fabric.specs.Hands.{view}
+use Rattle.pool.proofs.Kept.{same_own}
+use Rattle.pool.proofs.Wholes.{free_at, free_of, hand_from, hand_own, keeper_from, mine_of, view_at}
 use Rattle.pool.specs.Asks.{Flushes}
-use Rattle.pool.specs.Hands.{IsFreeRing, IsIn, view_in}
-use Rattle.pool.proofs.Kept.{free_kept, same_own}
 use Rattle.pool.proofs.local.Local.flush.Goals as goal
+
+pub empty-requires : goal.empty-requires
+empty-requires g c =
+    let tags = g.T.Tagged.numbers in
+    let f = c.args.f.now in
+    let l = c.args.self.now in
+    let k = c.in-Some.keeper in
+    let h = c.whole-hand.result in
+    let was : l.hand ≡ Some k = search rules in (
+      search rules,
+      (
+        search rules,
+        (
+          hand_from f h k c.whole-hand.ensures (mine_of f l.hand k was c.requires.local),
+          (
+            free_of f l.hand k l.ring was c.requires.local l.free,
+            (hand_own tags l.hand k h l.cache was c.whole-hand.ensures l.kept l.single, search rules),
+          ),
+        ),
+      ),
+    )
+
+pub invariant_of-self : goal.invariant_of-self
+invariant_of-self g c =
+    let tags = g.T.Tagged.numbers in
+    let f = c.args.f.now in
+    let l = c.args.self.now in
+    let k = c.in-Some.keeper in
+    let was : l.hand ≡ Some k = search rules in
+    let back = c.keep_back in
+    record {
+      here = refl;
+      free = free_at f back.result l.ring (keeper_from f c.in-Ok.hand back.result back.ensures.seat c.in-Ok.ensures.kept.0) (free_of f l.hand k l.ring was c.requires.local l.free);
+      small = l.small;
+      room = l.room;
+      within = omega (arith, ap length c.in-Ok.ensures.kept.1);
+      kept = back.ensures.kept;
+      single = subst (AreSingle tags) (sym c.in-Ok.ensures.kept.1) refl;
+    }
+
+pub keep_back-requires-in-Err : goal.keep_back-requires-in-Err
+keep_back-requires-in-Err g c =
+    let tags = g.T.Tagged.numbers in
+    let l = c.args.self.now in
+    let k = c.in-Some.keeper in
+    let h = c.whole-hand.result in
+    let was : l.hand ≡ Some k = search rules in (
+      search rules,
+      same_own tags (view h) (view c.in-Err.hand) l.cache c.empty.new.cache c.in-Err.ensures.party c.in-Err.ensures.same.1
+          (hand_own tags l.hand k h l.cache was c.whole-hand.ensures l.kept l.single),
+    )
 
 pub invariant_of-self-in-Err : goal.invariant_of-self-in-Err
 invariant_of-self-in-Err g c =
+    let tags = g.T.Tagged.numbers in
+    let f = c.args.f.now in
     let l = c.args.self.now in
-    let was : l.hand ≡ Some c.in-Some.hand = search rules in
-    let mine : IsHandOf c.args.f.now c.in-Some.hand = subst (IsIn c.args.f.now) was c.requires.local in
-    let free : IsFreeRing (view c.in-Some.hand).plans l.ring = subst (λ o. IsFreeRing (view_in o).plans l.ring) was l.free in
-    let own : Owns g.T.Tagged.numbers (view c.in-Some.hand).party l.cache = subst (λ o. Owns g.T.Tagged.numbers (view_in o).party l.cache) was l.own in
-    let same = c.in-Err.ensures.same in
+    let k = c.in-Some.keeper in
+    let was : l.hand ≡ Some k = search rules in
+    let back = c.keep_back-in-Err in
     record {
       here = refl;
-      free = free_kept _ _ _ l.ring mine.1 same.0.1 free;
+      free = free_at f back.result l.ring (keeper_from f c.in-Err.hand back.result back.ensures.seat c.in-Err.ensures.same.0) (free_of f l.hand k l.ring was c.requires.local l.free);
       small = l.small;
       room = l.room;
-      within = omega (arith, ap length same.1, l.within);
-      own = same_own g.T.Tagged.numbers _ _ l.cache c.empty.new.cache c.in-Err.ensures.party same.1 own;
+      within = omega (arith, ap length c.in-Err.ensures.same.1, l.within);
+      kept = back.ensures.kept;
+      single = subst (AreSingle tags) (sym c.in-Err.ensures.same.1) l.single;
     }
 
 pub returns-in-Ok-clause-told : goal.returns-in-Ok-clause-told
 returns-in-Ok-clause-told g c plan there =
+    let tags = g.T.Tagged.numbers in
     let l = c.args.self.now in
-    let was : l.hand ≡ Some c.in-Some.hand = search rules in (
-      Ok c.in-Ok.hand,
-      subst (λ o. Flushes g.T.Tagged.numbers g.row.N l.ring plan (view_in o) l.cache (Ok c.in-Ok.hand) c.empty.new.cache) (sym was)
+    let k = c.in-Some.keeper in
+    let was : l.hand ≡ Some k = search rules in (
+      c.in-Ok.hand,
+      subst (λ v. Flushes tags g.row.N l.ring plan v l.cache (Ok c.in-Ok.hand) c.empty.new.cache) (view_at tags l.hand k c.whole-hand.result was c.whole-hand.ensures)
           (c.in-Ok.ensures.told plan there),
-      refl,
+      ap (λ s. s.me.0) c.keep_back.ensures.seat,
     )
 
 pub returns-in-Err-clause-told : goal.returns-in-Err-clause-told
 returns-in-Err-clause-told g c plan there =
+    let tags = g.T.Tagged.numbers in
     let l = c.args.self.now in
-    let was : l.hand ≡ Some c.in-Some.hand = search rules in (
-      Err (c.in-Err.hand, c.in-Err.fault),
-      subst (λ o. Flushes g.T.Tagged.numbers g.row.N l.ring plan (view_in o) l.cache (Err (c.in-Err.hand, c.in-Err.fault)) c.empty.new.cache)
-          (sym was) (c.in-Err.ensures.told plan there),
-      (refl, refl),
+    let k = c.in-Some.keeper in
+    let was : l.hand ≡ Some k = search rules in (
+      refl,
+      c.in-Err.hand,
+      subst (λ v. Flushes tags g.row.N l.ring plan v l.cache (Err c.in-Err.hand) c.empty.new.cache) (view_at tags l.hand k c.whole-hand.result was c.whole-hand.ensures)
+          (c.in-Err.ensures.told plan there),
+      ap (λ s. s.me.0) c.keep_back-in-Err.ensures.seat,
     )

@@ -1,78 +1,123 @@
 use Rattle.std.proofs.Common.{◌≡◌, ◌<◌, Some, Ok, Err, inr, refl, sym, ap, subst, rules, arith, length}
-use Rattle.ringcore_laws.specs.Moves.{Owns}
-use Rattle.fabric.specs.Hands.{IsHandOf, view}
+use Rattle.ringcore_laws.specs.FreeRings.{AreSingle}
+use Rattle.fabric.specs.Hands.{view}
+use Rattle.pool.proofs.Kept.{later_own, same_own}
+use Rattle.pool.proofs.Wholes.{free_at, free_of, hand_from, hand_own, keeper_from, mine_of, view_at}
 use Rattle.pool.specs.Asks.{Fetches}
-use Rattle.pool.specs.Hands.{IsFreeRing, IsIn, view_in}
-use Rattle.pool.proofs.Kept.{free_kept, hit_own, later_own, same_own}
 use Rattle.pool.proofs.local.Local.get_into.Goals as goal
 
-pub returns-then-n-cached-clause-own : goal.returns-then-n-cached-clause-own
-returns-then-n-cached-clause-own g c =
-    hit_own g.T.Tagged.numbers (view_in c.args.self.now.hand).party _ c.args.self.now.cache c.args.into.now c.pour.new.to c.pour.new.from c.requires.empty
-    c.pour.ensures.moved c.pour.ensures.left c.args.self.now.own
-
-pub invariant_of-self-in-Ok : goal.invariant_of-self-in-Ok
-invariant_of-self-in-Ok g c =
+pub fetch-requires : goal.fetch-requires
+fetch-requires g c =
+    let f = c.args.f.now in
     let l = c.args.self.now in
-    let was : l.hand ≡ Some c.in-Some.hand = search rules in
-    let mine : IsHandOf c.args.f.now c.in-Some.hand = subst (IsIn c.args.f.now) was c.requires.local in
-    let free : IsFreeRing (view c.in-Some.hand).plans l.ring = subst (λ o. IsFreeRing (view_in o).plans l.ring) was l.free in
-    let own : Owns g.T.Tagged.numbers (view c.in-Some.hand).party l.cache = subst (λ o. Owns g.T.Tagged.numbers (view_in o).party l.cache) was l.own in
+    let k = c.in-Some.keeper in
+    let h = c.whole-hand.result in
+    let was : l.hand ≡ Some k = search rules in (
+      search rules,
+      (
+        search rules,
+        (
+          hand_from f h k c.whole-hand.ensures (mine_of f l.hand k was c.requires.local),
+          (free_of f l.hand k l.ring was c.requires.local l.free, (search rules, (search rules, c.requires.empty))),
+        ),
+      ),
+    )
+
+pub keep_back-requires : goal.keep_back-requires
+keep_back-requires g c =
+    let tags = g.T.Tagged.numbers in
+    let l = c.args.self.now in
+    let k = c.in-Some.keeper in
+    let h = c.whole-hand.result in
+    let was : l.hand ≡ Some k = search rules in (
+      search rules,
+      later_own tags (view c.in-Ok.hand) c.fetch.new.into c.fetch.new.cache
+          (c.in-Ok.ensures.own (hand_own tags l.hand k h l.cache was c.whole-hand.ensures l.kept l.single)),
+    )
+
+pub keep_back-requires-in-Err : goal.keep_back-requires-in-Err
+keep_back-requires-in-Err g c =
+    let tags = g.T.Tagged.numbers in
+    let l = c.args.self.now in
+    let k = c.in-Some.keeper in
+    let h = c.whole-hand.result in
+    let was : l.hand ≡ Some k = search rules in (
+      search rules,
+      same_own tags (view h) (view c.in-Err.hand) l.cache c.fetch.new.cache c.in-Err.ensures.party c.in-Err.ensures.same.1
+          (hand_own tags l.hand k h l.cache was c.whole-hand.ensures l.kept l.single),
+    )
+
+pub invariant_of-self : goal.invariant_of-self
+invariant_of-self g c =
+    let tags = g.T.Tagged.numbers in
+    let f = c.args.f.now in
+    let l = c.args.self.now in
+    let k = c.in-Some.keeper in
+    let was : l.hand ≡ Some k = search rules in
+    let back = c.keep_back in
     record {
       here = refl;
-      free = free_kept _ _ _ l.ring mine.1 c.in-Ok.ensures.kept.1 free;
+      free = free_at f back.result l.ring (keeper_from f c.in-Ok.hand back.result back.ensures.seat c.in-Ok.ensures.kept) (free_of f l.hand k l.ring was c.requires.local l.free);
       small = l.small;
       room = l.room;
       within = omega (arith, c.in-Ok.ensures.within);
-      own = later_own g.T.Tagged.numbers _ c.fetch.new.into c.fetch.new.cache (c.in-Ok.ensures.own own);
+      kept = back.ensures.kept;
+      single = (later_own tags (view c.in-Ok.hand) c.fetch.new.into c.fetch.new.cache (c.in-Ok.ensures.own (hand_own tags l.hand k c.whole-hand.result l.cache was c.whole-hand.ensures l.kept l.single))).1;
     }
 
 pub invariant_of-self-in-Err : goal.invariant_of-self-in-Err
 invariant_of-self-in-Err g c =
+    let tags = g.T.Tagged.numbers in
+    let f = c.args.f.now in
     let l = c.args.self.now in
-    let was : l.hand ≡ Some c.in-Some.hand = search rules in
-    let mine : IsHandOf c.args.f.now c.in-Some.hand = subst (IsIn c.args.f.now) was c.requires.local in
-    let free : IsFreeRing (view c.in-Some.hand).plans l.ring = subst (λ o. IsFreeRing (view_in o).plans l.ring) was l.free in
-    let own : Owns g.T.Tagged.numbers (view c.in-Some.hand).party l.cache = subst (λ o. Owns g.T.Tagged.numbers (view_in o).party l.cache) was l.own in
-    let same = c.in-Err.ensures.same in
+    let k = c.in-Some.keeper in
+    let was : l.hand ≡ Some k = search rules in
+    let back = c.keep_back-in-Err in
     record {
       here = refl;
-      free = free_kept _ _ _ l.ring mine.1 same.0.1 free;
+      free = free_at f back.result l.ring (keeper_from f c.in-Err.hand back.result back.ensures.seat c.in-Err.ensures.same.0) (free_of f l.hand k l.ring was c.requires.local l.free);
       small = l.small;
       room = l.room;
-      within = omega (arith, ap length same.1, l.within);
-      own = same_own g.T.Tagged.numbers _ _ l.cache c.fetch.new.cache c.in-Err.ensures.party same.1 own;
+      within = omega (arith, ap length c.in-Err.ensures.same.1, l.within);
+      kept = back.ensures.kept;
+      single = subst (AreSingle tags) (sym c.in-Err.ensures.same.1) l.single;
     }
 
 pub returns-in-Ok-clause-told : goal.returns-in-Ok-clause-told
 returns-in-Ok-clause-told g c plan there =
+    let tags = g.T.Tagged.numbers in
     let l = c.args.self.now in
-    let was : l.hand ≡ Some c.in-Some.hand = search rules in
+    let k = c.in-Some.keeper in
+    let was : l.hand ≡ Some k = search rules in
     let short : length l.cache < c.args.n = search rules in
     inr (
       short,
       Ok c.in-Ok.hand,
-      subst (λ o. Fetches g.T.Tagged.numbers g.row.N l.ring plan l.size (view_in o) c.args.n l.cache (Ok c.in-Ok.hand) c.fetch.new.into c.fetch.new.cache) (sym was)
-          (c.in-Ok.ensures.told plan there),
-      refl,
+      subst (λ v. Fetches tags g.row.N l.ring plan l.size v c.args.n l.cache (Ok c.in-Ok.hand) c.fetch.new.into c.fetch.new.cache)
+          (view_at tags l.hand k c.whole-hand.result was c.whole-hand.ensures) (c.in-Ok.ensures.told plan there),
+      ap (λ s. s.me.0) c.keep_back.ensures.seat,
     )
 
 pub returns-in-Ok-clause-own : goal.returns-in-Ok-clause-own
 returns-in-Ok-clause-own g c =
+    let tags = g.T.Tagged.numbers in
     let l = c.args.self.now in
-    let was : l.hand ≡ Some c.in-Some.hand = search rules in
-    let own : Owns g.T.Tagged.numbers (view c.in-Some.hand).party l.cache = subst (λ o. Owns g.T.Tagged.numbers (view_in o).party l.cache) was l.own in
-    c.in-Ok.ensures.own own
+    let k = c.in-Some.keeper in
+    let was : l.hand ≡ Some k = search rules in
+    same_own tags (view c.in-Ok.hand) c.keep_back.result.seat.me.0 _ _ (ap (λ s. s.me.0.party) c.keep_back.ensures.seat) refl
+    (c.in-Ok.ensures.own (hand_own tags l.hand k c.whole-hand.result l.cache was c.whole-hand.ensures l.kept l.single))
 
 pub returns-in-Err-clause-told : goal.returns-in-Err-clause-told
 returns-in-Err-clause-told g c plan there =
+    let tags = g.T.Tagged.numbers in
     let l = c.args.self.now in
-    let was : l.hand ≡ Some c.in-Some.hand = search rules in
+    let k = c.in-Some.keeper in
+    let was : l.hand ≡ Some k = search rules in
     let short : length l.cache < c.args.n = search rules in
     inr (
       short,
       Err (c.in-Err.hand, c.in-Err.fault),
-      subst (λ o. Fetches g.T.Tagged.numbers g.row.N l.ring plan l.size (view_in o) c.args.n l.cache (Err (c.in-Err.hand, c.in-Err.fault)) c.fetch.new.into c.fetch.new.cache)
-          (sym was) (c.in-Err.ensures.told plan there),
-      (refl, refl),
+      subst (λ v. Fetches tags g.row.N l.ring plan l.size v c.args.n l.cache (Err (c.in-Err.hand, c.in-Err.fault)) c.fetch.new.into c.fetch.new.cache)
+          (view_at tags l.hand k c.whole-hand.result was c.whole-hand.ensures) (c.in-Err.ensures.told plan there),
+      (refl, ap (λ s. s.me.0) c.keep_back-in-Err.ensures.seat),
     )

@@ -1,0 +1,56 @@
+//! Gets and puts of the cache alone, which are lent a list. They touch no ring.
+ghost use Rattle.std.specs.Prelude.{◌≡◌, ◌++◌, [], IfOk};
+ghost use Rattle.fabric.specs.Settles.{AreOwnBuffers};
+ghost use Rattle.pool.specs.Calls.{GetsCached, PutsCached};
+ghost use Rattle.pool.specs.Locals.{HasSameHand, SameRing, cache_of, size_of, view_of};
+
+use crate::faults::PoolFault;
+use crate::local::Local;
+use crate::moves::{append, pour};
+use burst::{Burst, Tagged};
+
+impl<T: Tagged, const N: usize> Local<T, N> {
+    /// Gets `n` items from the cache alone, the newest first, into an empty list. Refused as `Short` where it has
+    /// fewer; nothing moves then. No step on a word, no memory, no waiting.
+    pub fn get_cached_into(&mut self, n: usize, into: &mut Burst<T, N>) -> Result<(), PoolFault>
+        requires empty { into.old ≡ [] }
+        ensures same { SameRing self.old self.new × HasSameHand self.old self.new }
+        ensures told { GetsCached n (cache_of self.old) result into.new (cache_of self.new) }
+        ensures own { IfOk result (λ _. AreOwnBuffers T.numbers (view_of self.new) (into.new ++ cache_of self.new)) }
+    {
+        let cached = self.cache.len();
+        if cached < n {
+            return Err(PoolFault::Short);
+        }
+        pour(&mut self.cache, cached - n, into);
+        match &mut self.hand {
+            Some(keeper) => keeper.release(into),
+            None => unreachable!(),
+        }
+        Ok(())
+    }
+
+    /// Pushes a list behind the cache, in order. It is empty then.
+    ///
+    /// Refused, in the order of the tests: `NotYours`; `CacheFull` where the threshold, `floor(3 * size / 2)`, would be
+    /// passed. Nothing moves then, and the list has its items. No step on a word, no memory, no waiting.
+    pub fn put_cached_from(&mut self, list: &mut Burst<T, N>) -> Result<(), PoolFault>
+        ensures same { SameRing self.old self.new × HasSameHand self.old self.new }
+        ensures told { PutsCached T.numbers (view_of self.old) (size_of self.old) (cache_of self.old) list.old result
+            list.new (cache_of self.new) }
+    {
+        let keeper = match &mut self.hand {
+            Some(keeper) => keeper,
+            None => unreachable!(),
+        };
+        if !keeper.keep(list) {
+            return Err(PoolFault::NotYours);
+        }
+        if list.len() > 3 * self.size / 2 - self.cache.len() {
+            keeper.release(list);
+            return Err(PoolFault::CacheFull);
+        }
+        append(list, &mut self.cache);
+        Ok(())
+    }
+}

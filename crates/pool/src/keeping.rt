@@ -1,0 +1,89 @@
+//! A hand and the cache whose buffers it keeps back.
+ghost use Rattle.std.specs.Prelude.{◌≡◌, ◌+◌, ◌<◌, ◌≤◌, ◌++◌, [], length, take, drop, true, false, IfOk, IfErr};
+ghost use Rattle.ringcore_laws.specs.FreeRings.{AreSingle};
+ghost use Rattle.fabric.specs.Hands.{OnRing, view};
+ghost use Rattle.fabric.specs.Keepers.{IsKeeperFor, IsKeeperOf, Keeps, SameKeeper, view_of_keeper};
+ghost use Rattle.fabric.specs.Settles.{AreNotOwnBuffers, AreOwnBuffers};
+ghost use Rattle.pool.specs.Asks.{Sheds};
+ghost use Rattle.pool.specs.Hands.{IsFreeOf};
+
+use crate::asks::spill;
+use crate::moves::{append, part};
+use burst::{Burst, Tagged};
+use fabric::{Fabric, Hand, Keeper};
+use std::sync::Wait;
+
+/// The hand as one that keeps the buffers of a cache back. Asked: they are its own to put on a free ring.
+pub(crate) fn keep_back<T: Tagged, const N: usize>(hand: Hand<T>, cache: &Burst<T, N>) -> Keeper<T>
+    requires own { AreOwnBuffers T.numbers (view hand) cache.now }
+    ensures seat { IsKeeperFor hand result }
+    ensures kept { Keeps T.numbers result cache.now }
+{
+    let mut keeper = hand.keeper();
+    if !keeper.keep(cache) {
+        unreachable!();
+    }
+    keeper
+}
+
+/// Appends the items of a list to a cache, where all of them together are the hand's to put on a free ring; else
+/// nothing changes.
+pub(crate) fn admit<T: Tagged, const N: usize>(
+    keeper: &mut Keeper<T>,
+    cache: &mut Burst<T, N>,
+    list: &mut Burst<T, N>,
+) -> bool
+    requires kept { Keeps T.numbers keeper.old cache.old }
+    requires single { AreSingle T.numbers cache.old }
+    requires room { length cache.old + length list.old ≤ N }
+    ensures same { SameKeeper keeper.old keeper.new }
+    ensures kept { Keeps T.numbers keeper.new cache.new }
+    ensures single { AreSingle T.numbers cache.new }
+    ensures yours { result ≡ true → AreOwnBuffers T.numbers (view_of_keeper keeper.old) (cache.old ++ list.old) }
+    ensures other { result ≡ false → AreNotOwnBuffers T.numbers (view_of_keeper keeper.old) (cache.old ++ list.old) }
+    ensures moved { result ≡ true → (cache.new ≡ cache.old ++ list.old) × (list.new ≡ []) }
+    ensures back { result ≡ false → (cache.new ≡ cache.old) × (list.new ≡ list.old) }
+{
+    let may = keeper.keep(list);
+    if may {
+        append(list, cache);
+    }
+    may
+}
+
+/// Puts the oldest items of a cache on the ring until `size` are left. Where that is refused, those behind the first
+/// `before` go into an empty list, in order.
+pub(crate) fn shed<T: Tagged, const N: usize, R: Wait>(
+    rt: &R,
+    f: &Fabric<T, N>,
+    keeper: Keeper<T>,
+    ring: usize,
+    size: usize,
+    before: usize,
+    cache: &mut Burst<T, N>,
+    list: &mut Burst<T, N>,
+) -> Result<Keeper<T>, Keeper<T>>
+    requires keeper { IsKeeperOf f.now keeper }
+    requires free { IsFreeOf f.now ring }
+    requires kept { Keeps T.numbers keeper cache.old }
+    requires single { AreSingle T.numbers cache.old }
+    requires many { size < length cache.old }
+    requires room { length cache.old ≤ N }
+    requires before { before ≤ length cache.old }
+    requires empty { list.old ≡ [] }
+    ensures keeper { IfOk result (λ k. IsKeeperOf f.now k × Keeps T.numbers k cache.new) }
+    ensures same { IfErr result (λ k. IsKeeperOf f.now k × Keeps T.numbers k cache.new) }
+    ensures single { AreSingle T.numbers cache.new }
+    ensures told { OnRing f.now ring (λ plan. Sheds T.numbers N ring plan size before (view_of_keeper keeper) cache.old
+        result list.new cache.new) }
+{
+    let spare = cache.len() - size;
+    let hand = keeper.whole(cache);
+    match spill(rt, f, hand, ring, spare, cache) {
+        Ok(hand) => Ok(keep_back(hand, cache)),
+        Err(hand) => {
+            part(cache, before, list);
+            Err(keep_back(hand, cache))
+        }
+    }
+}
