@@ -5,4 +5,5 @@ pub mod Asking
 pub mod Kept
 pub mod Wholes
 pub mod ByValue
+pub mod Apart
 mod Rows

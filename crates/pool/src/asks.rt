@@ -208,7 +208,8 @@ pub(crate) fn empty<T: Tagged, const N: usize, R: Wait>(
     if cache.is_empty() {
         return Ok(hand);
     }
-    match place(rt, f, hand, ring, cache) {
+    let answer = place(rt, f, hand, ring, cache);
+    match answer {
         Ok(hand) => Ok(hand),
         Err(hand) => Err(hand),
     }

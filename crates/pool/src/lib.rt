@@ -10,6 +10,8 @@ mod lent;
 mod local;
 mod moves;
 mod opening;
+#[cfg(test)]
+mod tests;
 mod values;
 
 pub use faults::PoolFault;
