@@ -15,8 +15,8 @@ use std::test::Fail;
 use std::thread::{self, Threads};
 
 /// How many buffers there are, how large each cache is, how many buffers a get asks for, and how often a thread gets
-/// them and puts them back: 10,000 buffers in all, but for the turns that find too few. The caches together may hold all
-/// of them, so that there are such turns.
+/// them and puts them back: 10,000 buffers in all, but for the turns that find too few. The caches together may hold
+/// all of them, so that there are such turns.
 const BUFFERS: u32 = 24;
 
 const SIZE: usize = 4;
