@@ -1,10 +1,14 @@
 //! An item with one number, and each call of a burst once.
-mod calls;
-mod closing;
-mod ends;
-mod peeks;
+mod frame;
+mod marks;
+mod numbers;
+mod plays;
+mod rings;
 mod rows;
-mod threads;
+mod stopped;
+mod stops;
+mod tries;
+mod ways;
 
 use arrayvec::ArrayVec;
 use burst::{Burst, Tagged};
@@ -73,25 +77,21 @@ fn shows(burst: &Burst<Ticket, 3>, i: usize, number: u32) -> bool {
     }
 }
 
-#[test]
-fn a_burst_is_a_list(rt: HostRuntime) -> Result<(), Fail> {
+/// What a burst gives that was filled: from its front, from its end when it was turned, and nothing once it is cleared.
+fn gives_from_both_ends(alloc: Global) -> Result<bool, AllocError> {
     let mut burst = Burst::<Ticket, 3>::new();
-    assert!(rt; burst.is_empty());
-    assert!(rt; fills(rt.alloc(), &mut burst)?);
-    assert!(rt; shows(&burst, 1, 1));
-    assert!(rt; burst.get(3).is_none());
-    Ok(())
+    let filled = burst.is_empty() && fills(alloc, &mut burst)?;
+    let shown = shows(&burst, 1, 1) && burst.get(3).is_none();
+    let front = came(burst.pop_front(), 0);
+    burst.reverse();
+    let end = came(burst.pop(), 1);
+    burst.clear();
+    let cleared = burst.pop().is_none() && burst.pop_front().is_none();
+    Ok(filled && shown && front && end && cleared)
 }
 
 #[test]
 fn a_burst_gives_from_both_ends(rt: HostRuntime) -> Result<(), Fail> {
-    let mut burst = Burst::<Ticket, 3>::new();
-    assert!(rt; fills(rt.alloc(), &mut burst)?);
-    assert!(rt; came(burst.pop_front(), 0));
-    burst.reverse();
-    assert!(rt; came(burst.pop(), 1));
-    burst.clear();
-    assert!(rt; burst.pop().is_none());
-    assert!(rt; burst.pop_front().is_none());
+    assert!(rt; gives_from_both_ends(rt.alloc())?);
     Ok(())
 }

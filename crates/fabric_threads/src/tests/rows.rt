@@ -1,396 +1,380 @@
-//! Small cases, each item and each refusal named: a span that waits for an earlier one, a take that is settled in part
-//! or given up, and a buffer that isn't the hand's own. Of two hands each goes to a thread of its own.
+//! Small cases of two threads, each item and each refusal named. The buffers are 0, 1 and 2, and the ring has room for
+//! three items. The thread that comes first has 0 and 1, the other one 2.
 ghost use Rattle.std.specs.Prelude.{◌≡◌, ◌<◌, length, IfOk};
-ghost use Rattle.fabric.specs.Hands.{IsHandOf, put_fabric, rings_of};
+ghost use Rattle.fabric.specs.Hands.{IsHandOf, put_fabric, rings_of, take_fabric};
 
 use super::Ticket;
-use super::calls::{Order, Place, Wrong, burst_of, opened, refused, reserve, settle, take};
-use super::threads::split;
+use super::marks::Marks;
+use super::rings::{FIRST, Items, MOST, POOL, Rings, SECOND, Wrong, get, give, shows, split};
+use super::stopped::stop_in_turn;
+use super::ways::{held, peeked};
 use burst::Burst;
-use fabric::{Fabric, Hand, Opened, PutOpen, SettleFault, StartFault};
-use geom::{Geometry, How, Mode};
-use std::sync::atomic::{AtomicU64, Ordering};
-use std::test::Fail;
-use std::thread::{self, Threads};
+use fabric::{Hand, PutOpen, StartFault};
+use geom::How;
+use ringapi::{Moved, PeekTake, PutAnswer, Refusal, TakeAnswer};
+use std::alloc::Global;
+use std::sync::Wait;
+use std::thread;
 
-/// The ring that a test is about, and a ring through which one hand gives an item to another.
-const RING: usize = 0;
+/// How often a thread looks at a ring before it gives up.
+const TURNS: u64 = 1 << 40;
 
-const GIFTS: usize = 1;
+/// How far two threads have come.
+const BEGUN: u64 = 1;
 
-/// How often a thread looks how far the other one is, before it gives up.
-const TURNS: u64 = 1 << 26;
+const MET: u64 = 2;
 
-/// How far two threads have come that put one behind the other.
-const EARLIER_RESERVED: u64 = 1;
+const ENDING: u64 = 3;
 
-const LATER_REFUSED: u64 = 2;
+const ENDED: u64 = 4;
 
-const EARLIER_SETTLED: u64 = 3;
+/// A small case.
+#[derive(Clone, Copy)]
+pub(super) enum Row {
+    /// A put behind an open span, by a try call: its settle comes too early.
+    Early,
+    /// The same by a call that waits.
+    Waits,
+    /// A peek that is given up, while the other thread looks at the ring.
+    Peek,
+    /// A peek that is finished in parts.
+    Parts,
+    /// A put of an item that is the other hand's.
+    NotYours,
+    /// Three hands that stop one after the other.
+    Stops,
+}
 
-const LATER_SETTLED: u64 = 4;
-
-/// Waits until the other thread has come so far.
-fn wait_for(reached: &AtomicU64, step: u64) -> Result<(), Wrong> {
+/// Looks until another hand has reserved the last position: then there is room for none.
+fn watch(f: &Rings, mut hand: Hand<Ticket>) -> Result<Hand<Ticket>, Wrong>
+    requires hand { IsHandOf f.now hand }
+    requires rings { 2 < length (rings_of f.now) }
+    ensures { IfOk result (λ h. IsHandOf f.now h) }
+{
     for _ in 0..TURNS {
-        if reached.load(Ordering::SeqCst) >= step {
-            return Ok(());
+        let Err((back, fault)) = f.try_start_put(hand, FIRST, 2, How::Bulk) else {
+            return Err(Wrong("there is room for two"));
+        };
+        hand = back;
+        if fault == StartFault::NoRoom(0) {
+            return Ok(hand);
         }
         thread::yield_now();
     }
-    Err(Wrong("the other thread comes no further"))
+    Err(Wrong("nobody reserves the last position"))
 }
 
-/// Reserves the first two positions, and settles them once the later span was refused.
-fn put_earlier(
-    f: &Fabric<Ticket, 8>,
-    hand: Hand<Ticket>,
-    items: Burst<Ticket, 8>,
-    reached: &AtomicU64,
+/// Settles a put that lies at the first two positions.
+fn settle_two<'f>(
+    f: &Rings,
+    span: PutOpen<'f, Ticket, MOST>,
+    list: Items,
 ) -> Result<Hand<Ticket>, Wrong>
-    requires hand { IsHandOf f.now hand }
-    requires rings { 1 < length (rings_of f.now) }
+    requires span { put_fabric span ≡ f.now }
     ensures { IfOk result (λ h. IsHandOf f.now h) }
 {
-    let place = Place {
-        start: 0,
-        count: 2,
-        left: 1,
-    };
-    let span = reserve(f, hand, RING, place)?;
-    reached.store(EARLIER_RESERVED, Ordering::SeqCst);
-    wait_for(reached, LATER_REFUSED)?;
-    let hand = settle(f, span, items)?;
-    reached.store(EARLIER_SETTLED, Ordering::SeqCst);
-    Ok(hand)
-}
-
-/// Takes the gift, so that the hand has an item of its own.
-fn take_gift(
-    f: &Fabric<Ticket, 8>,
-    hand: Hand<Ticket>,
-) -> Result<(Hand<Ticket>, Burst<Ticket, 8>), Wrong>
-    requires hand { IsHandOf f.now hand }
-    requires rings { 1 < length (rings_of f.now) }
-    ensures { IfOk result (λ h. IsHandOf f.now h.0) }
-{
-    let order = Order {
-        n: 1,
-        how: How::Bulk,
-        place: Place {
-            start: 0,
-            count: 1,
-            left: 0,
-        },
-        loads: &[12],
-    };
-    take(f, hand, GIFTS, order, 1)
-}
-
-/// Reserves the third position once the first two are, is refused, and settles it once the earlier span is settled.
-fn put_later(
-    f: &Fabric<Ticket, 8>,
-    hand: Hand<Ticket>,
-    mut items: Burst<Ticket, 8>,
-    reached: &AtomicU64,
-) -> Result<Hand<Ticket>, Wrong>
-    requires hand { IsHandOf f.now hand }
-    requires rings { 1 < length (rings_of f.now) }
-    ensures { IfOk result (λ h. IsHandOf f.now h) }
-{
-    let place = Place {
-        start: 2,
-        count: 1,
-        left: 0,
-    };
-    wait_for(reached, EARLIER_RESERVED)?;
-    let span = reserve(f, hand, RING, place)?;
-    let span = refused(f, span, &mut items, &[12], SettleFault::NotYet(0))?;
-    reached.store(LATER_REFUSED, Ordering::SeqCst);
-    wait_for(reached, EARLIER_SETTLED)?;
-    let hand = settle(f, span, items)?;
-    reached.store(LATER_SETTLED, Ordering::SeqCst);
-    Ok(hand)
-}
-
-/// What the first thread does: it puts two items, and takes all three when the third is there.
-fn put_and_take(
-    f: &Fabric<Ticket, 8>,
-    hand: Hand<Ticket>,
-    items: Burst<Ticket, 8>,
-    reached: &AtomicU64,
-) -> Result<(Hand<Ticket>, Burst<Ticket, 8>), Wrong>
-    requires hand { IsHandOf f.now hand }
-    requires rings { 1 < length (rings_of f.now) }
-    ensures { IfOk result (λ h. IsHandOf f.now h.0) }
-{
-    let hand = put_earlier(f, hand, items, reached)?;
-    wait_for(reached, LATER_SETTLED)?;
-    let order = Order {
-        n: 8,
-        how: How::Burst,
-        place: Place {
-            start: 0,
-            count: 3,
-            left: 0,
-        },
-        loads: &[10, 11, 12],
-    };
-    take(f, hand, RING, order, 3)
-}
-
-/// What the second thread does: it takes an item from the other ring, and puts it behind the two.
-fn put_behind(
-    f: &Fabric<Ticket, 8>,
-    hand: Hand<Ticket>,
-    reached: &AtomicU64,
-) -> Result<Hand<Ticket>, Wrong>
-    requires hand { IsHandOf f.now hand }
-    requires rings { 1 < length (rings_of f.now) }
-    ensures { IfOk result (λ h. IsHandOf f.now h) }
-{
-    let (hand, items) = take_gift(f, hand)?;
-    put_later(f, hand, items, reached)
-}
-
-/// Two threads put, the second behind the first. Answers both hands, and what the first took in the end.
-fn put_in_turn(
-    rt: &(impl Threads + Sync),
-    f: &Fabric<Ticket, 8>,
-    a: Hand<Ticket>,
-    b: Hand<Ticket>,
-    items: Burst<Ticket, 8>,
-) -> Result<(Hand<Ticket>, Hand<Ticket>, Burst<Ticket, 8>), Wrong>
-    requires hands { IsHandOf f.now a × IsHandOf f.now b }
-    requires rings { 1 < length (rings_of f.now) }
-    ensures { IfOk result (λ h. IsHandOf f.now h.0 × IsHandOf f.now h.1) }
-{
-    let word = AtomicU64::new(0);
-    let reached = &word;
-    let (first, second) = thread::join(
-        rt,
-        || -> Result<(Hand<Ticket>, Burst<Ticket, 8>), Wrong>
-            requires { IsHandOf f.now a × (1 < length (rings_of f.now)) }
-            ensures { IfOk result (λ h. IsHandOf f.entry.now h.0) }
-        { put_and_take(f, a, items, reached) },
-        || -> Result<Hand<Ticket>, Wrong>
-            requires { IsHandOf f.now b × (1 < length (rings_of f.now)) }
-            ensures { IfOk result (λ h. IsHandOf f.entry.now h) }
-        { put_behind(f, b, reached) },
-    );
-    let (a, items) = first?;
-    let b = second?;
-    Ok((a, b, items))
-}
-
-/// A hand gives the last of the items away, for a second hand to take.
-fn give_last(
-    f: &Fabric<Ticket, 8>,
-    hand: Hand<Ticket>,
-    tickets: &mut Vec<Ticket>,
-) -> Result<Hand<Ticket>, Wrong>
-    requires hand { IsHandOf f.now hand }
-    requires rings { 1 < length (rings_of f.now) }
-    ensures { IfOk result (λ h. IsHandOf f.now h) }
-{
-    let mut items = Burst::new();
-    items.push(tickets.pop().ok_or(Wrong("an item is missing"))?);
-    let place = Place {
-        start: 0,
-        count: 1,
-        left: 2,
-    };
-    let span = reserve(f, hand, GIFTS, place)?;
-    settle(f, span, items)
-}
-
-/// Whether the first hand took all three items, so that the last one's buffer is its own and not the second's.
-fn has_all(a: &Hand<Ticket>, b: &Hand<Ticket>, items: &Burst<Ticket, 8>) -> bool {
-    items.len() == 3 && a.owns(2) && !b.owns(2)
-}
-
-#[test]
-fn a_later_span_waits_for_the_earlier(rt: HostRuntime) -> Result<(), Fail> {
-    let Opened {
-        fabric,
-        hand,
-        items: mut tickets,
-    } = opened(
-        rt.alloc(),
-        Geometry::power(4)?,
-        (Mode::Multi, Mode::Multi),
-        3,
-    )?;
-    let hand = give_last(&fabric, hand, &mut tickets)?;
-    let (a, b) = split(&fabric, rt.alloc(), hand)?;
-    let (a, b, items) = put_in_turn(&rt, &fabric, a, b, burst_of(tickets))?;
-    assert!(rt; has_all(&a, &b, &items));
-    Ok(())
-}
-
-/// Puts all items of a burst on the ring, which is empty and has room for just so many.
-fn fill(
-    f: &Fabric<Ticket, 8>,
-    hand: Hand<Ticket>,
-    items: Burst<Ticket, 8>,
-) -> Result<Hand<Ticket>, Wrong>
-    requires hand { IsHandOf f.now hand }
-    requires rings { 1 < length (rings_of f.now) }
-    ensures { IfOk result (λ h. IsHandOf f.now h) }
-{
-    let place = Place {
-        start: 0,
-        count: items.len(),
-        left: 0,
-    };
-    let span = reserve(f, hand, RING, place)?;
-    settle(f, span, items)
-}
-
-/// Takes the first `k` of the two items that begin at position 1, and gives up the others.
-fn take_last_two(
-    f: &Fabric<Ticket, 8>,
-    hand: Hand<Ticket>,
-    k: usize,
-) -> Result<(Hand<Ticket>, Burst<Ticket, 8>), Wrong>
-    requires hand { IsHandOf f.now hand }
-    requires rings { 1 < length (rings_of f.now) }
-    ensures { IfOk result (λ h. IsHandOf f.now h.0) }
-{
-    let order = Order {
-        n: 3,
-        how: How::Burst,
-        place: Place {
-            start: 1,
-            count: 2,
-            left: 0,
-        },
-        loads: &[11, 12],
-    };
-    take(f, hand, RING, order, k)
-}
-
-/// Takes the first of three items, none of the other two, and then both: each call finds what the one before left.
-fn take_in_parts(f: &Fabric<Ticket, 8>, hand: Hand<Ticket>) -> Result<(), Wrong>
-    requires hand { IsHandOf f.now hand }
-    requires rings { 1 < length (rings_of f.now) }
-{
-    let all = Order {
-        n: 3,
-        how: How::Bulk,
-        place: Place {
-            start: 0,
-            count: 3,
-            left: 0,
-        },
-        loads: &[10, 11, 12],
-    };
-    let (hand, _first) = take(f, hand, RING, all, 1)?;
-    let (hand, _none) = take_last_two(f, hand, 0)?;
-    let _rest = take_last_two(f, hand, 2)?;
-    Ok(())
-}
-
-#[test]
-fn an_hts_take_is_settled_in_part_and_given_up(rt: HostRuntime) -> Result<(), Fail> {
-    let Opened {
-        fabric,
-        hand,
-        items: tickets,
-    } = opened(rt.alloc(), Geometry::exact(3)?, (Mode::Hts, Mode::Hts), 3)?;
-    let hand = fill(&fabric, hand, burst_of(tickets))?;
-    take_in_parts(&fabric, hand)?;
-    Ok(())
-}
-
-/// Tries a take of one item, of which there is none.
-fn find_none(f: &Fabric<Ticket, 8>, hand: Hand<Ticket>) -> Result<Hand<Ticket>, Wrong>
-    requires hand { IsHandOf f.now hand }
-    requires rings { 1 < length (rings_of f.now) }
-    ensures { IfOk result (λ h. IsHandOf f.now h) }
-{
-    let mut items = Burst::new();
-    match f.try_start_take_into(hand, RING, 1, How::Bulk, &mut items) {
-        Err((hand, StartFault::NoRoom(0))) if items.is_empty() => Ok(hand),
-        Err(_) => Err(Wrong("a take is refused for another reason")),
-        Ok(_) => Err(Wrong("a take finds an item")),
+    if span.start() != 0 || span.count() != 2 || span.left() != 1 {
+        return Err(Wrong("a put lies elsewhere"));
+    }
+    match span.try_settle(list) {
+        Ok(hand) => Ok(hand),
+        Err(_) => Err(Wrong("a put isn't settled")),
     }
 }
 
-/// Reserves a position for an item whose buffer isn't the hand's own, and is refused.
-fn put_in_vain<'f>(
-    f: &'f Fabric<Ticket, 8>,
-    hand: Hand<Ticket>,
-    mut items: Burst<Ticket, 8>,
-) -> Result<(PutOpen<'f, Ticket, 8>, Burst<Ticket, 8>), Wrong>
+/// Finds no item on a ring.
+pub(super) fn find_none(f: &Rings, hand: Hand<Ticket>, ring: usize) -> Result<Hand<Ticket>, Wrong>
     requires hand { IsHandOf f.now hand }
-    requires rings { 1 < length (rings_of f.now) }
-    ensures { IfOk result (λ r. put_fabric r.0 ≡ f.now) }
+    requires ring { ring < length (rings_of f.now) }
+    ensures { IfOk result (λ h. IsHandOf f.now h) }
 {
-    let place = Place {
-        start: 0,
-        count: 1,
-        left: 2,
+    let (answer, _) = ringapi::try_take_burst(f, hand, ring, 1);
+    let TakeAnswer::Refused(hand, fault) = answer else {
+        return Err(Wrong("a ring isn't empty"));
     };
-    let span = reserve(f, hand, RING, place)?;
-    let span = refused(f, span, &mut items, &[10], SettleFault::NotYours)?;
-    Ok((span, items))
+    if fault != StartFault::NoRoom(0) {
+        return Err(Wrong("a take is refused for another reason"));
+    }
+    Ok(hand)
 }
 
-/// One thread finds nothing to take, while another tries to put what isn't its own.
-fn try_both<'f>(
-    rt: &(impl Threads + Sync),
-    f: &'f Fabric<Ticket, 8>,
-    a: Hand<Ticket>,
-    b: Hand<Ticket>,
-    items: Burst<Ticket, 8>,
-) -> Result<(Hand<Ticket>, PutOpen<'f, Ticket, 8>, Burst<Ticket, 8>), Wrong>
-    requires hands { IsHandOf f.now a × IsHandOf f.now b }
-    requires rings { 1 < length (rings_of f.now) }
-    ensures { IfOk result (λ r. IsHandOf f.now r.0) }
+/// Takes all items of the ring, of these numbers.
+fn take_all(f: &Rings, hand: Hand<Ticket>, numbers: &[u32]) -> Result<Hand<Ticket>, Wrong>
+    requires hand { IsHandOf f.now hand }
+    requires rings { 2 < length (rings_of f.now) }
+    ensures { IfOk result (λ h. IsHandOf f.now h) }
 {
-    let (first, second) = thread::join(
-        rt,
-        || -> Result<Hand<Ticket>, Wrong>
-            requires { IsHandOf f.now a × (1 < length (rings_of f.now)) }
-            ensures { IfOk result (λ h. IsHandOf f.entry.now h) }
-        { find_none(f, a) },
-        || -> Result<(PutOpen<'_, Ticket, 8>, Burst<Ticket, 8>), Wrong>
-            requires { IsHandOf f.now b × (1 < length (rings_of f.now)) }
-            ensures { IfOk result (λ r. put_fabric r.0 ≡ f.entry.now) }
-        { put_in_vain(f, b, items) },
-    );
-    let a = first?;
-    let (span, items) = second?;
-    Ok((a, span, items))
+    let (answer, list) = ringapi::try_take_burst(f, hand, FIRST, 8);
+    match answer {
+        TakeAnswer::Done(hand, moved) if moved.left == 0 && shows(&list, numbers) => Ok(hand),
+        _ => Err(Wrong("a take gives other items")),
+    }
 }
 
-/// Whether a refused put left all as it was: the span is open, the item in the burst, and its buffer the other hand's.
-fn is_unchanged(a: &Hand<Ticket>, span: &PutOpen<'_, Ticket, 8>, items: &Burst<Ticket, 8>) -> bool {
-    let same = match items.get(0) {
-        Some(item) => *item.number == 0,
-        None => false,
+/// Reserves the first two positions, and settles them once the other thread has reserved the third; then takes all.
+fn put_earlier(
+    f: &Rings,
+    alloc: Global,
+    hand: Hand<Ticket>,
+    list: Items,
+    marks: &Marks,
+    waits: bool,
+) -> Result<Hand<Ticket>, Wrong>
+    requires hand { IsHandOf f.now hand }
+    requires rings { 2 < length (rings_of f.now) }
+    ensures { IfOk result (λ h. IsHandOf f.now h) }
+{
+    let (hand, other) = split(f, alloc, hand)?;
+    let Ok(span) = f.try_start_put(hand, FIRST, 2, How::Bulk) else {
+        return Err(Wrong("a put isn't started"));
     };
-    same && span.count() == 1 && a.owns(0)
+    marks.reach(BEGUN);
+    let other = if waits { watch(f, other)? } else { other };
+    if !waits {
+        marks.wait_for(MET)?;
+    }
+    marks.reach(ENDING);
+    let hand = settle_two(f, span, list)?;
+    marks.wait_for(ENDED)?;
+    Ok(take_all(f, hand, &[0, 1, 2])?.join(f, other))
 }
 
-#[test]
-fn anothers_buffer_is_not_put(rt: HostRuntime) -> Result<(), Fail> {
-    let Opened {
-        fabric,
-        hand,
-        items: tickets,
-    } = opened(
-        rt.alloc(),
-        Geometry::power(4)?,
-        (Mode::Multi, Mode::Multi),
-        1,
-    )?;
-    let (a, b) = split(&fabric, rt.alloc(), hand)?;
-    assert!(rt; a.owns(0) && !b.owns(0));
-    let (a, span, items) = try_both(&rt, &fabric, a, b, burst_of(tickets))?;
-    assert!(rt; is_unchanged(&a, &span, &items));
-    let a = find_none(&fabric, a)?;
-    assert!(rt; a.owns(0));
-    Ok(())
+/// Puts behind the first two positions, by a try call: its settle comes too early, until the other one is settled.
+fn put_later(
+    f: &Rings,
+    hand: Hand<Ticket>,
+    list: Items,
+    marks: &Marks,
+) -> Result<Hand<Ticket>, Wrong>
+    requires hand { IsHandOf f.now hand }
+    requires rings { 2 < length (rings_of f.now) }
+    ensures { IfOk result (λ h. IsHandOf f.now h) }
+{
+    let (answer, list) = ringapi::try_put_bulk(f, hand, FIRST, list);
+    let PutAnswer::Open(span, tail) = answer else {
+        return Err(Wrong("a put is done too early"));
+    };
+    marks.reach(MET);
+    if span.start() != 2 || tail != 0 || !shows(&list, &[2]) {
+        return Err(Wrong("an open put lies elsewhere"));
+    }
+    marks.wait_for(ENDING)?;
+    settle_at_last(f, span, list)
+}
+
+/// Settles a put as soon as those before it are settled.
+fn settle_at_last<'f>(
+    f: &Rings,
+    mut span: PutOpen<'f, Ticket, MOST>,
+    mut list: Items,
+) -> Result<Hand<Ticket>, Wrong>
+    requires span { put_fabric span ≡ f.now }
+    ensures { IfOk result (λ h. IsHandOf f.now h) }
+{
+    for _ in 0..TURNS {
+        match span.try_settle_from(&mut list) {
+            Ok(hand) => return Ok(hand),
+            Err((same, _)) => span = same,
+        }
+        thread::yield_now();
+    }
+    Err(Wrong("a put isn't settled"))
+}
+
+/// The same by a call that waits: it doesn't come back before the other one is settled.
+fn put_waiting<R: Wait>(
+    rt: &R,
+    f: &Rings,
+    hand: Hand<Ticket>,
+    list: Items,
+    marks: &Marks,
+) -> Result<Hand<Ticket>, Wrong>
+    requires hand { IsHandOf f.now hand }
+    requires rings { 2 < length (rings_of f.now) }
+    ensures { IfOk result (λ h. IsHandOf f.now h) }
+{
+    let (answer, _) = ringapi::put_bulk(rt, f, hand, FIRST, list);
+    let PutAnswer::Done(hand, moved) = answer else {
+        return Err(Wrong("a put isn't done"));
+    };
+    if moved != (Moved { count: 1, left: 0 }) || !marks.has_reached(ENDING) {
+        return Err(Wrong("a put is done too early"));
+    }
+    Ok(hand)
+}
+
+/// Peeks at items of these numbers.
+fn peek<'f>(
+    f: &'f Rings,
+    hand: Hand<Ticket>,
+    ring: usize,
+    numbers: &[u32],
+) -> Result<PeekTake<'f, Ticket, MOST>, Wrong>
+    requires hand { IsHandOf f.now hand }
+    requires ring { ring < length (rings_of f.now) }
+    ensures { IfOk result (λ p. take_fabric p.peek.span ≡ f.now) }
+{
+    let peek = peeked(f, hand, ring, 3, How::Burst)?;
+    if !shows(peek.items(), numbers) {
+        return Err(Wrong("a peek shows other items"));
+    }
+    Ok(peek)
+}
+
+/// Finishes a peek with its first `k` items, of these numbers.
+fn finish(
+    f: &Rings,
+    peek: PeekTake<'_, Ticket, MOST>,
+    k: usize,
+    numbers: &[u32],
+) -> Result<Hand<Ticket>, Wrong>
+    requires span { take_fabric peek.peek.span ≡ f.now }
+    ensures { IfOk result (λ h. IsHandOf f.now h) }
+{
+    let Ok((hand, list)) = peek.finish(k) else {
+        return Err(Wrong("a peek isn't finished"));
+    };
+    if !shows(&list, numbers) {
+        return Err(Wrong("a peek gives other items"));
+    }
+    Ok(hand)
+}
+
+/// Peeks at an item until the other thread has met that, and gives it up.
+fn peek_and_abort(
+    f: &Rings,
+    hand: Hand<Ticket>,
+    mut list: Items,
+    marks: &Marks,
+) -> Result<Hand<Ticket>, Wrong>
+    requires hand { IsHandOf f.now hand }
+    requires rings { 2 < length (rings_of f.now) }
+    ensures { IfOk result (λ h. IsHandOf f.now h) }
+{
+    let _one = list.pop();
+    let hand = give(f, hand, FIRST, list)?;
+    let open = peek(f, hand, FIRST, &[0])?;
+    marks.reach(BEGUN);
+    marks.wait_for(MET)?;
+    let hand = open.abort();
+    marks.reach(ENDED);
+    Ok(hand)
+}
+
+/// Finds the item taken by nobody and yet not to be had; puts another, and has both once the peek is given up.
+fn beside_a_peek(
+    f: &Rings,
+    hand: Hand<Ticket>,
+    list: Items,
+    marks: &Marks,
+) -> Result<Hand<Ticket>, Wrong>
+    requires hand { IsHandOf f.now hand }
+    requires rings { 2 < length (rings_of f.now) }
+    ensures { IfOk result (λ h. IsHandOf f.now h) }
+{
+    let (answer, _) = ringapi::try_take_burst(f, hand, FIRST, 1);
+    let TakeAnswer::Refused(hand, fault) = answer else {
+        return Err(Wrong("a take goes on past a peek"));
+    };
+    if fault != StartFault::Busy(1) {
+        return Err(Wrong("a take is refused for another reason"));
+    }
+    let open = held(f, hand, FIRST, 1)?;
+    marks.reach(MET);
+    marks.wait_for(ENDED)?;
+    let Ok(hand) = open.finish(list) else {
+        return Err(Wrong("a put isn't finished"));
+    };
+    take_all(f, hand, &[0, 2])
+}
+
+/// Puts a third item behind two, and peeks: the first is taken, the others are given up, and then taken.
+fn peek_in_parts(f: &Rings, hand: Hand<Ticket>, list: Items) -> Result<Hand<Ticket>, Wrong>
+    requires hand { IsHandOf f.now hand }
+    requires rings { 2 < length (rings_of f.now) }
+    ensures { IfOk result (λ h. IsHandOf f.now h) }
+{
+    let hand = give(f, hand, SECOND, list)?;
+    let hand = finish(f, peek(f, hand, SECOND, &[0, 1, 2])?, 1, &[0])?;
+    let hand = peek(f, hand, SECOND, &[1, 2])?.abort();
+    finish(f, peek(f, hand, SECOND, &[1, 2])?, 2, &[1, 2])
+}
+
+/// Tries to put an item that is another hand's: it comes back, and the ring stays empty.
+fn put_in_vain(
+    f: &Rings,
+    alloc: Global,
+    hand: Hand<Ticket>,
+    list: Items,
+) -> Result<Hand<Ticket>, Wrong>
+    requires hand { IsHandOf f.now hand }
+    requires rings { 2 < length (rings_of f.now) }
+    ensures { IfOk result (λ h. IsHandOf f.now h) }
+{
+    let (hand, other) = split(f, alloc, hand)?;
+    let (answer, list) = ringapi::try_put_bulk(f, other, FIRST, list);
+    let PutAnswer::Refused(other, refusal) = answer else {
+        return Err(Wrong("a put of another hand's item"));
+    };
+    if refusal != Refusal::NotYours || !shows(&list, &[2]) {
+        return Err(Wrong("a put is refused for another reason"));
+    }
+    Ok(find_none(f, other, FIRST)?.join(f, hand))
+}
+
+/// What the thread that comes first does.
+pub(super) fn come_first(
+    f: &Rings,
+    alloc: Global,
+    hand: Hand<Ticket>,
+    row: Row,
+    marks: &Marks,
+) -> Result<Hand<Ticket>, Wrong>
+    requires hand { IsHandOf f.now hand }
+    requires rings { 2 < length (rings_of f.now) }
+    ensures { IfOk result (λ h. IsHandOf f.now h) }
+{
+    if let Row::Stops = row {
+        return stop_in_turn(f, alloc, hand, marks);
+    }
+    let (hand, list) = get(f, hand, POOL, 2)?;
+    match row {
+        Row::Early => put_earlier(f, alloc, hand, list, marks, false),
+        Row::Waits => put_earlier(f, alloc, hand, list, marks, true),
+        Row::Peek => peek_and_abort(f, hand, list, marks),
+        _ => {
+            let hand = give(f, hand, SECOND, list)?;
+            marks.reach(BEGUN);
+            Ok(hand)
+        }
+    }
+}
+
+/// What the other thread does, once that one has begun.
+pub(super) fn come_then<R: Wait>(
+    rt: &R,
+    f: &Rings,
+    alloc: Global,
+    hand: Hand<Ticket>,
+    row: Row,
+    marks: &Marks,
+) -> Result<Hand<Ticket>, Wrong>
+    requires hand { IsHandOf f.now hand }
+    requires rings { 2 < length (rings_of f.now) }
+    ensures { IfOk result (λ h. IsHandOf f.now h) }
+{
+    if let Row::Stops = row {
+        return Ok(hand);
+    }
+    marks.wait_for(BEGUN)?;
+    let (hand, list) = get(f, hand, POOL, 1)?;
+    let hand = match row {
+        Row::Early => put_later(f, hand, list, marks)?,
+        Row::Waits => put_waiting(rt, f, hand, list, marks)?,
+        Row::Peek => beside_a_peek(f, hand, list, marks)?,
+        Row::Parts => peek_in_parts(f, hand, list)?,
+        _ => put_in_vain(f, alloc, hand, list)?,
+    };
+    marks.reach(ENDED);
+    Ok(hand)
 }
