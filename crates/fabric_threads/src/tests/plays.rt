@@ -168,11 +168,14 @@ fn three_hands_stop_in_turn(rt: HostRuntime) -> Result<(), Fail> {
     run_all(&rt, rt.alloc(), &[play])
 }
 
-/// A thread stops so, and beside it another one in each way, on the same ring and on another; for all pairs of modes.
+/// A thread stops so, and beside it another one so or in each way that comes later in the list, on the same ring and on
+/// another; for all pairs of modes.
 fn stop_beside_all<R: Threads + Wait + Sync>(rt: &R, alloc: Global, one: Stop) -> Result<(), Fail> {
     for modes in MODES {
+        let mut met = false;
         for other in STOPS {
-            if !one.may_be(modes) || !other.may_be(modes) {
+            met = met || other == one;
+            if !met || !one.may_be(modes) || !other.may_be(modes) {
                 continue;
             }
             run(rt, alloc, ends_of(modes, (one, FIRST), (other, SECOND)))?;
