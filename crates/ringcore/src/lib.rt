@@ -12,8 +12,6 @@ mod reserving;
 mod ring;
 mod settling;
 mod sides;
-#[cfg(test)]
-mod tests;
 mod world;
 
 pub use one_ring::{Moved, OneRing};
