@@ -1,7 +1,8 @@
 //! Shares of packets. A share mentions every segment of a chain and shows some of its bytes; a segment goes back when
 //! the last share that mentions it goes (DPDK Programmer's Guide, "Mbuf Library", indirect buffers). A deck belongs to
 //! one worker: it has no lock, and its counts are plain numbers. As they are written, `share` and `again` alone ask for
-//! memory, of the allocator that `new` was given. No clause says so of the other calls, and no test refuses it to them.
+//! memory, of the allocator that `new` was given. No clause says so of the other calls; a test makes them where every
+//! request is refused.
 ghost use Rattle.std.specs.Prelude.{◌≡◌, ◌+◌, ◌<◌, ◌≤◌, ◌++◌, ℕ, [], ◌∷◌, Some, None, IsNone, IfSome, IfOk, IfErr};
 ghost use Rattle.std.specs.Prelude.{OnOk, OnErr};
 ghost use Rattle.std.specs.Result.{result_err};

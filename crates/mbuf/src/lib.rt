@@ -1,7 +1,7 @@
 //! Packet buffers (DPDK Programmer's Guide, "Mbuf Library"): segments with headroom and tailroom, packets as chains of
 //! them, and shares of packets whose segments go back with their last mention.
 //!
-//! A caller, as it stands proved in `example`:
+//! A caller, as it stands proved in mbuf_tests:
 //!
 //! ```text
 //! fn with_header(packet: &mut Chain, header: &[u8]) -> Result<(), ChainFault>
@@ -33,12 +33,3 @@ pub use buffers::make;
 pub use chain::{Chain, MOST_SEGMENTS};
 pub use deck::Deck;
 pub use fault::{ChainFault, DeckFault};
-
-#[cfg(test)]
-mod deck_tests;
-#[cfg(test)]
-mod example;
-#[cfg(test)]
-mod fixtures;
-#[cfg(test)]
-mod tests;

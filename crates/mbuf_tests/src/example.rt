@@ -3,7 +3,7 @@ ghost use Rattle.std.specs.Prelude.{◌≡◌, length, replicate, OnOk};
 ghost use Rattle.mbuf.specs.Buffer.{overwritten};
 ghost use Rattle.mbuf.specs.Chain.{bytes_of, HasSameSegments, part_of};
 
-use crate::{Chain, ChainFault};
+use mbuf::{Chain, ChainFault};
 
 /// Puts a header before a packet and takes it off again: the packet is as it was.
 pub fn with_header(packet: &mut Chain, header: &[u8]) -> Result<(), ChainFault>

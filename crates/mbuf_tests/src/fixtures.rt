@@ -4,17 +4,19 @@ ghost use Rattle.burst.specs.Numbers.{AreDistinct};
 ghost use Rattle.mbuf.specs.Buffer.{made};
 ghost use Rattle.mbuf.specs.Chain.{numbers_of};
 
-use crate::{Chain, Deck};
 use arrayvec::ArrayVec;
 use burst::Tagged;
+use mbuf::{Chain, Deck, make};
 use std::alloc::{AllocError, Global};
 use std::test::Fail;
 
-/// A chain of one fresh segment.
+/// The fresh segment of this number.
 pub fn segment(alloc: Global, number: u32) -> Result<Chain, AllocError>
+    requires { number < 65536 }
     ensures { IfOk result (λ chain. chain ≡ made 128 64 number ∷ []) }
 {
-    Chain::make(alloc, number, 128, 64)
+    let mut segments = make(alloc, number + 1, 128, 64)?;
+    Ok(segments.swap_remove(number as usize))
 }
 
 /// The chain of both, one behind the other.
@@ -30,7 +32,8 @@ pub fn both(one: Chain, other: Chain) -> Result<Chain, Fail>
 
 /// Segments `first` and `second` as one chain.
 pub fn pair(alloc: Global, first: u32, second: u32) -> Result<Chain, Fail>
-    requires { first < second }
+    requires order { first < second }
+    requires within { second < 65536 }
     ensures { IfOk result (λ chain. chain ≡ made 128 64 first ∷ made 128 64 second ∷ []) }
 {
     both(segment(alloc, first)?, segment(alloc, second)?)

@@ -1,53 +1,61 @@
-//! Worked rows of shares, each call of a deck, and what is left where memory is refused.
-ghost use Rattle.std.specs.Prelude.{◌≡◌, []};
+//! Worked rows of shares, each call of a deck, and what goes on where every request for memory is refused.
+ghost use Rattle.std.specs.Prelude.{◌≡◌, ◌++◌, []};
+ghost use Rattle.burst.specs.Numbers.{AreDistinct};
+ghost use Rattle.mbuf.specs.Chain.{numbers_of};
 
-use crate::fixtures::{deck_of, deck_of_pairs, numbers, pair, segment};
-use crate::{Chain, Deck, DeckFault};
-use arrayvec::ArrayVec;
+use crate::calls::{Call, FRESH, again, copied, copy_into, cut, go, released, released_into};
+use crate::fixtures::{both, deck_of, deck_of_pairs, pair, segment};
 use burst::Burst;
+use exhaust::take_all;
+use mbuf::{Chain, Deck, DeckFault};
+use std::alloc::Global;
+use std::process::Abort;
 use std::test::Fail;
 
-/// More shares than a deck first has memory for.
-const MANY: u32 = 20;
+/// More shares than a deck has memory for that was enough for the first.
+const MANY: u32 = 2000;
 
 /// More packets than any small room that a deck could have kept.
 const PACKETS: u32 = 150;
 
+/// What comes back of a release that isn't the last one.
+const NOTHING: (usize, [Option<u32>; 2]) = (0, [None; 2]);
+
+/// Segment 4 with bytes 1, 2 and 3.
+fn three_bytes(alloc: Global) -> Result<Chain, Fail> {
+    let mut chain = segment(alloc, 4)?;
+    chain.append(&[1, 2, 3])?;
+    Ok(chain)
+}
+
 #[test]
 fn gives_segments_with_their_last_mention(rt: HostRuntime) -> Result<(), Fail> {
     let mut deck = deck_of(rt.alloc(), pair(rt.alloc(), 4, 7)?)?;
-    assert_eq!(rt; deck.again(0), Ok(1));
-    assert!(rt; deck.release(0)?.is_empty());
-    let freed = deck.release(1)?;
-    assert_eq!(rt; freed.len(), 2);
-    let first = freed.get(0).ok_or("first")?;
-    assert_eq!(rt; numbers(first).as_slice(), [4].as_slice());
-    let second = freed.get(1).ok_or("second")?;
-    assert_eq!(rt; numbers(second).as_slice(), [7].as_slice());
-    assert_eq!(rt; deck.release(1).err(), Some(DeckFault::NoSuchShare));
-    assert_eq!(rt; deck.again(1), Err(DeckFault::NoSuchShare));
+    assert_eq!(rt; again(&mut deck, 0), Ok(1));
+    let told = [0, 1, 1].map(|id| released(&mut deck, id));
+    let last = Ok((2, [Some(4), Some(7)]));
+    assert_eq!(rt; told, [Ok(NOTHING), last, Err(DeckFault::NoSuchShare)]);
+    assert_eq!(rt; again(&mut deck, 1), Err(DeckFault::NoSuchShare));
     Ok(())
+}
+
+/// Cuts share 0 of bytes 1, 2 and 3 to its second byte, and copies it over others.
+fn cuts_and_copies(rt: &impl Abort, deck: &mut Deck, target: &mut Chain) {
+    assert_eq!(rt; cut(deck, 0, 1, 1), Ok(()));
+    assert_eq!(rt; copy_into(deck, 0, target), Ok(()));
+    assert_eq!(rt; copied(target, 6), (Ok(1), [2, 9, 9, 9, 9, 9]));
+    assert_eq!(rt; cut(deck, 0, 0, 2), Err(DeckFault::TooShort));
+    assert_eq!(rt; cut(deck, 1, 0, 0), Err(DeckFault::NoSuchShare));
+    assert_eq!(rt; copy_into(deck, 1, target), Err(DeckFault::NoSuchShare));
+    assert_eq!(rt; released(deck, 0), Ok((1, [Some(4), None])));
 }
 
 #[test]
 fn cuts_a_share_and_copies_it(rt: HostRuntime) -> Result<(), Fail> {
-    let mut chain = segment(rt.alloc(), 4)?;
-    chain.append(&[1, 2, 3])?;
-    let mut deck = deck_of(rt.alloc(), chain)?;
-    assert_eq!(rt; deck.cut(0, 1, 1), Ok(()));
+    let mut deck = deck_of(rt.alloc(), three_bytes(rt.alloc())?)?;
     let mut target = segment(rt.alloc(), 9)?;
     target.append(&[9; 40])?;
-    assert_eq!(rt; deck.copy_into(0, &mut target), Ok(()));
-    assert_eq!(rt; target.len(), 1);
-    assert_eq!(rt; target.byte(0), Some(2));
-    assert_eq!(rt; deck.cut(0, 0, 2), Err(DeckFault::TooShort));
-    assert_eq!(rt; deck.cut(1, 0, 0), Err(DeckFault::NoSuchShare));
-    assert_eq!(rt; deck.copy_into(1, &mut target), Err(DeckFault::NoSuchShare));
-    let freed = deck.release(0)?;
-    let back = freed.get(0).ok_or("back")?;
-    assert_eq!(rt; numbers(back).as_slice(), [4].as_slice());
-    assert_eq!(rt; back.len(), 0);
-    assert_eq!(rt; back.headroom(), 128);
+    cuts_and_copies(&rt, &mut deck, &mut target);
     Ok(())
 }
 
@@ -57,67 +65,11 @@ fn copies_only_what_has_room(rt: HostRuntime) -> Result<(), Fail> {
     chain.stretch(65)?;
     let deck = deck_of(rt.alloc(), chain)?;
     let mut small = segment(rt.alloc(), 9)?;
-    assert_eq!(rt; deck.copy_into(0, &mut small), Err(DeckFault::NoTailroom));
+    assert_eq!(rt; copy_into(&deck, 0, &mut small), Err(DeckFault::NoTailroom));
     let mut large = pair(rt.alloc(), 8, 9)?;
-    assert_eq!(rt; deck.copy_into(0, &mut large), Ok(()));
+    assert_eq!(rt; copy_into(&deck, 0, &mut large), Ok(()));
     assert_eq!(rt; large.len(), 65);
     Ok(())
-}
-
-/// Shares `chain` in a deck without shares, once more where memory was refused.
-fn share(deck: &mut Deck, chain: Chain) -> Result<u32, (Chain, DeckFault)>
-    requires { deck.old.live ≡ [] }
-{
-    match deck.share(chain) {
-        Err((chain, DeckFault::Memory)) => deck.share(chain),
-        answer => answer,
-    }
-}
-
-/// Whichever allocation is refused, the deck and the chain are then as they were, and the next try succeeds.
-#[test]
-fn is_as_it_was_without_memory(rt: HostRuntime) -> Result<(), Fail> {
-    let mut chain = segment(rt.alloc(), 4)?;
-    chain.append(&[1, 2, 3])?;
-    let mut deck = Deck::new(rt.alloc());
-    let Ok(id) = share(&mut deck, chain) else {
-        return Err(Fail::new("the chain isn't shared"));
-    };
-    assert_eq!(rt; id, 0);
-    for id in 1..MANY {
-        let answer = deck.again(0);
-        if answer == Err(DeckFault::Memory) {
-            assert_eq!(rt; deck.cut(id, 0, 0), Err(DeckFault::NoSuchShare));
-            assert_eq!(rt; deck.again(0), Ok(id));
-        } else {
-            assert_eq!(rt; answer, Ok(id));
-        }
-    }
-    for id in 1..MANY {
-        assert!(rt; deck.release(id)?.is_empty());
-    }
-    let mut burst = Burst::new();
-    assert_eq!(rt; deck.release_into(0, &mut burst), Ok(()));
-    assert_eq!(rt; burst.len(), 1);
-    Ok(())
-}
-
-/// Releases share `id`, and tells the numbers of the segments that come back.
-fn released(deck: &mut Deck, id: u32) -> Result<ArrayVec<u32, 64>, Fail> {
-    let mut all = ArrayVec::new();
-    let freed = deck.release(id)?;
-    for i in 0..freed.len().min(2) {
-        let Some(chain) = freed.get(i) else {
-            return Err(Fail::new("fewer segments than the list is long"));
-        };
-        for number in numbers(chain).as_slice() {
-            if all.is_full() {
-                return Err(Fail::new("more than 64 segments"));
-            }
-            all.push(*number);
-        }
-    }
-    Ok(all)
 }
 
 /// Hundreds of shares of many packets at once, each shared once more: a segment comes back with the last mention of its
@@ -126,13 +78,13 @@ fn released(deck: &mut Deck, id: u32) -> Result<ArrayVec<u32, 64>, Fail> {
 fn keeps_hundreds_of_shares(rt: HostRuntime) -> Result<(), Fail> {
     let mut deck = deck_of_pairs(rt.alloc(), PACKETS)?;
     for id in 0..PACKETS {
-        assert_eq!(rt; deck.again(id), Ok(PACKETS + id), "at {id}");
+        assert_eq!(rt; again(&mut deck, id), Ok(PACKETS + id), "at {id}");
     }
     for id in 0..PACKETS {
         let id = PACKETS - 1 - id;
-        assert!(rt; released(&mut deck, id)?.is_empty(), "at {id}");
-        let last = released(&mut deck, PACKETS + id)?;
-        assert_eq!(rt; last.as_slice(), [2 * id, 2 * id + 1].as_slice(), "at {id}");
+        assert_eq!(rt; released(&mut deck, id), Ok(NOTHING), "at {id}");
+        let last = released(&mut deck, PACKETS + id);
+        assert_eq!(rt; last, Ok((2, [Some(2 * id), Some(2 * id + 1)])), "at {id}");
     }
     Ok(())
 }
@@ -143,14 +95,10 @@ fn releases_two_packets_in_both_orders(rt: HostRuntime) -> Result<(), Fail> {
     for first in [0, 1] {
         let mut deck = deck_of_pairs(rt.alloc(), 2)?;
         for id in [first, 1 - first] {
-            let freed = released(&mut deck, id)?;
-            assert_eq!(rt;
-                freed.as_slice(),
-                [2 * id, 2 * id + 1].as_slice(),
-                "at {id}"
-            );
+            let freed = released(&mut deck, id);
+            assert_eq!(rt; freed, Ok((2, [Some(2 * id), Some(2 * id + 1)])), "at {id}");
         }
-        assert_eq!(rt; deck.release(first).err(), Some(DeckFault::NoSuchShare));
+        assert_eq!(rt; released(&mut deck, first), Err(DeckFault::NoSuchShare));
     }
     Ok(())
 }
@@ -158,9 +106,110 @@ fn releases_two_packets_in_both_orders(rt: HostRuntime) -> Result<(), Fail> {
 #[test]
 fn has_no_share_at_first(rt: HostRuntime) -> Result<(), Fail> {
     let mut deck = Deck::new(rt.alloc());
-    assert_eq!(rt; deck.again(0), Err(DeckFault::NoSuchShare));
-    assert_eq!(rt; deck.cut(0, 0, 0), Err(DeckFault::NoSuchShare));
+    assert_eq!(rt; again(&mut deck, 0), Err(DeckFault::NoSuchShare));
+    assert_eq!(rt; cut(&mut deck, 0, 0, 0), Err(DeckFault::NoSuchShare));
     Ok(())
+}
+
+/// Shares a chain in a deck without shares, with one more piece of memory given back each time that it is refused: how
+/// often it was, and the id.
+fn share_at_last(deck: &mut Deck, mut chain: Chain, held: &mut Vec<Vec<u8>>) -> Option<(usize, u32)>
+    requires { deck.old.live ≡ [] }
+{
+    for refused in 0..held.len() {
+        match deck.share(chain) {
+            Ok(id) => return Some((refused, id)),
+            Err((back, DeckFault::Memory)) => chain = back,
+            Err(_) => return None,
+        }
+        held.pop();
+    }
+    None
+}
+
+/// Makes one more share, in the same way: how often memory was refused, each time with the shares as they were.
+fn again_at_last(deck: &mut Deck, new: u32, held: &mut Vec<Vec<u8>>) -> Option<usize> {
+    for refused in 0..held.len() {
+        match again(deck, 0) {
+            Ok(id) if id == new => return Some(refused),
+            Err(DeckFault::Memory) => {}
+            _ => return None,
+        }
+        if cut(deck, new, 0, 0) != Err(DeckFault::NoSuchShare) {
+            return None;
+        }
+        held.pop();
+    }
+    None
+}
+
+/// Makes shares up to `MANY`: how often memory was refused.
+fn many_at_last(deck: &mut Deck, held: &mut Vec<Vec<u8>>) -> Option<usize> {
+    let mut all = 0usize;
+    for id in 1..MANY {
+        all = all.saturating_add(again_at_last(deck, id, held)?);
+    }
+    Some(all)
+}
+
+#[test]
+fn is_as_it_was_without_memory(rt: HostRuntime) -> Result<(), Fail> {
+    let mut deck = Deck::new(rt.alloc());
+    let chain = three_bytes(rt.alloc())?;
+    let mut held = take_all(rt.alloc())?.ok_or("memory can't be used up in this build")?;
+    let shared = share_at_last(&mut deck, chain, &mut held);
+    let more = many_at_last(&mut deck, &mut held);
+    drop(held);
+    assert!(rt; shared.is_some_and(|told| told.0 > 0 && told.1 == 0));
+    assert!(rt; more.is_some_and(|refused| refused > 0));
+    for id in 1..MANY {
+        assert_eq!(rt; released(&mut deck, id), Ok(NOTHING));
+    }
+    assert_eq!(rt; released_into(&mut deck, 0), Ok(1));
+    Ok(())
+}
+
+/// The calls of a packet that change its bytes.
+fn changes(rt: &impl Abort, chain: &mut Chain) {
+    let rows = [
+        (Call::Append(&[9; 60]), Ok(()), [128, 60, 4]),
+        (Call::Prepend(&[9; 8]), Ok(()), [120, 68, 4]),
+        (Call::Adj(8), Ok(()), [128, 60, 4]),
+        (Call::Trim(50), Ok(()), [128, 10, 54]),
+        (Call::Set(9, 1), Ok(()), [128, 10, 54]),
+        (Call::Write(0, &[2; 10]), Ok(()), [128, 10, 54]),
+        (Call::Fill(&[3; 64]), Ok(()), [128, 64, 0]),
+        (Call::Stretch(0), Ok(()), FRESH),
+        (Call::Resize(64), Ok(()), [128, 64, 0]),
+    ];
+    go(rt, chain, &rows);
+    chain.reset();
+    go(rt, chain, &[(Call::Append(&[9; 6]), Ok(()), [128, 6, 58])]);
+}
+
+/// Links two segments, and takes them apart again.
+fn parts(rt: &impl Abort, one: Chain, other: Chain) -> Result<(), Fail>
+    requires { AreDistinct (numbers_of one ++ numbers_of other) }
+{
+    let (first, rest) = both(one, other)?.take_first();
+    let mut apart = Burst::<Chain, 1>::new();
+    first.take_apart(&mut apart);
+    assert_eq!(rt; (apart.len(), rest.is_some()), (1, true));
+    Ok(())
+}
+
+/// Every request is refused, and the calls of packets and decks that make none go on.
+#[test]
+fn goes_on_without_memory(rt: HostRuntime) -> Result<(), Fail> {
+    let mut deck = deck_of(rt.alloc(), three_bytes(rt.alloc())?)?;
+    let mut chain = segment(rt.alloc(), 9)?;
+    let (one, other) = (segment(rt.alloc(), 1)?, segment(rt.alloc(), 2)?);
+    let held = take_all(rt.alloc())?.ok_or("memory can't be used up in this build")?;
+    changes(&rt, &mut chain);
+    cuts_and_copies(&rt, &mut deck, &mut chain);
+    let linked = parts(&rt, one, other);
+    drop(held);
+    linked
 }
 
 #[test]

@@ -16,6 +16,3 @@ pub use fault::SettingsFault;
 pub use ipv4::{Hop, Ports};
 pub use key::Key;
 pub use read::Settings;
-
-#[cfg(test)]
-mod tests;

@@ -1,13 +1,13 @@
 //! Worked documents, the texts of faults, and what is left where memory is refused.
 
-use crate::{Key, Settings, SettingsFault};
 use exhaust::take_all;
+use settings::{Key, Settings, SettingsFault};
 use std::alloc::{AllocError, Global};
 use std::process::Abort;
 use std::test::Fail;
 
-/// The settings of one port and one route.
-const EXAMPLE: &str = "buffers = 256\n[[port]]\nmac = \"02:00:00:00:00:10\"\n[[route]]\n\
+/// The settings of one port and one route, behind their first line.
+const REST: &str = "\n[[port]]\nmac = \"02:00:00:00:00:10\"\n[[route]]\n\
     prefix = \"10.0.0.0/8\"\nport = 0\nto = \"02:00:00:00:00:20\"\n";
 
 /// One port, no buffers yet, and a small route table.
@@ -61,52 +61,75 @@ fn refused_text<R: Abort + AllocGlobal>(rt: &R, text: &str, told: &str) -> Resul
     Ok(())
 }
 
+/// Tests that each of these texts, told by its parts, is refused, and how the refusal is told.
+fn all_refused<R: Abort + AllocGlobal>(rt: &R, rows: &[(&[&str], &str)]) -> Result<(), Fail> {
+    for (parts, told) in rows {
+        refused(rt, parts, told)?;
+    }
+    Ok(())
+}
+
 /// Reads a text of these parts, which should be well.
 fn well<R: AllocGlobal>(rt: &R, parts: &[&str]) -> Result<Settings, Fail> {
     let text = joined(rt.alloc(), parts)?;
     Ok(read(rt.alloc(), text.as_bytes())?)
 }
 
-#[test]
-fn the_example(rt: HostRuntime) -> Result<(), Fail> {
-    let settings = read(rt.alloc(), EXAMPLE.as_bytes())?;
+/// How many buffers these parts ask for.
+fn buffers<R: AllocGlobal>(rt: &R, parts: &[&str]) -> Result<u32, Fail> {
+    Ok(well(rt, parts)?.buffers)
+}
+
+/// The hop of an address.
+fn hop(settings: &Settings, address: [u8; 4]) -> Option<u32> {
+    settings.table.lookup(u32::from_be_bytes(address))
+}
+
+/// The numbers of the example, its routes and its ports.
+fn are_the_examples(rt: &impl Abort, settings: &Settings) {
     let numbers = [
         settings.buffers,
         settings.headroom,
         settings.room,
         settings.cache,
+        settings.burst,
+        settings.ring,
     ];
-    assert_eq!(rt; numbers, [256, 128, 2048, 32]);
-    assert_eq!(rt; [settings.burst, settings.ring], [32, 512]);
-    let table = &settings.table;
-    assert_eq!(rt; table.lookup(u32::from_be_bytes([10, 1, 2, 3])), Some(0));
-    assert_eq!(rt; table.lookup(u32::from_be_bytes([11, 1, 2, 3])), None);
-    let ports = &settings.ports;
-    assert_eq!(rt; ports.sources.as_slice(), [[2, 0, 0, 0, 0, 16]].as_slice());
-    assert_eq!(rt; ports.hops.len(), 1);
-    assert_eq!(rt; ports.hops[0].port, 0);
-    assert_eq!(rt; ports.hops[0].to, [2, 0, 0, 0, 0, 32]);
+    assert_eq!(rt; numbers, [256, 128, 2048, 32, 32, 512]);
+    let hops = [[10, 1, 2, 3], [11, 1, 2, 3]].map(|address| hop(settings, address));
+    assert_eq!(rt; hops, [Some(0), None]);
+    let sources = settings.ports.sources.as_slice();
+    assert_eq!(rt; sources, [[2, 0, 0, 0, 0, 16]].as_slice());
+    match settings.ports.hops.as_slice() {
+        [hop] => assert_eq!(rt; (hop.port, hop.to), (0, [2, 0, 0, 0, 0, 32])),
+        _ => assert!(rt; false, "one hop"),
+    }
+}
+
+#[test]
+fn the_example(rt: HostRuntime) -> Result<(), Fail> {
+    let settings = well(&rt, &["buffers = 256", REST])?;
+    are_the_examples(&rt, &settings);
     Ok(())
 }
 
 #[test]
 fn the_example_with_other_values(rt: HostRuntime) -> Result<(), Fail> {
-    let rest = EXAMPLE
-        .strip_prefix("buffers = 256")
-        .ok_or("the first line")?;
-    refused(&rt, &["buffers = 111", rest], "TooFewBuffers")?;
-    assert_eq!(rt; well(&rt, &["buffers = 112", rest])?.buffers, 112);
-    refused(&rt, &["buffers = 256\nroom = 63", rest], "BadValue room")?;
-    refused(
-        &rt,
-        &["buffers = 256", PORT, ROUTE, "prefix = \"10.0.0.0/08\""],
-        "BadRoute 0",
-    )?;
-    refused(
-        &rt,
-        &["buffers = 256\n", ROUTE, "prefix = \"10.0.0.0/8\""],
-        "Missing port",
-    )
+    let rows: [(&[&str], &str); 4] = [
+        (&["buffers = 111", REST], "TooFewBuffers"),
+        (&["buffers = 256\nroom = 63", REST], "BadValue room"),
+        (
+            &["buffers = 256", PORT, ROUTE, "prefix = \"10.0.0.0/08\""],
+            "BadRoute 0",
+        ),
+        (
+            &["buffers = 256\n", ROUTE, "prefix = \"10.0.0.0/8\""],
+            "Missing port",
+        ),
+    ];
+    all_refused(&rt, &rows)?;
+    assert_eq!(rt; buffers(&rt, &["buffers = 112", REST])?, 112);
+    Ok(())
 }
 
 #[test]
@@ -140,20 +163,23 @@ fn numbers_and_names_of_faults(rt: HostRuntime) -> Result<(), Fail> {
 
 #[test]
 fn texts_that_are_no_documents(rt: HostRuntime) -> Result<(), Fail> {
-    refused(&rt, &["buffers = 9223372036854775808", PORT], "NotToml")?;
-    refused(
-        &rt,
-        &["buffers = 256\nignored = 9223372036854775808", PORT],
-        "NotToml",
-    )?;
-    refused(&rt, &["\u{feff}buffers = 256", PORT], "NotToml")?;
-    refused(&rt, &["buffers = 256\nbuffers = 256", PORT], "NotToml")?;
-    refused(&rt, &["buffers 256", PORT], "NotToml")?;
+    let rows: [(&[&str], &str); 6] = [
+        (&["buffers = 9223372036854775808", PORT], "NotToml"),
+        (
+            &["buffers = 256\nignored = 9223372036854775808", PORT],
+            "NotToml",
+        ),
+        (&["\u{feff}buffers = 256", PORT], "NotToml"),
+        (&["buffers = 256\nbuffers = 256", PORT], "NotToml"),
+        (&["buffers 256", PORT], "NotToml"),
+        (&[""], "Missing buffers"),
+    ];
+    all_refused(&rt, &rows)?;
     assert_eq!(rt;
         read(rt.alloc(), b"buffers = 256 # \xff\n").err(),
         Some(SettingsFault::NotToml)
     );
-    refused(&rt, &[""], "Missing buffers")
+    Ok(())
 }
 
 #[test]
@@ -172,148 +198,171 @@ fn kinds_of_numbers(rt: HostRuntime) -> Result<(), Fail> {
         refused(&rt, &["buffers = ", value, PORT], "BadValue buffers")?;
     }
     for value in ["0x100", "2_5_6", "+256", "0o400", "0b100000000"] {
-        assert_eq!(rt; well(&rt, &["buffers = ", value, PORT])?.buffers, 256);
+        assert_eq!(rt; buffers(&rt, &["buffers = ", value, PORT])?, 256);
     }
     refused(&rt, &["buffers = 1", PORT], "TooFewBuffers")
 }
 
+/// The beginning of an array of ports, and a port in it.
+const PORTS: &str = "buffers = 256\nbits = 16\nport = [";
+
+const MAC: &str = "{mac = \"02:00:00:00:00:10\"},";
+
 #[test]
 fn arrays_of_ports(rt: HostRuntime) -> Result<(), Fail> {
-    let front = "buffers = 256\nbits = 16\nport = [";
-    let mac = "{mac = \"02:00:00:00:00:10\"},";
-    refused(&rt, &[front, "{}, 1]"], "BadValue port")?;
-    refused(&rt, &[front, "1, {}]"], "BadValue port")?;
-    refused(&rt, &[front, "]"], "Missing port")?;
-    refused(
-        &rt,
-        &["buffers = 256\n[port]\nmac = \"02:00:00:00:00:10\""],
-        "BadValue port",
-    )?;
-    refused(&rt, &[front, mac, "{}, {mac = 1}]"], "Missing mac")?;
-    refused(&rt, &[front, mac, "{mac = 1}, {}]"], "BadValue mac")?;
-    refused(
-        &rt,
-        &[front, "{mac = \"02:00:00:00:00:1G\"}]"],
-        "BadValue mac",
-    )?;
-    let mut text = joined(rt.alloc(), &[front])?;
+    let rows: [(&[&str], &str); 7] = [
+        (&[PORTS, "{}, 1]"], "BadValue port"),
+        (&[PORTS, "1, {}]"], "BadValue port"),
+        (&[PORTS, "]"], "Missing port"),
+        (
+            &["buffers = 256\n[port]\nmac = \"02:00:00:00:00:10\""],
+            "BadValue port",
+        ),
+        (&[PORTS, MAC, "{}, {mac = 1}]"], "Missing mac"),
+        (&[PORTS, MAC, "{mac = 1}, {}]"], "BadValue mac"),
+        (&[PORTS, "{mac = \"02:00:00:00:00:1G\"}]"], "BadValue mac"),
+    ];
+    all_refused(&rt, &rows)
+}
+
+/// As many ports as there may be, and this end.
+fn all_ports(alloc: Global, end: &str) -> Result<String, AllocError> {
+    let mut text = joined(alloc, &[PORTS])?;
     for _ in 0..MAX_PORTS {
-        text.push_str(mac)?;
+        text.push_str(MAC)?;
     }
-    let mut more = text.clone()?;
-    text.push_str("]")?;
-    assert_eq!(rt; well(&rt, &[text.as_str()])?.ports.sources.len(), 16);
-    more.push_str("{}]")?;
-    refused_text(&rt, more.as_str(), "BadValue port")
+    text.push_str(end)?;
+    Ok(text)
 }
 
 #[test]
+fn sixteen_ports_and_more(rt: HostRuntime) -> Result<(), Fail> {
+    let most = all_ports(rt.alloc(), "]")?;
+    assert_eq!(rt; well(&rt, &[most.as_str()])?.ports.sources.len(), 16);
+    refused_text(&rt, all_ports(rt.alloc(), "{}]")?.as_str(), "BadValue port")
+}
+
+/// One port, and where a route leads.
+const ONE_PORT: &str = "buffers = 256\nbits = 16\nport = [{mac = \"02:00:00:00:00:10\"}]\n";
+
+const TO: &str = "to = \"02:00:00:00:00:20\"";
+
+#[test]
 fn arrays_of_routes(rt: HostRuntime) -> Result<(), Fail> {
-    let port = "buffers = 256\nbits = 16\nport = [{mac = \"02:00:00:00:00:10\"}]\n";
-    let to = "to = \"02:00:00:00:00:20\"";
-    assert_eq!(rt; well(&rt, &[port, "route = []"])?.ports.hops.len(), 0);
-    refused(&rt, &[port, "route = [{}, 1]"], "BadValue route")?;
-    refused(&rt, &[port, "[route]\nport = 0"], "BadValue route")?;
-    refused(
-        &rt,
-        &[
-            port,
-            "route = [{prefix = \"1.0.0.0/8\", port = 0, ",
-            to,
-            "}, {}]",
-        ],
-        "BadRoute 1",
-    )?;
-    refused(
-        &rt,
-        &[port, "route = [{prefix = 1, port = 0, ", to, "}]"],
-        "BadRoute 0",
-    )?;
-    refused(
-        &rt,
-        &[
-            port,
-            "route = [{prefix = \"1.0.0.0/8\", port = 0.0, ",
-            to,
-            "}]",
-        ],
-        "BadRoute 0",
-    )?;
-    refused(
-        &rt,
-        &[
-            port,
-            "route = [{prefix = \"1.0.0.0/8\", port = 1, ",
-            to,
-            "}]",
-        ],
-        "BadRoute 0",
-    )?;
-    refused(
-        &rt,
-        &[port, "route = [{prefix = \"1.0.0.0/8\", port = 0, to = 1}]"],
-        "BadRoute 0",
-    )?;
-    refused(
-        &rt,
-        &[port, "route = [{prefix = \"1.0.0.0/8\", port = 0}]"],
-        "BadRoute 0",
-    )
+    assert_eq!(rt; well(&rt, &[ONE_PORT, "route = []"])?.ports.hops.len(), 0);
+    let rows: [(&[&str], &str); 8] = [
+        (&[ONE_PORT, "route = [{}, 1]"], "BadValue route"),
+        (&[ONE_PORT, "[route]\nport = 0"], "BadValue route"),
+        (
+            &[
+                ONE_PORT,
+                "route = [{prefix = \"1.0.0.0/8\", port = 0, ",
+                TO,
+                "}, {}]",
+            ],
+            "BadRoute 1",
+        ),
+        (
+            &[ONE_PORT, "route = [{prefix = 1, port = 0, ", TO, "}]"],
+            "BadRoute 0",
+        ),
+        (
+            &[
+                ONE_PORT,
+                "route = [{prefix = \"1.0.0.0/8\", port = 0.0, ",
+                TO,
+                "}]",
+            ],
+            "BadRoute 0",
+        ),
+        (
+            &[
+                ONE_PORT,
+                "route = [{prefix = \"1.0.0.0/8\", port = 1, ",
+                TO,
+                "}]",
+            ],
+            "BadRoute 0",
+        ),
+        (
+            &[
+                ONE_PORT,
+                "route = [{prefix = \"1.0.0.0/8\", port = 0, to = 1}]",
+            ],
+            "BadRoute 0",
+        ),
+        (
+            &[ONE_PORT, "route = [{prefix = \"1.0.0.0/8\", port = 0}]"],
+            "BadRoute 0",
+        ),
+    ];
+    all_refused(&rt, &rows)
 }
 
 #[test]
 fn the_order_of_checks(rt: HostRuntime) -> Result<(), Fail> {
-    refused(&rt, &["room = 1\nport = 1"], "Missing buffers")?;
-    refused(
-        &rt,
-        &["groups = -1\nbuffers = 1\nport = 1"],
-        "BadValue groups",
-    )?;
-    refused(&rt, &["buffers = 1\nport = []\nroute = 1"], "Missing port")?;
-    refused(&rt, &["buffers = 1\nport = [{}]\nroute = 1"], "Missing mac")?;
-    refused(&rt, &["buffers = 1", PORT, "[[route]]"], "BadRoute 0")?;
-    refused(
-        &rt,
-        &["buffers = 1", PORT, ROUTE, "prefix = \"1.0.0.0/8\""],
-        "TooFewBuffers",
-    )
+    let rows: [(&[&str], &str); 6] = [
+        (&["room = 1\nport = 1"], "Missing buffers"),
+        (&["groups = -1\nbuffers = 1\nport = 1"], "BadValue groups"),
+        (&["buffers = 1\nport = []\nroute = 1"], "Missing port"),
+        (&["buffers = 1\nport = [{}]\nroute = 1"], "Missing mac"),
+        (&["buffers = 1", PORT, "[[route]]"], "BadRoute 0"),
+        (
+            &["buffers = 1", PORT, ROUTE, "prefix = \"1.0.0.0/8\""],
+            "TooFewBuffers",
+        ),
+    ];
+    all_refused(&rt, &rows)
+}
+
+const NO_GROUP: &str = "buffers = 256\ngroups = 0";
+
+const ONE_GROUP: &str = "buffers = 256\ngroups = 1";
+
+/// A prefix that needs a group.
+const DEEP: &str = "prefix = \"10.1.2.3/25\"\n";
+
+#[test]
+fn routes_beyond_the_groups(rt: HostRuntime) -> Result<(), Fail> {
+    let rows: [(&[&str], &str); 5] = [
+        (&[NO_GROUP, PORT_ALONE, ROUTE, DEEP], "BadRoute 0"),
+        (
+            &[NO_GROUP, PORT_ALONE, ROUTE, DEEP, "[[route]]"],
+            "BadRoute 0",
+        ),
+        (
+            &[
+                NO_GROUP,
+                "\nbits = 16",
+                PORT_ALONE,
+                ROUTE,
+                "prefix = \"10.1.0.0/17\"",
+            ],
+            "BadRoute 0",
+        ),
+        (
+            &[ONE_GROUP, PORT_ALONE, ROUTE, DEEP, "[[route]]"],
+            "BadRoute 1",
+        ),
+        (
+            &[
+                ONE_GROUP,
+                PORT_ALONE,
+                ROUTE,
+                DEEP,
+                ROUTE,
+                "prefix = \"10.1.3.0/25\"\n",
+            ],
+            "BadRoute 1",
+        ),
+    ];
+    all_refused(&rt, &rows)
 }
 
 #[test]
-fn routes_that_share_a_prefix_and_groups(rt: HostRuntime) -> Result<(), Fail> {
-    let no_group = "buffers = 256\ngroups = 0";
-    let deep = "prefix = \"10.1.2.3/25\"\n";
-    refused(&rt, &[no_group, PORT_ALONE, ROUTE, deep], "BadRoute 0")?;
-    refused(
-        &rt,
-        &[no_group, PORT_ALONE, ROUTE, deep, "[[route]]"],
-        "BadRoute 0",
-    )?;
-    refused(
-        &rt,
-        &[
-            no_group,
-            "\nbits = 16",
-            PORT_ALONE,
-            ROUTE,
-            "prefix = \"10.1.0.0/17\"",
-        ],
-        "BadRoute 0",
-    )?;
-    let one_group = "buffers = 256\ngroups = 1";
-    refused(
-        &rt,
-        &[one_group, PORT_ALONE, ROUTE, deep, "[[route]]"],
-        "BadRoute 1",
-    )?;
-    let other = "prefix = \"10.1.3.0/25\"\n";
-    refused(
-        &rt,
-        &[one_group, PORT_ALONE, ROUTE, deep, ROUTE, other],
-        "BadRoute 1",
-    )?;
+fn routes_that_share_a_group(rt: HostRuntime) -> Result<(), Fail> {
     let again = "prefix = \"10.1.2.100/25\"\n";
-    let settings = well(&rt, &[one_group, PORT_ALONE, ROUTE, deep, ROUTE, again])?;
+    let settings = well(&rt, &[ONE_GROUP, PORT_ALONE, ROUTE, DEEP, ROUTE, again])?;
     assert_eq!(rt;
         settings.table.lookup(u32::from_be_bytes([10, 1, 2, 5])),
         Some(1)
@@ -340,26 +389,26 @@ fn many_tables(rt: HostRuntime) -> Result<(), Fail> {
     refused_text(&rt, text.as_str(), "BadValue route")
 }
 
-#[test]
-fn many_routes(rt: HostRuntime) -> Result<(), Fail> {
-    let mut text = joined(rt.alloc(), &["buffers = 256\nbits = 16", PORT_ALONE])?;
+/// `SOME_ROUTES` routes, each to an address of its own, and this end.
+fn some_routes(alloc: Global, end: &str) -> Result<String, Fail> {
+    let mut text = joined(alloc, &["buffers = 256\nbits = 16", PORT_ALONE])?;
     for i in 0u32..SOME_ROUTES {
         let (third, fourth) = (i / 256, i % 256);
-        let prefix = format!(in rt.alloc(); "prefix = \"10.0.{third}.{fourth}/32\"\n")?;
+        let prefix = format!(in alloc; "prefix = \"10.0.{third}.{fourth}/32\"\n")?;
         text.push_str(ROUTE)?;
         text.push_str(prefix.as_str())?;
     }
-    let settings = well(&rt, &[text.as_str()])?;
-    assert_eq!(rt;
-        settings.table.lookup(u32::from_be_bytes([10, 0, 11, 183])),
-        Some(2999)
-    );
-    assert_eq!(rt;
-        settings.table.lookup(u32::from_be_bytes([10, 0, 11, 184])),
-        None
-    );
-    text.push_str("[[route]]\n")?;
-    refused_text(&rt, text.as_str(), "BadRoute 3000")
+    text.push_str(end)?;
+    Ok(text)
+}
+
+#[test]
+fn many_routes(rt: HostRuntime) -> Result<(), Fail> {
+    let settings = well(&rt, &[some_routes(rt.alloc(), "")?.as_str()])?;
+    let hops = [[10, 0, 11, 183], [10, 0, 11, 184]].map(|address| hop(&settings, address));
+    assert_eq!(rt; hops, [Some(2999), None]);
+    let more = some_routes(rt.alloc(), "[[route]]\n")?;
+    refused_text(&rt, more.as_str(), "BadRoute 3000")
 }
 
 /// Reads, with one more piece of memory given back each time that it is refused: how often it was, and what was

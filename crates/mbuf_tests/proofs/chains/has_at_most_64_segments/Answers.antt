@@ -2,7 +2,7 @@ use Rattle.std.proofs.Common.{◌++◌, List, sym, subst}
 use Rattle.burst.specs.Numbers.{AreDistinct}
 use Rattle.mbuf.specs.Buffer.{Buffer}
 use Rattle.mbuf.specs.Chain.{numbers_of}
-use Rattle.mbuf.proofs.tests.has_at_most_64_segments.Goals as goal
+use Rattle.mbuf_tests.proofs.chains.has_at_most_64_segments.Goals as goal
 
 pub chain-requires : goal.chain-requires
 chain-requires g c =

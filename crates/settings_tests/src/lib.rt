@@ -1,0 +1,5 @@
+//! Worked cases of settings, as tests: a crate above it, so that it is proved once.
+#![tactic(auto)]
+
+#[cfg(test)]
+mod documents;
