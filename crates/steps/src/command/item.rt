@@ -1,6 +1,7 @@
 //! The items and the lists of numbers of a line.
 
-ghost use Rattle.std.specs.Prelude.{◌≡◌, IfOk};
+ghost use Rattle.std.specs.Prelude.{◌≡◌, [], ◌∷◌, IfOk};
+ghost use Rattle.ringcore_laws.specs.declared.contents.Item.TheVariants.{Buffers};
 ghost use Rattle.lines.specs.Text.{texts, number_of};
 ghost use Rattle.steps.specs.Forms.{each_of, item_of, buffers_of, signs_part};
 
@@ -29,7 +30,7 @@ pub fn numbers_of(alloc: Global, words: &[&[u8]]) -> Result<Option<Numbers>, All
 pub fn items_of(alloc: Global, words: &[&[u8]]) -> Result<Option<Items>, AllocError>
     ensures { IfOk result (λ items. items ≡ each_of item_of (texts words.now)) }
 {
-    let mut items = Vec::new(alloc);
+    let mut items = Vec::with_capacity(alloc, words.len())?;
     for word in words {
         match item_of(alloc, word)? {
             Some(item) => items.push(item)?,
@@ -53,8 +54,33 @@ fn item_of(alloc: Global, word: &[u8]) -> Result<Option<Item>, AllocError>
     }
 }
 
-/// The item that carries the buffers `N+M+..`, up to 64.
+/// The item that carries the buffers `N+M+..`, up to 64. Most carry one, which is a number without a sign.
 fn buffers_of(alloc: Global, digits: &[u8]) -> Result<Option<Item>, AllocError>
+    ensures { IfOk result (λ item. item ≡ buffers_of digits.now) }
+{
+    match number_of(digits) {
+        Some(n) => {
+            let item = one_buffer(alloc, n)?;
+            Ok(Some(item))
+        }
+        None => {
+            let item = several_buffers(alloc, digits)?;
+            Ok(item)
+        }
+    }
+}
+
+/// The item that carries one buffer.
+fn one_buffer(alloc: Global, n: u64) -> Result<Item, AllocError>
+    ensures { IfOk result (λ item. item ≡ Buffers (n ∷ [])) }
+{
+    let mut numbers = Vec::with_capacity(alloc, 1)?;
+    numbers.push(n)?;
+    Ok(Item::Buffers(Numbers::of(numbers)))
+}
+
+/// The item that carries the buffers between the signs.
+fn several_buffers(alloc: Global, digits: &[u8]) -> Result<Option<Item>, AllocError>
     ensures { IfOk result (λ item. item ≡ buffers_of digits.now) }
 {
     let parts = parts_of(alloc, digits)?;
