@@ -27,14 +27,3 @@ pub use pcapio_laws::{ByteOrder, CapFault, MOST_CAPTURED, Resolution};
 pub use reader::Reader;
 pub use record::{Head, Record};
 pub use writer::Writer;
-
-#[cfg(test)]
-mod device_tests;
-#[cfg(test)]
-mod example;
-#[cfg(test)]
-mod foreign_tests;
-#[cfg(test)]
-mod memory_tests;
-#[cfg(test)]
-mod tests;

@@ -1,19 +1,14 @@
 //! Worked files: what their cuts are, how they are refused, and what is written of them.
-use crate::example::{FILE, RECORDS, WRITTEN, capture, size_of};
-use crate::{
-    ByteOrder, CapFault, Counted, Head, Reader, Resolution, Writer, collect_records, copy_capture,
+use crate::example::{FILE, RECORDS, WRITTEN, capture, chain, size_of};
+use mbuf::Chain;
+use pcapio::{
+    ByteOrder, CapFault, Counted, Head, Reader, Record, Resolution, Writer, collect_records,
+    copy_capture,
 };
-use mbuf::{Chain, make};
 use std::alloc::Global;
 use std::io::Read;
 use std::process::Abort;
 use std::test::Fail;
-
-/// A chain of one segment with room for so many bytes.
-fn chain(alloc: Global, room: u16) -> Result<Chain, Fail> {
-    let chain = make(alloc, 1, 0, room as usize)?.pop();
-    Ok(chain.ok_or("no segment")?)
-}
 
 /// A reader of these bytes.
 fn open<'a>(alloc: Global, bytes: &'a [u8]) -> Result<Reader<&'a [u8]>, CapFault> {
@@ -36,12 +31,12 @@ fn copies_what_fits(rt: HostRuntime) -> Result<(), Fail> {
     Ok(())
 }
 
-/// How many records there are, each the worked one.
+/// How many records there are, each the worked one, and whether the end is torn.
 fn count_records<R: Read>(
     rt: &impl Abort,
     alloc: Global,
     reader: &mut Reader<R>,
-) -> Result<u8, Fail> {
+) -> Result<(u8, bool), CapFault> {
     let mut count = 0u8;
     for _ in 0..3 {
         let Some(record) = reader.next(alloc)? else {
@@ -51,77 +46,92 @@ fn count_records<R: Read>(
         assert_eq!(rt; (record.seconds, record.fraction, record.wire), (1, 5, 34));
         assert_eq!(rt; record.bytes.as_slice(), &FILE[40..74]);
     }
-    Ok(count)
+    Ok((count, reader.torn()))
+}
+
+/// What is to be told of the first `n` bytes of the worked file, where its header is whole.
+fn told_of(n: usize) -> (u8, bool) {
+    ((n >= 74) as u8, n != 24 && n != 74)
 }
 
 #[test]
 fn reads_each_cut(rt: HostRuntime) -> Result<(), Fail> {
     for n in 0..101 {
         match open(rt.alloc(), &FILE[..n]) {
-            Err(fault) => {
-                assert!(rt; n < 24);
-                assert_eq!(rt; fault, CapFault::NotPcap);
-            }
+            Err(fault) => assert_eq!(rt; (fault, n < 24), (CapFault::NotPcap, true)),
             Ok(mut reader) => {
+                let told = count_records(&rt, rt.alloc(), &mut reader);
+                assert_eq!(rt; told, Ok(told_of(n)));
                 assert!(rt; n >= 24);
-                assert_eq!(rt;
-                    count_records(&rt, rt.alloc(), &mut reader)?,
-                    (n >= 74) as u8
-                );
-                assert_eq!(rt; reader.torn(), n != 24 && n != 74);
             }
         }
     }
     Ok(())
 }
 
-/// The same by `head` and `body`: how many records are whole.
+/// The same by `head` and `body`: how many records are whole, and whether the end is torn.
+fn stream<R: Read>(
+    rt: &impl Abort,
+    reader: &mut Reader<R>,
+    chain: &mut Chain,
+) -> Result<(u8, bool), CapFault> {
+    let mut whole = 0u8;
+    for _ in 0..3 {
+        let Some(head) = reader.head()? else {
+            break;
+        };
+        assert_eq!(rt; head.captured, 34);
+        assert!(rt; chain.space() == 34);
+        if reader.body(chain)? {
+            whole = whole.wrapping_add(1);
+        }
+    }
+    assert_eq!(rt; reader.pending(), None);
+    Ok((whole, reader.torn()))
+}
+
 #[test]
 fn streams_each_cut(rt: HostRuntime) -> Result<(), Fail> {
     let mut chain = chain(rt.alloc(), 34)?;
     for n in 24..101 {
         let mut reader = open(rt.alloc(), &FILE[..n])?;
-        let mut whole = 0u8;
-        for _ in 0..3 {
-            let Some(head) = reader.head()? else {
-                break;
-            };
-            assert_eq!(rt; head.captured, 34);
-            assert!(rt; chain.space() == 34);
-            if reader.body(&mut chain)? {
-                whole = whole.wrapping_add(1);
-            }
-        }
-        assert_eq!(rt; whole, (n >= 74) as u8);
-        assert_eq!(rt; reader.torn(), n != 24 && n != 74);
-        assert_eq!(rt; reader.pending(), None);
+        let told = stream(&rt, &mut reader, &mut chain);
+        assert_eq!(rt; told, Ok(told_of(n)));
         assert_eq!(rt; chain.len(), if (74..90).contains(&n) { 34 } else { 0 });
     }
+    Ok(())
+}
+
+/// Asks for the first head of the worked file, skips its bytes, and reads on to the torn end.
+fn ask_for_heads<R: Read>(
+    rt: &impl Abort,
+    alloc: Global,
+    reader: &mut Reader<R>,
+) -> Result<(), CapFault> {
+    let head = Some(Head {
+        seconds: 1,
+        fraction: 5,
+        captured: 34,
+        wire: 34,
+    });
+    assert_eq!(rt; reader.pending(), None);
+    let told = [reader.head()?, reader.pending(), reader.head()?];
+    assert_eq!(rt; told, [head; 3]);
+    assert!(rt; reader.pending().is_some());
+    assert_eq!(rt; reader.skip(), Ok(true));
+    assert_eq!(rt; (reader.pending(), reader.torn()), (None, false));
+    let none = reader.next(alloc)?.is_none();
+    assert_eq!(rt; (none, reader.torn()), (true, true));
     Ok(())
 }
 
 #[test]
 fn tells_a_head_until_its_bytes_are_taken(rt: HostRuntime) -> Result<(), Fail> {
     let mut reader = open(rt.alloc(), &FILE)?;
-    assert_eq!(rt; reader.order(), ByteOrder::Big);
-    assert_eq!(rt; reader.resolution(), Resolution::Nano);
-    let head = Head {
-        seconds: 1,
-        fraction: 5,
-        captured: 34,
-        wire: 34,
-    };
-    assert_eq!(rt; reader.pending(), None);
-    assert_eq!(rt; reader.head(), Ok(Some(head)));
-    assert_eq!(rt; reader.pending(), Some(head));
-    assert_eq!(rt; reader.head(), Ok(Some(head)));
-    assert!(rt; reader.pending().is_some());
-    assert_eq!(rt; reader.skip(), Ok(true));
-    assert_eq!(rt; reader.pending(), None);
-    assert!(rt; !reader.torn());
-    assert!(rt; reader.next(rt.alloc())?.is_none());
-    assert!(rt; reader.torn());
-    Ok(())
+    let kind = (reader.order(), reader.resolution());
+    assert_eq!(rt; kind, (ByteOrder::Big, Resolution::Nano));
+    let asked = ask_for_heads(&rt, rt.alloc(), &mut reader);
+    Ok(asked?)
 }
 
 /// The header of a little-endian capture of microseconds.
@@ -157,34 +167,78 @@ fn lengths(captured: u32, original: u32) -> [u8; 40] {
     bytes
 }
 
+/// Reads the one head, and skips its bytes, of which there are none: its lengths, and whether they were all there.
+fn skip_one<R: Read>(
+    rt: &impl Abort,
+    reader: &mut Reader<R>,
+) -> Result<(u32, u32, bool), CapFault> {
+    let Some(head) = reader.head()? else {
+        return Err(CapFault::Read);
+    };
+    assert!(rt; reader.pending().is_some());
+    let whole = reader.skip()?;
+    assert_eq!(rt; (reader.head()?, reader.torn()), (None, !whole));
+    Ok((head.captured, head.wire, whole))
+}
+
 #[test]
 fn tells_lengths(rt: HostRuntime) -> Result<(), Fail> {
     for (captured, original, wire) in [(0, 0, 0), (0, 9, 9), (34, 0, 34), (262_144, 1, 262_144)] {
         let file = lengths(captured, original);
         let mut reader = open(rt.alloc(), &file)?;
-        let head = reader.head()?.ok_or("no head")?;
-        assert_eq!(rt; (head.captured, head.wire), (captured, wire));
-        assert!(rt; reader.pending().is_some());
-        assert_eq!(rt; reader.skip(), Ok(captured == 0));
-        assert_eq!(rt; reader.head(), Ok(None));
-        assert_eq!(rt; reader.torn(), captured != 0);
+        let told = skip_one(&rt, &mut reader);
+        assert_eq!(rt; told, Ok((captured, wire, captured == 0)));
     }
+    Ok(())
+}
+
+/// What is told of the first head, asked for twice, and whether the end is torn.
+fn head_twice<R: Read>(reader: &mut Reader<R>) -> ([Result<Option<Head>, CapFault>; 2], bool) {
+    let told = [reader.head(), reader.head()];
+    (told, reader.torn())
+}
+
+#[test]
+fn refuses_lengths_above_the_most(rt: HostRuntime) -> Result<(), Fail> {
     for captured in [262_145, u32::MAX] {
         let file = lengths(captured, 0);
-        for n in 36..40 {
+        for n in 36..41 {
             let mut reader = open(rt.alloc(), &file[..n])?;
-            assert_eq!(rt;
-                reader.head(),
-                Ok(None),
-                "a header of {n} bytes isn't whole"
-            );
-            assert!(rt; reader.torn());
+            let told = head_twice(&mut reader);
+            let fault = Err(CapFault::BadRecord);
+            let wanted = if n == 40 {
+                ([fault; 2], false)
+            } else {
+                ([Ok(None); 2], true)
+            };
+            assert_eq!(rt; told, wanted, "a header of {n} bytes");
         }
-        let mut reader = open(rt.alloc(), &file)?;
-        assert_eq!(rt; reader.head(), Err(CapFault::BadRecord));
-        assert_eq!(rt; reader.head(), Err(CapFault::BadRecord));
-        assert!(rt; !reader.torn());
     }
+    Ok(())
+}
+
+/// A file of three records of these bytes.
+fn three_pieces(alloc: Global, chain: &Chain) -> Result<Vec<u8>, Fail> {
+    let sink = Counted::new(Vec::new(alloc));
+    let Ok(mut writer) = Writer::open(alloc, sink, Resolution::Micro) else {
+        return Err(Fail::new("no memory"));
+    };
+    for number in 0..3 {
+        writer.put(number, 0, 40_000, chain)?;
+    }
+    writer.flush()?;
+    Ok(writer.into_inner().into_inner())
+}
+
+/// Reads them again.
+fn read_three<R: Read>(rt: &impl Abort, alloc: Global, reader: &mut Reader<R>) -> Result<(), Fail> {
+    for number in 0..3 {
+        let record = reader.next(alloc)?.ok_or("no record")?;
+        assert_eq!(rt; (record.seconds, record.wire), (number, 40_000));
+        assert_eq!(rt; record.bytes.as_slice(), [7; 40_000].as_slice());
+    }
+    let none = reader.next(alloc)?.is_none();
+    assert_eq!(rt; (none, reader.torn()), (true, false));
     Ok(())
 }
 
@@ -193,25 +247,21 @@ fn tells_lengths(rt: HostRuntime) -> Result<(), Fail> {
 fn passes_large_pieces(rt: HostRuntime) -> Result<(), Fail> {
     let mut chain = chain(rt.alloc(), 40_000)?;
     chain.append(&[7; 40_000])?;
-    let sink = Counted::new(Vec::new(rt.alloc()));
-    let Ok(mut writer) = Writer::open(rt.alloc(), sink, Resolution::Micro) else {
-        return Err(Fail::new("no memory"));
-    };
-    for number in 0..3 {
-        writer.put(number, 0, 40_000, &chain)?;
-    }
-    writer.flush()?;
-    let file = writer.into_inner().into_inner();
+    let file = three_pieces(rt.alloc(), &chain)?;
     assert_eq!(rt; file.len(), 120_072);
     let mut reader = open(rt.alloc(), file.as_slice())?;
-    for number in 0..3 {
-        let record = reader.next(rt.alloc())?.ok_or("no record")?;
-        assert_eq!(rt; (record.seconds, record.wire), (number, 40_000));
-        assert_eq!(rt; record.bytes.as_slice(), [7; 40_000].as_slice());
-    }
-    assert!(rt; reader.next(rt.alloc())?.is_none());
-    assert!(rt; !reader.torn());
-    Ok(())
+    read_three(&rt, rt.alloc(), &mut reader)
+}
+
+/// A record of the capture of many: its number, its size and its bytes.
+fn is_nth(rt: &impl Abort, number: u32, record: &Record) {
+    let (size, byte) = (size_of(number), (number % 251) as u8);
+    assert_eq!(rt;
+        (record.seconds, record.fraction, record.wire),
+        (number, 5, size)
+    );
+    assert_eq!(rt; record.bytes.len(), size as usize);
+    assert!(rt; record.bytes.iter().all(|b| *b == byte));
 }
 
 #[test]
@@ -221,19 +271,10 @@ fn collects_many_records(rt: HostRuntime) -> Result<(), Fail> {
         return Err(Fail::new("no reader"));
     };
     let mut list = Vec::new(rt.alloc());
-    assert_eq!(rt;
-        collect_records(rt.alloc(), &mut reader, &mut list),
-        Ok(false)
-    );
-    assert_eq!(rt; list.len(), RECORDS as usize);
+    let collected = collect_records(rt.alloc(), &mut reader, &mut list);
+    assert_eq!(rt; (collected, list.len()), (Ok(false), RECORDS as usize));
     for (number, record) in (0..RECORDS).zip(list.iter()) {
-        let (size, byte) = (size_of(number), (number % 251) as u8);
-        assert_eq!(rt;
-            (record.seconds, record.fraction, record.wire),
-            (number, 5, size)
-        );
-        assert_eq!(rt; record.bytes.len(), size as usize);
-        assert!(rt; record.bytes.iter().all(|b| *b == byte));
+        is_nth(&rt, number, record);
     }
     Ok(())
 }

@@ -1,15 +1,11 @@
 //! Devices that fail or take few bytes at once.
-use crate::example::{FILE, NEVER, Slow, Tight, WRITTEN};
-use crate::{CapFault, Counted, Reader, Resolution, Writer, copy_capture};
-use mbuf::{Chain, make};
+use crate::example::{FILE, NEVER, Slow, Tight, WRITTEN, chain};
+use mbuf::Chain;
+use pcapio::{CapFault, Counted, Reader, Resolution, Writer, copy_capture};
 use std::alloc::Global;
+use std::io::{Read, Write};
 use std::process::Abort;
 use std::test::Fail;
-
-fn chain(alloc: Global) -> Result<Chain, Fail> {
-    let chain = make(alloc, 1, 0, 34)?.pop();
-    Ok(chain.ok_or("no segment")?)
-}
 
 /// A copy of the worked file whose read or write after `fails` others fails, where one that doesn't fail has `all` of
 /// them: the fault is told, nothing is asked of the device again, and what was written is a beginning.
@@ -45,7 +41,7 @@ fn copy(
 /// Each byte is read once, and then the end.
 #[test]
 fn tells_each_read_that_fails(rt: HostRuntime) -> Result<(), Fail> {
-    let mut chain = chain(rt.alloc())?;
+    let mut chain = chain(rt.alloc(), 34)?;
     for (most, all) in [(1, 101), (7, 16), (100, 2)] {
         for fails in 0..all + 1 {
             let from = Slow::new(&FILE, most, fails);
@@ -60,7 +56,7 @@ fn tells_each_read_that_fails(rt: HostRuntime) -> Result<(), Fail> {
 /// Each byte is written once, and then the device is asked to pass them on.
 #[test]
 fn tells_each_write_that_fails(rt: HostRuntime) -> Result<(), Fail> {
-    let mut chain = chain(rt.alloc())?;
+    let mut chain = chain(rt.alloc(), 34)?;
     for (most, all) in [(1, 75), (7, 12), (128, 2)] {
         for fails in 0..all + 1 {
             let from = Slow::new(&FILE, 100, NEVER);
@@ -80,31 +76,44 @@ fn tells_each_write_that_fails(rt: HostRuntime) -> Result<(), Fail> {
     Ok(())
 }
 
+/// A read that failed is told by each call that follows.
+fn keeps_a_read<R: Read>(rt: &impl Abort, alloc: Global, reader: &mut Reader<R>) {
+    let told = [
+        reader.head().err(),
+        reader.head().err(),
+        reader.next(alloc).err(),
+    ];
+    assert_eq!(rt; told, [Some(CapFault::Read); 3]);
+    assert!(rt; !reader.torn());
+}
+
+/// A write that took no byte failed, and is told by each call that follows.
+fn keeps_a_write<W: Write>(rt: &impl Abort, writer: &mut Writer<W>, chain: &Chain) {
+    assert_eq!(rt; writer.flush(), Err(CapFault::Write));
+    assert!(rt; chain.is_empty());
+    assert_eq!(rt; writer.put(0, 0, 0, chain), Err(CapFault::Write));
+    assert_eq!(rt; writer.flush(), Err(CapFault::Write));
+}
+
 #[test]
 fn keeps_a_fault_and_leaves_the_device_alone(rt: HostRuntime) -> Result<(), Fail> {
-    let mut chain = chain(rt.alloc())?;
     let Ok(mut reader) = Reader::open(rt.alloc(), Counted::new(Slow::new(&FILE, 30, 1))) else {
         return Err(Fail::new("the header wasn't read"));
     };
-    assert_eq!(rt; reader.head(), Err(CapFault::Read));
-    assert_eq!(rt; reader.head(), Err(CapFault::Read));
-    assert_eq!(rt; reader.next(rt.alloc()).err(), Some(CapFault::Read));
-    assert!(rt; !reader.torn());
+    keeps_a_read(&rt, rt.alloc(), &mut reader);
     assert_eq!(rt; reader.into_inner().into_inner().calls(), 2);
+    Ok(())
+}
+
+#[test]
+fn keeps_a_fault_of_a_write(rt: HostRuntime) -> Result<(), Fail> {
+    let chain = chain(rt.alloc(), 34)?;
     let to = Counted::new(Tight::new(0, NEVER));
     let Ok(mut writer) = Writer::open(rt.alloc(), to, Resolution::Nano) else {
         return Err(Fail::new("no memory"));
     };
-    assert_eq!(rt;
-        writer.flush(),
-        Err(CapFault::Write),
-        "a write that takes none"
-    );
-    chain.reset();
-    assert_eq!(rt; writer.put(0, 0, 0, &chain), Err(CapFault::Write));
-    assert_eq!(rt; writer.flush(), Err(CapFault::Write));
+    keeps_a_write(&rt, &mut writer, &chain);
     let to = writer.into_inner();
-    assert_eq!(rt; to.failures(), 1);
-    assert_eq!(rt; to.into_inner().calls(), 1);
+    assert_eq!(rt; (to.failures(), to.into_inner().calls()), (1, 1));
     Ok(())
 }

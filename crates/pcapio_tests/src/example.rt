@@ -1,8 +1,10 @@
 //! Captures and devices for the tests.
 ghost use Rattle.std.specs.Prelude.{◌≤◌, ◌<◌};
 
+use mbuf::{Chain, make};
 use std::alloc::{AllocError, Global};
 use std::io::{self, ErrorKind, Read, Write};
+use std::test::Fail;
 
 /// A big-endian capture of nanoseconds: a record of 34 bytes, and one that ends after its header and 10 of 34 bytes.
 pub const FILE: [u8; 100] = [
@@ -45,6 +47,12 @@ pub fn capture(alloc: Global, most: u32) -> Result<Vec<u8>, AllocError> {
         }
     }
     Ok(file)
+}
+
+/// A chain of one segment with room for so many bytes.
+pub fn chain(alloc: Global, room: u16) -> Result<Chain, Fail> {
+    let chain = make(alloc, 1, 0, room as usize)?.pop();
+    Ok(chain.ok_or("no segment")?)
 }
 
 /// A call that never comes: a device that fails there doesn't fail.

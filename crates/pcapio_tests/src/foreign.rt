@@ -1,5 +1,8 @@
 //! Captures that other programs wrote, in both byte orders and both resolutions.
-use crate::{ByteOrder, Counted, Reader, Resolution};
+use pcapio::{ByteOrder, Counted, Reader, Record, Resolution};
+use std::alloc::Global;
+use std::io::Read;
+use std::process::Abort;
 use std::test::Fail;
 
 /// Written by Wireshark 4.0.17, from two frames in hexadecimal, at 2026-01-02 03:04:05.123456789 and a second later:
@@ -46,6 +49,42 @@ const FIRST: [u8; 16] = [2, 0, 0, 0, 0, 1, 2, 0, 0, 0, 0, 2, 8, 0, 0x45, 0];
 
 const SECOND: [u8; 14] = [0xff, 0xff, 0xff, 0xff, 0xff, 0xff, 2, 0, 0, 0, 0, 2, 8, 6];
 
+/// Reads the two frames, of each the fraction and how many bytes were captured, and the end.
+fn reads_two<R: Read>(
+    rt: &impl Abort,
+    alloc: Global,
+    reader: &mut Reader<R>,
+    first: (u32, usize),
+    second: (u32, usize),
+) -> Result<(), Fail> {
+    let record = reader.next(alloc)?.ok_or("no first record")?;
+    is_frame(rt, &record, (1_767_323_045, first.0, 16), &FIRST, first.1);
+    let record = reader.next(alloc)?.ok_or("no second record")?;
+    is_frame(
+        rt,
+        &record,
+        (1_767_323_046, second.0, 14),
+        &SECOND,
+        second.1,
+    );
+    let none = reader.next(alloc)?.is_none();
+    assert_eq!(rt; (none, reader.torn()), (true, false));
+    Ok(())
+}
+
+/// A record with these numbers, and so many bytes of the frame.
+fn is_frame(
+    rt: &impl Abort,
+    record: &Record,
+    numbers: (u32, u32, u32),
+    frame: &[u8],
+    captured: usize,
+) {
+    assert_eq!(rt; (record.seconds, record.fraction, record.wire), numbers);
+    assert_eq!(rt; record.bytes.len(), captured);
+    assert!(rt; frame.starts_with(record.bytes.as_slice()));
+}
+
 #[test]
 fn reads_what_other_programs_wrote(rt: HostRuntime) -> Result<(), Fail> {
     let files = [
@@ -83,20 +122,7 @@ fn reads_what_other_programs_wrote(rt: HostRuntime) -> Result<(), Fail> {
             return Err(Fail::new("refused"));
         };
         assert_eq!(rt; (reader.order(), reader.resolution()), (order, resolution));
-        let record = reader.next(rt.alloc())?.ok_or("no first record")?;
-        assert_eq!(rt;
-            (record.seconds, record.fraction, record.wire),
-            (1_767_323_045, first.0, 16)
-        );
-        assert!(rt; record.bytes.len() == first.1 && FIRST.starts_with(record.bytes.as_slice()));
-        let record = reader.next(rt.alloc())?.ok_or("no second record")?;
-        assert_eq!(rt;
-            (record.seconds, record.fraction, record.wire),
-            (1_767_323_046, second.0, 14)
-        );
-        assert!(rt; record.bytes.len() == second.1 && SECOND.starts_with(record.bytes.as_slice()));
-        assert!(rt; reader.next(rt.alloc())?.is_none());
-        assert!(rt; !reader.torn());
+        reads_two(&rt, rt.alloc(), &mut reader, first, second)?;
     }
     Ok(())
 }

@@ -1,22 +1,15 @@
 //! Captures where every request for memory is refused.
-use crate::example::{FILE, NEVER, Slow, Tight, capture};
-use crate::{CapFault, Counted, Reader, Writer, collect_records, copy_capture, copy_records};
+use crate::example::{FILE, NEVER, Slow, Tight, capture, chain};
 use exhaust::{refuses, take_all};
-use mbuf::{Chain, make};
+use pcapio::{CapFault, Counted, Reader, Writer, collect_records, copy_capture, copy_records};
 use std::alloc::Global;
 use std::test::Fail;
-
-/// A chain with space for 45,000 bytes.
-fn chain(alloc: Global) -> Result<Chain, Fail> {
-    let chain = make(alloc, 1, 0, 45_000)?.pop();
-    Ok(chain.ok_or("no segment")?)
-}
 
 #[test]
 fn copies_while_every_request_is_refused(rt: HostRuntime) -> Result<(), Fail> {
     let file = capture(rt.alloc(), 50_000)?;
     let wanted = capture(rt.alloc(), 45_000)?;
-    let mut chain = chain(rt.alloc())?;
+    let mut chain = chain(rt.alloc(), 45_000)?;
     let Ok(mut reader) = Reader::open(rt.alloc(), Counted::new(file.as_slice())) else {
         return Err(Fail::new("no reader"));
     };
@@ -38,7 +31,7 @@ fn copies_while_every_request_is_refused(rt: HostRuntime) -> Result<(), Fail> {
 
 #[test]
 fn tells_memory_where_it_is_refused(rt: HostRuntime) -> Result<(), Fail> {
-    let mut chain = chain(rt.alloc())?;
+    let mut chain = chain(rt.alloc(), 45_000)?;
     let Ok(mut reader) = Reader::open(rt.alloc(), Counted::new(Slow::new(&FILE, 100, NEVER))) else {
         return Err(Fail::new("no reader"));
     };
