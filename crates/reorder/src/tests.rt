@@ -1,26 +1,42 @@
 //! The worked row of the window, its last numbers, and the texts of its refusals.
 use crate::example::in_turn;
 use crate::{InsertFault, MAX_SIZE, Window};
+use exhaust::take_all;
+use std::process::Abort;
 use std::test::Fail;
 
 const LAST: u64 = u64::MAX;
 
-#[test]
-fn gives_items_by_number(rt: HostRuntime) -> Result<(), Fail> {
-    let mut window = Window::new(rt.alloc(), 4)?;
+/// Inserts, refusals, pops and a slide of a fresh window of four numbers.
+fn goes_through(rt: &impl Abort, window: &mut Window<char>) {
     assert_eq!(rt; window.insert(1, 'b'), Ok(()));
     assert_eq!(rt; window.insert(0, 'a'), Ok(()));
-    assert_eq!(rt; window.pop(), Some('a'));
-    assert_eq!(rt; window.pop(), Some('b'));
+    assert_eq!(rt; [window.pop(), window.pop()], [Some('a'), Some('b')]);
     assert_eq!(rt; window.insert(0, 'c'), Err(('c', InsertFault::Late)));
     assert_eq!(rt; window.insert(6, 'd'), Err(('d', InsertFault::Early)));
     assert_eq!(rt; window.insert(5, 'e'), Ok(()));
     assert_eq!(rt; window.insert(5, 'f'), Err(('f', InsertFault::Double)));
     assert_eq!(rt; window.pop(), None);
-    assert_eq!(rt; window.slide(9), 5);
-    assert_eq!(rt; window.next(), 5);
-    assert_eq!(rt; window.pop(), Some('e'));
-    assert_eq!(rt; window.next(), 6);
+    assert_eq!(rt; (window.slide(9), window.next()), (5, 5));
+    assert_eq!(rt; (window.pop(), window.next()), (Some('e'), 6));
+}
+
+#[test]
+fn gives_items_by_number(rt: HostRuntime) -> Result<(), Fail> {
+    let mut window = Window::new(rt.alloc(), 4)?;
+    goes_through(&rt, &mut window);
+    Ok(())
+}
+
+/// Every request for memory after `new` is refused.
+#[test]
+fn goes_on_without_memory(rt: HostRuntime) -> Result<(), Fail> {
+    let mut window = Window::new(rt.alloc(), 4)?;
+    let held = take_all(rt.alloc())?.ok_or("memory can't be used up in this build")?;
+    goes_through(&rt, &mut window);
+    let refused = Window::<char>::new(rt.alloc(), 4).is_err();
+    drop(held);
+    assert!(rt; refused);
     Ok(())
 }
 

@@ -3,6 +3,7 @@
 use crate::tests::at;
 use crate::tests::calls::{add, add_once, lookup, remove};
 use crate::{NextHop, RouteFault, Table};
+use exhaust::take_all;
 use std::process::Abort;
 use std::test::Fail;
 
@@ -70,29 +71,47 @@ fn takes_many_routes(rt: HostRuntime) -> Result<(), Fail> {
     Ok(())
 }
 
-/// Adds a route. Where memory was refused the table is as it was, and takes the route the second time.
-fn add_or_keep(rt: &impl Abort, table: &mut Table, addr: u32, depth: u8, hop: u32) {
+/// Adds a route, with one more piece of memory given back each time that it is refused: how often it was, each time
+/// with the table as it was.
+fn add_at_last(
+    rt: &impl Abort,
+    table: &mut Table,
+    (addr, depth, hop): (u32, u8, u32),
+    held: &mut Vec<Vec<u8>>,
+) -> usize {
     let before = lookup(table, addr);
-    if add_once(table, addr, depth, hop) == Err(RouteFault::Memory) {
+    for refused in 0..held.len() {
+        let answer = add_once(table, addr, depth, hop);
+        if answer != Err(RouteFault::Memory) {
+            assert_eq!(rt; answer, Ok(()), "depth {depth}");
+            return refused;
+        }
         assert_eq!(rt; lookup(table, addr), before, "depth {depth}");
         assert_eq!(rt; remove(table, addr, depth), Err(RouteFault::NoRoute));
-        assert_eq!(rt;
-            add_once(table, addr, depth, hop),
-            Ok(()),
-            "there is memory again"
-        );
+        held.pop();
     }
+    0
+}
+
+/// Adds routes of depths 9 to 32, of which each holds the address: how often memory was refused.
+fn add_depths(rt: &impl Abort, table: &mut Table, held: &mut Vec<Vec<u8>>) -> usize {
+    let addr = at(10, 1, 2, 3);
+    let mut all = 0usize;
+    for hop in 1..25 {
+        let refused = add_at_last(rt, table, (addr, 8 + hop as u8, hop), held);
+        assert_eq!(rt; lookup(table, addr), Some(hop), "hop {hop}");
+        all = all.saturating_add(refused);
+    }
+    all
 }
 
 #[test]
 fn is_as_it_was_without_memory(rt: HostRuntime) -> Result<(), Fail> {
     let mut table = Table::new(rt.alloc(), 16, 8)?;
-    let addr = at(10, 1, 2, 3);
-    for hop in 1..25 {
-        let depth = 8 + hop as u8;
-        add_or_keep(&rt, &mut table, addr, depth, hop);
-        assert_eq!(rt; lookup(&table, addr), Some(hop), "depth {depth}");
-    }
+    let mut held = take_all(rt.alloc())?.ok_or("memory can't be used up in this build")?;
+    let refused = add_depths(&rt, &mut table, &mut held);
+    drop(held);
+    assert!(rt; refused > 0);
     Ok(())
 }
 
@@ -107,22 +126,40 @@ fn deepest(taken: &[bool; 33], depth: u8) -> Option<u32> {
     found
 }
 
-/// Whichever requests for memory are refused while the routes are added, lookups, bursts and removals go on: they make
-/// none.
-#[test]
-fn goes_on_without_memory(rt: HostRuntime) {
-    let Ok(mut table) = Table::new(rt.alloc(), 16, 8) else {
-        return;
-    };
+/// Adds what may be added without memory to the routes that are `taken`, and removes all of them again: lookups and
+/// bursts tell the deepest that is left.
+fn take_apart(rt: &impl Abort, table: &mut Table, taken: &mut [bool; 33]) {
     let addr = at(10, 1, 2, 3);
-    let mut taken = [false; 33];
     for depth in 1..33 {
-        taken[depth as usize] = add_once(&mut table, addr, depth, u32::from(depth)).is_ok();
+        if !taken[depth as usize] {
+            taken[depth as usize] = add_once(table, addr, depth, u32::from(depth)).is_ok();
+        }
     }
     for depth in (1..33).rev() {
-        look_up(&rt, &table, addr, deepest(&taken, depth));
-        let answer = remove(&mut table, addr, depth);
+        look_up(rt, table, addr, deepest(taken, depth));
+        let answer = remove(table, addr, depth);
         assert_eq!(rt; answer.is_ok(), taken[depth as usize], "depth {depth}");
     }
-    look_up(&rt, &table, addr, None);
+    look_up(rt, table, addr, None);
+}
+
+/// Every request for memory is refused once each second depth has its route: lookups, bursts and removals go on, since
+/// they make none.
+#[test]
+fn goes_on_without_memory(rt: HostRuntime) -> Result<(), Fail> {
+    let mut table = Table::new(rt.alloc(), 16, 8)?;
+    let mut taken = [false; 33];
+    for depth in (2..33).step_by(2) {
+        taken[depth as usize] = add_once(
+            &mut table,
+            at(10, 1, 2, 3),
+            depth,
+            u32::from(depth),
+        ).is_ok();
+    }
+    let held = take_all(rt.alloc())?.ok_or("memory can't be used up in this build")?;
+    take_apart(&rt, &mut table, &mut taken);
+    drop(held);
+    assert!(rt; taken[32]);
+    Ok(())
 }
