@@ -3,6 +3,8 @@
 #![tactic(auto)]
 
 #[cfg(test)]
+mod many;
+#[cfg(test)]
 mod one_ring;
 #[cfg(test)]
 mod world;
