@@ -14,19 +14,13 @@ const REST: &str = "\n[[port]]\nmac = \"02:00:00:00:00:10\"\n[[route]]\n\
 const PORT: &str = "\nbits = 16\n[[port]]\nmac = \"02:00:00:00:00:10\"\n";
 
 /// One port, no buffers yet, and the route table that is made where nothing is said of it.
-const PORT_ALONE: &str = "\n[[port]]\nmac = \"02:00:00:00:00:10\"\n";
+pub const PORT_ALONE: &str = "\n[[port]]\nmac = \"02:00:00:00:00:10\"\n";
 
 /// A route to that port, without its prefix.
-const ROUTE: &str = "[[route]]\nport = 0\nto = \"02:00:00:00:00:20\"\n";
+pub const ROUTE: &str = "[[route]]\nport = 0\nto = \"02:00:00:00:00:20\"\n";
 
 /// The most ports that a document may have.
 const MAX_PORTS: u32 = 16;
-
-/// The most routes that a document may have.
-const MAX_ROUTES: u32 = 65_536;
-
-/// As many routes as no small constant allows for.
-const SOME_ROUTES: u32 = 3000;
 
 /// Reads a text, once more where memory was refused.
 fn read(alloc: Global, text: &[u8]) -> Result<Settings, SettingsFault> {
@@ -37,7 +31,7 @@ fn read(alloc: Global, text: &[u8]) -> Result<Settings, SettingsFault> {
 }
 
 /// The text of parts, one after the other.
-fn joined(alloc: Global, parts: &[&str]) -> Result<String, AllocError> {
+pub fn joined(alloc: Global, parts: &[&str]) -> Result<String, AllocError> {
     let mut text = String::new(alloc);
     for part in parts {
         text.push_str(part)?;
@@ -52,7 +46,7 @@ fn refused<R: Abort + AllocGlobal>(rt: &R, parts: &[&str], told: &str) -> Result
 }
 
 /// Tests that a text is refused, and how the refusal is told.
-fn refused_text<R: Abort + AllocGlobal>(rt: &R, text: &str, told: &str) -> Result<(), Fail> {
+pub fn refused_text<R: Abort + AllocGlobal>(rt: &R, text: &str, told: &str) -> Result<(), Fail> {
     let fault = read(rt.alloc(), text.as_bytes())
         .err()
         .ok_or("a text that should be refused")?;
@@ -62,7 +56,7 @@ fn refused_text<R: Abort + AllocGlobal>(rt: &R, text: &str, told: &str) -> Resul
 }
 
 /// Tests that each of these texts, told by its parts, is refused, and how the refusal is told.
-fn all_refused<R: Abort + AllocGlobal>(rt: &R, rows: &[(&[&str], &str)]) -> Result<(), Fail> {
+pub fn all_refused<R: Abort + AllocGlobal>(rt: &R, rows: &[(&[&str], &str)]) -> Result<(), Fail> {
     for (parts, told) in rows {
         refused(rt, parts, told)?;
     }
@@ -70,7 +64,7 @@ fn all_refused<R: Abort + AllocGlobal>(rt: &R, rows: &[(&[&str], &str)]) -> Resu
 }
 
 /// Reads a text of these parts, which should be well.
-fn well<R: AllocGlobal>(rt: &R, parts: &[&str]) -> Result<Settings, Fail> {
+pub fn well<R: AllocGlobal>(rt: &R, parts: &[&str]) -> Result<Settings, Fail> {
     let text = joined(rt.alloc(), parts)?;
     Ok(read(rt.alloc(), text.as_bytes())?)
 }
@@ -81,7 +75,7 @@ fn buffers<R: AllocGlobal>(rt: &R, parts: &[&str]) -> Result<u32, Fail> {
 }
 
 /// The hop of an address.
-fn hop(settings: &Settings, address: [u8; 4]) -> Option<u32> {
+pub fn hop(settings: &Settings, address: [u8; 4]) -> Option<u32> {
     settings.table.lookup(u32::from_be_bytes(address))
 }
 
@@ -313,102 +307,6 @@ fn the_order_of_checks(rt: HostRuntime) -> Result<(), Fail> {
         ),
     ];
     all_refused(&rt, &rows)
-}
-
-const NO_GROUP: &str = "buffers = 256\ngroups = 0";
-
-const ONE_GROUP: &str = "buffers = 256\ngroups = 1";
-
-/// A prefix that needs a group.
-const DEEP: &str = "prefix = \"10.1.2.3/25\"\n";
-
-#[test]
-fn routes_beyond_the_groups(rt: HostRuntime) -> Result<(), Fail> {
-    let rows: [(&[&str], &str); 5] = [
-        (&[NO_GROUP, PORT_ALONE, ROUTE, DEEP], "BadRoute 0"),
-        (
-            &[NO_GROUP, PORT_ALONE, ROUTE, DEEP, "[[route]]"],
-            "BadRoute 0",
-        ),
-        (
-            &[
-                NO_GROUP,
-                "\nbits = 16",
-                PORT_ALONE,
-                ROUTE,
-                "prefix = \"10.1.0.0/17\"",
-            ],
-            "BadRoute 0",
-        ),
-        (
-            &[ONE_GROUP, PORT_ALONE, ROUTE, DEEP, "[[route]]"],
-            "BadRoute 1",
-        ),
-        (
-            &[
-                ONE_GROUP,
-                PORT_ALONE,
-                ROUTE,
-                DEEP,
-                ROUTE,
-                "prefix = \"10.1.3.0/25\"\n",
-            ],
-            "BadRoute 1",
-        ),
-    ];
-    all_refused(&rt, &rows)
-}
-
-#[test]
-fn routes_that_share_a_group(rt: HostRuntime) -> Result<(), Fail> {
-    let again = "prefix = \"10.1.2.100/25\"\n";
-    let settings = well(&rt, &[ONE_GROUP, PORT_ALONE, ROUTE, DEEP, ROUTE, again])?;
-    assert_eq!(rt;
-        settings.table.lookup(u32::from_be_bytes([10, 1, 2, 5])),
-        Some(1)
-    );
-    assert_eq!(rt;
-        settings.table.lookup(u32::from_be_bytes([10, 1, 2, 128])),
-        None
-    );
-    assert_eq!(rt; settings.ports.hops.len(), 2);
-    Ok(())
-}
-
-#[test]
-fn many_tables(rt: HostRuntime) -> Result<(), Fail> {
-    let mut text = joined(
-        rt.alloc(),
-        &["buffers = 256\nbits = 16", PORT_ALONE, "[[route]]\n"],
-    )?;
-    for _ in 1..MAX_ROUTES {
-        text.push_str("[[route]]\n")?;
-    }
-    refused_text(&rt, text.as_str(), "BadRoute 0")?;
-    text.push_str("[[route]]\n")?;
-    refused_text(&rt, text.as_str(), "BadValue route")
-}
-
-/// `SOME_ROUTES` routes, each to an address of its own, and this end.
-fn some_routes(alloc: Global, end: &str) -> Result<String, Fail> {
-    let mut text = joined(alloc, &["buffers = 256\nbits = 16", PORT_ALONE])?;
-    for i in 0u32..SOME_ROUTES {
-        let (third, fourth) = (i / 256, i % 256);
-        let prefix = format!(in alloc; "prefix = \"10.0.{third}.{fourth}/32\"\n")?;
-        text.push_str(ROUTE)?;
-        text.push_str(prefix.as_str())?;
-    }
-    text.push_str(end)?;
-    Ok(text)
-}
-
-#[test]
-fn many_routes(rt: HostRuntime) -> Result<(), Fail> {
-    let settings = well(&rt, &[some_routes(rt.alloc(), "")?.as_str()])?;
-    let hops = [[10, 0, 11, 183], [10, 0, 11, 184]].map(|address| hop(&settings, address));
-    assert_eq!(rt; hops, [Some(2999), None]);
-    let more = some_routes(rt.alloc(), "[[route]]\n")?;
-    refused_text(&rt, more.as_str(), "BadRoute 3000")
 }
 
 /// Reads, with one more piece of memory given back each time that it is refused: how often it was, and what was
