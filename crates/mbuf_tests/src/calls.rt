@@ -99,14 +99,17 @@ pub fn released_into(deck: &mut Deck, id: u32) -> Result<usize, DeckFault> {
     Ok(freed.len())
 }
 
+/// The id of another share.
 pub fn again(deck: &mut Deck, id: u32) -> Result<u32, DeckFault> {
     deck.again(id)
 }
 
+/// Narrows share `id`.
 pub fn cut(deck: &mut Deck, id: u32, from: usize, n: usize) -> Result<(), DeckFault> {
     deck.cut(id, from, n)
 }
 
+/// Copies share `id` into a chain.
 pub fn copy_into(deck: &Deck, id: u32, chain: &mut Chain) -> Result<(), DeckFault> {
     deck.copy_into(id, chain)
 }
