@@ -2,6 +2,7 @@
 
 ghost use Rattle.std.specs.Prelude.{◌≡◌, [], ◌<◌, length};
 
+use exhaust::take_all;
 use geom::{Geometry, How};
 use ringcore::{Moved, OneRing};
 use std::alloc::{AllocError, Global};
@@ -80,6 +81,19 @@ fn a_burst_moves_what_fits(rt: HostRuntime) -> Result<(), Fail> {
     put_six(&rt, &mut ring, &mut items);
     take_six(&rt, &mut ring, &mut Vec::new(rt.alloc()))?;
     Ok(())
+}
+
+/// Every request for memory is refused once the ring, its items and the list that takes them are there.
+#[test]
+fn goes_on_without_memory(rt: HostRuntime) -> Result<(), Fail> {
+    let mut items = list(rt.alloc(), &[1, 2, 3, 4, 5, 6])?;
+    let mut out = Vec::with_capacity(rt.alloc(), 5)?;
+    let mut ring = of_five(rt.alloc())?;
+    let held = take_all(rt.alloc())?.ok_or("memory can't be used up in this build")?;
+    put_six(&rt, &mut ring, &mut items);
+    let taken = take_six(&rt, &mut ring, &mut out);
+    drop(held);
+    Ok(taken?)
 }
 
 /// Two items of this turn, boxed.

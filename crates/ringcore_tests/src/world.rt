@@ -82,10 +82,12 @@ pub fn go(world: &mut World, rows: &mut [Row]) -> Result<usize, AllocError> {
     Ok(count)
 }
 
+/// What was found.
 pub fn seen(value: u64) -> Told {
     ("seen", [value, 0, 0])
 }
 
+/// The first position, how many there are, and how much room is left.
 pub fn granted(start: u64, count: u64, left: u64) -> Told {
     ("granted", [start, count, left])
 }
@@ -102,10 +104,12 @@ pub const LOOK: Step = Step::Look(0, Side::Put);
 
 pub const ROOM: Step = Step::Room(0, Side::Put);
 
+/// A step that reserves positions of a side of ring 0.
 pub fn reserve(side: Side, how: How, count: u64) -> Step {
     Step::Reserve(0, side, how, count)
 }
 
+/// How many positions were settled.
 pub fn done(count: u64) -> Told {
     ("done", [count, 0, 0])
 }
