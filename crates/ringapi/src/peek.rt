@@ -8,7 +8,7 @@ ghost use Rattle.fabric.specs.Hands.{HasPut, HasTaken, IsHandOf, OnRing, Refuses
 ghost use Rattle.fabric.specs.Hands.{put_fabric, put_left, put_span, put_view, rings_of, view};
 ghost use Rattle.fabric.specs.Hands.{take_fabric, take_left, take_span, take_view};
 ghost use Rattle.fabric.specs.Starts.{RefusesCount, RefusesStart, Starts};
-ghost use Rattle.fabric.specs.declared.hand.SettleFault.TheVariants.{NotYet};
+ghost use Rattle.fabric.specs.declared.hand.SettleFault.TheVariants.{BadCount, NotYet};
 
 use burst::{Burst, Tagged};
 use fabric::{Fabric, Hand, PutOpen, SettleFault, StartFault, TakeSpan};
@@ -192,7 +192,7 @@ impl<'f, T: Tagged, const N: usize> PeekSpan<'f, T, N> {
         ensures done { IfOk result (λ h. HasTaken self.entry.span k items.old h × (items.new ≡ take k items.old)) }
         ensures refused { IfErr result (λ e. SameTake self.entry.span e.0.span × (items.new ≡ items.old)
             × RefusesTake T.numbers self.entry.span k items.old e.0.span e.1) }
-        ensures named { IfErr result (λ e. (x : ℕ) → e.1 ≡ NotYet x → ⊥) }
+        ensures named { IfErr result (λ e. e.1 ≡ BadCount) }
     {
         match self.span.try_settle_into(k, items) {
             Ok(hand) => Ok(hand),
@@ -232,7 +232,7 @@ impl<'f, T: Tagged, const N: usize> PeekTake<'f, T, N> {
         ensures refused { IfErr result (λ e. SameTake self.entry.peek.span e.0.peek.span
             × (e.0.items ≡ self.entry.items)
             × RefusesTake T.numbers self.entry.peek.span k self.entry.items e.0.peek.span e.1) }
-        ensures named { IfErr result (λ e. (x : ℕ) → e.1 ≡ NotYet x → ⊥) }
+        ensures named { IfErr result (λ e. e.1 ≡ BadCount) }
     {
         let PeekTake { peek, mut items } = self;
         match peek.finish_into(k, &mut items) {
