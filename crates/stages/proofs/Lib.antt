@@ -14,3 +14,11 @@ pub mod Turning
 pub mod Segments
 pub mod Opened
 pub mod Taken
+pub mod SoFar
+pub mod Linking
+pub mod Stations
+pub mod Settled
+pub mod Marks
+pub mod Rounds
+pub mod Ended
+pub mod Alike

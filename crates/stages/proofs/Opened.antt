@@ -118,7 +118,7 @@ module _ {W : Type 0} where
     run_told a rest writers devices (Err fault) header behind outputs sums = tt
 
 module _ (order : ByteOrder) (resolution : Resolution) where
-  refused_whole : (a rest : Option (List ℕ)) (fault : CapFault) → IfSome a (λ bytes. HasHeader bytes order resolution) → IfSome a (λ bytes. rest ≡ Some (drop 24 bytes))
+  pub refused_whole : (a rest : Option (List ℕ)) (fault : CapFault) → IfSome a (λ bytes. HasHeader bytes order resolution) → IfSome a (λ bytes. rest ≡ Some (drop 24 bytes))
       → fault ≡ BadRecord → ((i : Input) → input_of order rest ≡ Some i → i.ending ≡ Bad)
       → IfSome a (λ bytes. IsRefused bytes fault)
   refused_whole None rest fault header behind is bad_end = tt

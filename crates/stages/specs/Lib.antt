@@ -1,5 +1,9 @@
 pub mod Faults
 pub mod Packets
+pub mod Numbers
+pub mod Passing
+pub mod Judging
+pub mod Stations
 pub mod Keyed
 pub mod Ports
 pub mod PortSteps
@@ -7,6 +11,9 @@ pub mod Failing
 pub mod Tallies
 pub mod Stamps
 pub mod Reading
+pub mod SoFar
 pub mod Turns
+pub mod Feeding
 pub mod Ending
 pub mod Whole
+pub mod Threads

@@ -1,6 +1,6 @@
 //! Why a run has no answer.
-ghost use Rattle.std.specs.Prelude.{◌≡◌};
-ghost use Rattle.stages.specs.Faults.{number_of};
+ghost use Rattle.std.specs.Prelude.{◌≡◌, ◌⊎◌};
+ghost use Rattle.stages.specs.Faults.{number_of, fault_of_ring};
 
 use pcapio::CapFault;
 
@@ -38,4 +38,32 @@ impl RunFault {
             RunFault::Worn => 7,
         }
     }
+}
+
+/// Why a stage of a run in threads can't go on.
+#[derive(Clone, Copy)]
+pub(crate) enum RingFault {
+    /// A packet or a segment isn't what it has to be on its ring.
+    Window,
+    /// The positions of a ring are used up.
+    Worn,
+}
+
+impl RingFault {
+    /// The run's fault of that name.
+    pub(crate) fn told(self) -> RunFault
+        ensures { result ≡ fault_of_ring self }
+    {
+        match self {
+            RingFault::Window => RunFault::Window,
+            RingFault::Worn => RunFault::Worn,
+        }
+    }
+}
+
+/// Of two faults the one with the lower number; of two with one number the first.
+pub(crate) fn lower(a: RunFault, b: RunFault) -> RunFault
+    ensures { (result ≡ a) ⊎ (result ≡ b) }
+{
+    if b.number() < a.number() { b } else { a }
 }

@@ -10,18 +10,16 @@ ghost use Rattle.stages.specs.Turns.{IsVacant, WhyStopped};
 
 use crate::fault::RunFault;
 use crate::found::Found;
-use crate::packet::Unjudged;
-use crate::reading::find;
+use crate::progress::Progress;
+use crate::reading::{look, read_record};
 use crate::sink::Sink;
 use crate::stamped::Stamped;
-use counters::Counts;
 use ipv4::Ports;
 use lpm::Table;
 use mbuf::Chain;
 use pcapio::Reader;
 use stages_laws::Run;
 use std::io::{Read, Write};
-use std::marker::PhantomData;
 
 /// Takes each record of the input to the ports. Asked: the reader is before the first one, and so is the sink; the
 /// chain has space for each record that is not oversize.
@@ -50,38 +48,22 @@ pub(crate) fn pass_all<J: Run, R: Read, W: Write + Drop>(
     ensures well { OnOk result (HasNotFailed (source_of reader.old) (source_of reader.new)) }
     ensures why { IfErr result (WhyStopped J.input reader.old reader.new sink.new.outputs.failed) }
 {
-    let mut count = 0u64;
-    let mut share = Counts::new(ports.sources.len());
+    let mut progress = Progress::new(ports.sources.len());
     for _turn in 0..u64::MAX {
-        match find(reader, &mut chain, room) {
+        let head = match look::<J, R>(reader, &mut progress, room) {
+            Ok(Found::Record(head)) => head,
+            Ok(Found::Oversize) => continue,
+            Ok(Found::Ended(torn)) => return Ok(progress.stamp(torn)),
             Err(fault) => return Err(fault),
-            Ok(Found::Ended(torn)) => {
-                return Ok(Stamped {
-                    count,
-                    share,
-                    torn,
-                    of: PhantomData,
-                });
-            }
-            Ok(Found::Oversize) => {
-                share.add_oversize();
-                continue;
-            }
-            Ok(Found::Record(head)) => {
-                let packet: Unjudged<J> = Unjudged {
-                    seq: count,
-                    seconds: head.seconds,
-                    fraction: head.fraction,
-                    wire: head.wire,
-                    chain,
-                    of: PhantomData,
-                };
-                chain = sink.pass(packet.judge(table, ports));
-                if let Some(port) = sink.outputs.failed {
-                    return Err(RunFault::Write(port));
-                }
-                count += 1;
-            }
+        };
+        let packet = match read_record::<J, R>(reader, &mut progress, head, chain) {
+            Ok(Some(packet)) => packet,
+            Ok(None) => return Ok(progress.stamp(true)),
+            Err(fault) => return Err(fault),
+        };
+        chain = sink.pass(packet.judge(table, ports));
+        if let Some(port) = sink.outputs.failed {
+            return Err(RunFault::Write(port));
         }
     }
     Err(RunFault::Window)

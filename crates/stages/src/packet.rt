@@ -1,13 +1,11 @@
 //! Packets on their way through a run. Each has, in its type, the fact that it belongs to the record of its number.
-ghost use Rattle.std.specs.Prelude.{◌≡◌, ◌≤◌, length, vec_len};
-ghost use Rattle.ipv4.specs.Forwarding.{forwarded};
-ghost use Rattle.mbuf.specs.Chain.{bytes_of, HasSameSegments};
+ghost use Rattle.std.specs.Prelude.{◌≡◌, ◌≤◌, length};
+ghost use Rattle.mbuf.specs.Chain.{bytes_of, space_of};
 ghost use Rattle.pcapio.specs.Record.{packet_in};
 ghost use Rattle.stages.specs.Packets.{IsRecord, IsFate, HasPort};
 ghost use Rattle.stages.specs.Tallies.{fates_of};
 
-use ipv4::{Ports, Verdict, forward};
-use lpm::Table;
+use ipv4::Verdict;
 use mbuf::Chain;
 use stages_laws::Run;
 use std::marker::PhantomData;
@@ -42,31 +40,24 @@ pub struct Judged<J: Run> {
     pub ghost port: { HasPort (length J.before) verdict },
 }
 
-impl<J: Run> Unjudged<J> {
-    /// The packet after its verdict.
-    pub(crate) fn judge(self, table: &Table, ports: &Ports) -> Judged<J>
-        requires rules { forwarded table.now.members ports.now ≡ J.forwarding }
-        requires ports { vec_len ports.now.sources ≡ length J.before }
-        ensures seq { result.seq ≡ self.seq }
-        ensures kept { HasSameSegments result.chain self.chain }
-    {
-        let Unjudged {
-            seq,
-            seconds,
-            fraction,
-            wire,
-            mut chain,
-            ..
-        } = self;
-        let verdict = forward(&mut chain, table, ports, wire as usize);
-        Judged {
-            seq,
-            seconds,
-            fraction,
-            wire,
-            verdict,
-            chain,
-            of: PhantomData,
-        }
-    }
+/// A segment that no packet uses, with the room of the run.
+#[derive(Drop)]
+pub struct Segment<J: Run> {
+    pub(crate) chain: Chain,
+    pub(crate) of: PhantomData<J>,
+    pub ghost one: { length chain ≡ 1 },
+    pub ghost room: { J.room ≤ space_of chain },
+}
+
+/// What stands on the rings of a run.
+#[derive(Drop)]
+pub enum Packet<J: Run> {
+    /// A segment that no packet uses.
+    Free(Segment<J>),
+    /// A packet before its verdict.
+    Before(Unjudged<J>),
+    /// A packet after its verdict.
+    After(Judged<J>),
+    /// The end of what one worker takes, and of what it puts.
+    Mark,
 }

@@ -1,17 +1,24 @@
 //! The records of a run's input, one after the other: read into a chain, or passed over where they are oversize.
-ghost use Rattle.std.specs.Prelude.{◌≡◌, ◌≤◌, ◌*◌, min, IfOk, IfErr, OnOk};
-ghost use Rattle.pcapio.specs.Counted.{HasNotFailed};
+ghost use Rattle.std.specs.Prelude.{◌≡◌, ◌≤◌, ◌<◌, ◌*◌, ◌+◌, ◌-◌, ◌^◌, length, None, Ok, IfOk, IfErr, IfSome, OnOk, OnSome, true};
+ghost use Rattle.counters.specs.Tally.{records_of};
 ghost use Rattle.mbuf.specs.Chain.{space_of, HasSameSegments};
-ghost use Rattle.pcapio.specs.Reader.{stage_of, source_of, IsSameFile};
+ghost use Rattle.pcapio.specs.Counted.{HasNotFailed};
+ghost use Rattle.pcapio.specs.Reader.{stage_of, source_of, Fails, IsSameFile};
+ghost use Rattle.pcapio.specs.declared.stage.Stage.TheVariants.{Between, Pending};
 ghost use Rattle.stages.specs.Faults.{fault_of_input};
-ghost use Rattle.pcapio.specs.declared.stage.Stage.TheVariants.{Between};
-ghost use Rattle.stages.specs.Reading.{IsFound, IsStill, WhyNone};
+ghost use Rattle.stages.specs.Reading.{WhyNone};
+ghost use Rattle.stages.specs.SoFar.{HasRead, IsAhead, IsAll, Looks};
+ghost use Rattle.stages.specs.Turns.{WhyStopped};
 
 use crate::fault::RunFault;
 use crate::found::Found;
+use crate::packet::Unjudged;
+use crate::progress::Progress;
 use mbuf::Chain;
-use pcapio::{CapFault, Reader};
+use pcapio::{CapFault, Head, Reader};
+use stages_laws::Run;
 use std::io::Read;
+use std::marker::PhantomData;
 
 /// The most segments of a packet.
 pub(crate) const MOST_SEGMENTS: usize = 64;
@@ -27,19 +34,12 @@ pub(crate) fn input_fault(fault: CapFault) -> RunFault
     }
 }
 
-/// What comes next. Asked: the reader is before a record, and the chain has space for each that is not oversize.
-pub(crate) fn find<R: Read>(
-    reader: &mut Reader<R>,
-    chain: &mut Chain,
-    room: usize,
-) -> Result<Found, RunFault>
+/// What comes next: a record that has too many bytes is passed over. Asked: the reader is before a record.
+fn ahead<R: Read>(reader: &mut Reader<R>, room: usize) -> Result<Found, RunFault>
     requires between { stage_of reader.old ≡ Between }
     requires few { room ≤ 65536 }
-    requires space { min (64 * room) 262144 ≤ space_of chain.old }
     ensures file { IsSameFile reader.old reader.new }
-    ensures found { IfOk result (IsFound R.remaining room reader.old reader.new chain.new) }
-    ensures still { IfOk result (IsStill reader.new) }
-    ensures kept { HasSameSegments chain.new chain.old }
+    ensures found { IfOk result (IsAhead R.remaining room reader.old reader.new) }
     ensures well { OnOk result (HasNotFailed (source_of reader.old) (source_of reader.new)) }
     ensures why { IfErr result (WhyNone R.remaining reader.old reader.new) }
 {
@@ -48,16 +48,83 @@ pub(crate) fn find<R: Read>(
         Ok(None) => return Ok(Found::Ended(reader.torn())),
         Err(fault) => return Err(input_fault(fault)),
     };
-    if head.captured as usize > MOST_SEGMENTS * room {
-        return match reader.skip() {
-            Ok(true) => Ok(Found::Oversize),
-            Ok(false) => Ok(Found::Ended(true)),
-            Err(_) => Err(RunFault::Read),
-        };
+    if head.captured as usize <= MOST_SEGMENTS * room {
+        return Ok(Found::Record(head));
     }
-    match reader.body(chain) {
-        Ok(true) => Ok(Found::Record(head)),
+    match reader.skip() {
+        Ok(true) => Ok(Found::Oversize),
         Ok(false) => Ok(Found::Ended(true)),
         Err(_) => Err(RunFault::Read),
     }
+}
+
+/// Looks at what comes next: the head of a record that is to be read then, or a record that is oversize, which is
+/// counted and passed over, or the end. Asked: the reader is before a record.
+pub(crate) fn look<J: Run, R: Read>(
+    reader: &mut Reader<R>,
+    progress: &mut Progress,
+    room: usize,
+) -> Result<Found, RunFault>
+    requires between { stage_of reader.old ≡ Between }
+    requires room { room ≡ J.room }
+    requires few { room ≤ 65536 }
+    requires read { HasRead R.remaining J.input J.room (length J.before) reader.old progress.old }
+    requires bounded { progress.old.count + records_of progress.old.share < 2 ^ 64 - 1 }
+    ensures told { IfOk result
+        (Looks R.remaining J.input J.room (length J.before) reader.new progress.old progress.new) }
+    ensures well { OnOk result (HasNotFailed (source_of reader.old) (source_of reader.new)) }
+    ensures why { IfErr result (WhyStopped J.input reader.old reader.new None) }
+{
+    let found = match ahead(reader, room) {
+        Ok(found) => found,
+        Err(fault) => return Err(fault),
+    };
+    match found {
+        Found::Oversize => progress.share.add_oversize(),
+        Found::Record(_) => (),
+        Found::Ended(_) => (),
+    }
+    Ok(found)
+}
+
+/// Reads the record that was looked at into a chain, under its number. None where the input ends inside it.
+/// Asked: the chain has space for it.
+pub(crate) fn read_record<J: Run, R: Read>(
+    reader: &mut Reader<R>,
+    progress: &mut Progress,
+    head: Head,
+    mut chain: Chain,
+) -> Result<Option<Unjudged<J>>, RunFault>
+    requires pending { stage_of reader.old ≡ Pending head }
+    requires fits { head.captured ≤ 64 * J.room }
+    requires space { head.captured ≤ space_of chain }
+    requires read { HasRead R.remaining J.input J.room (length J.before) reader.old progress.old }
+    requires bounded { progress.old.count + records_of progress.old.share < 2 ^ 64 - 1 }
+    ensures torn { OnOk result (result ≡ Ok None
+        → IsAll J.input J.room (length J.before) progress.new true × (progress.new ≡ progress.old)) }
+    ensures packet { IfOk result (λ found. IfSome found (λ packet. (packet.seq ≡ progress.old.count)
+        × HasSameSegments packet.chain chain)) }
+    ensures read { IfOk result (λ found. OnSome found
+        (HasRead R.remaining J.input J.room (length J.before) reader.new progress.new)) }
+    ensures between { IfOk result (λ found. OnSome found (stage_of reader.new ≡ Between)) }
+    ensures count { IfOk result (λ found. OnSome found ((progress.new.count ≡ progress.old.count + 1)
+        × (progress.new.share ≡ progress.old.share))) }
+    ensures well { OnOk result (HasNotFailed (source_of reader.old) (source_of reader.new)) }
+    ensures why { IfErr result (λ fault. (fault ≡ RunFault.Read) × Fails reader.old reader.new) }
+{
+    match reader.body(&mut chain) {
+        Ok(true) => (),
+        Ok(false) => return Ok(None),
+        Err(_) => return Err(RunFault::Read),
+    }
+    let packet = Unjudged {
+        seq: progress.count,
+        seconds: head.seconds,
+        fraction: head.fraction,
+        wire: head.wire,
+        chain,
+        of: PhantomData,
+    };
+    progress.count += 1;
+    Ok(Some(packet))
 }

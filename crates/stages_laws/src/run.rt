@@ -21,6 +21,8 @@ pub trait Run {
     ghost before: { List (Option (List ℕ)) };
     /// How often the device of each port had failed before the run.
     ghost failures: { List ℕ };
+    /// How often the device of the input had failed before the run.
+    ghost read_failures: { ℕ };
 }
 
 impl Run for Brand {
@@ -40,4 +42,6 @@ impl Run for Brand {
     ghost before = { [] };
 
     ghost failures = { [] };
+
+    ghost read_failures = { 0 };
 }

@@ -14,4 +14,5 @@ ghosts-run_opened g a = record {
   resolution = resolution_of a.reader;
   before = map (told g.W.Write.contents) (devices_of a.outputs.writers.items);
   failures = map failures_of (devices_of a.outputs.writers.items);
+  read_failures = 0;
 }

@@ -1,8 +1,9 @@
-use Rattle.std.proofs.Common.{◌≡◌, ◌∙◌, sym, ap, subst, length, arith}
+use Rattle.std.proofs.Common.{◌≡◌, ◌∙◌, refl, sym, ap, subst, length, arith}
 use Rattle.ipv4.specs.Forwarding.{forwarded}
 use Rattle.mbuf.specs.Chain.{bytes_of}
 use Rattle.pcapio.specs.Record.{packet_in}
-use Rattle.stages.specs.Packets.{HasPort}
+use Rattle.mbuf.proofs.Chains.{numbers_kept}
+use Rattle.stages.specs.Packets.{HasPort, fate_with}
 use Rattle.ipv4.proofs.Ways.{sent_by_a_port}
 use Rattle.stages.proofs.Judging.{judged_is}
 use Rattle.stages.proofs.packet.Unjudged.judge.Goals as goal
@@ -20,4 +21,16 @@ invariant_of-result g c =
           (λ k. record { seconds = x.seconds; fraction = x.fraction; wire = x.wire; bytes = frame k });
       port = subst (HasPort (length g.J.Run.before)) (sym c.forward-verdict.ensures.verdict)
           (subst (λ n. HasPort n (forwarded c.args.table.now.members c.args.ports.now bytes x.wire).verdict) many (sent_by_a_port c.args.table.now.members c.args.ports.now bytes x.wire));
+    }
+
+pub returns-clause-judged : goal.returns-clause-judged
+returns-clause-judged g c =
+    let x = c.args.self in
+    let bytes = bytes_of x.chain in
+    let frame = c.forward-verdict.ensures.frame ∙ ap (λ f. (f bytes x.wire).frame) c.requires.rules in
+    let verdict = c.forward-verdict.ensures.verdict ∙ ap (λ f. (f bytes x.wire).verdict) c.requires.rules in
+    record {
+      seq = refl;
+      fate = λ k. fate_with (verdict k) (record { seconds = x.seconds; fraction = x.fraction; wire = x.wire; bytes = frame k });
+      numbers = numbers_kept _ _ c.forward-verdict.ensures.kept;
     }

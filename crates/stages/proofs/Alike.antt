@@ -1,0 +1,32 @@
+-- Two runs over the same bytes tell the same.
+use Rattle.std.proofs.Common.{◌≡◌, ◌++◌, ℕ, List, Option, Some, length, map, slice_get, sym, ap, ◌∙◌}
+use Rattle.pcapio.specs.Counted.{told}
+use Rattle.pcapio.specs.declared.counted.Counted.{Counted}
+use Rattle.pcapio_laws.specs.Capture.{Capture, Case, Captured}
+use Rattle.pcapio_laws.proofs.Cases.{one_case}
+use Rattle.settings.specs.declared.read.Settings.{Settings}
+use Rattle.stages_laws.specs.Output.{fates, output_of, tally_of}
+use Rattle.stages.specs.Whole.{IsRun, forwarding_by}
+use Rattle.stages.specs.declared.ending.Summary.{Summary}
+
+capture_of : Case → Capture → Capture
+capture_of (Captured c) d = c
+capture_of other d = d
+
+module _ {W : Type 0} (contents : W → Option (List ℕ)) (settings : Settings) (bytes : List ℕ) (writers one many : List (Counted W)) (a b : Summary)
+    (r : IsRun contents settings bytes writers one a) (s : IsRun contents settings bytes writers many b) where
+  same_capture : r.capture ≡ s.capture
+  unfolding capture_of
+  same_capture = ap (λ c. capture_of c r.capture) (one_case bytes (Captured r.capture) (Captured s.capture) r.is s.is)
+
+  pub same_summary : (a.counts ≡ b.counts) × (a.torn ≡ b.torn)
+  same_summary = (
+    r.counts ∙ (ap (λ c. tally_of (length writers) (forwarding_by settings) settings.room c.packets) same_capture ∙ sym s.counts),
+    r.torn ∙ (ap (λ c. c.torn) same_capture ∙ sym s.torn),
+  )
+
+  pub same_ports : (q : ℕ) (d e : Counted W) (x : List ℕ) → slice_get one q ≡ Some d → slice_get many q ≡ Some e
+      → slice_get (map (told contents) writers) q ≡ Some (Some x) → told contents d ≡ told contents e
+  same_ports q d e x one_at many_at before =
+      r.outputs q d x one_at before
+      ∙ (ap (λ c. Some (x ++ output_of c.resolution q (fates (forwarding_by settings) settings.room c.packets))) same_capture ∙ sym (s.outputs q e x many_at before))

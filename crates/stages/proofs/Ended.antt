@@ -1,0 +1,67 @@
+-- Why a run in threads has no summary, from what its reader and its sink leave.
+use Rattle.std.proofs.Common.{◌≡◌, ℕ, List, drop, map, Option, None, Some, Result, Ok, Err, IfSome, refl, sym, subst}
+use Rattle.pcapio.specs.Counted.{to_come, failures_of, HasNotFailed}
+use Rattle.pcapio.specs.Reader.{source_of}
+use Rattle.pcapio.specs.declared.counted.Counted.{Counted}
+use Rattle.pcapio.specs.declared.reader.Reader.{Reader}
+use Rattle.pcapio.proofs.Runs.{failed-later}
+use Rattle.pcapio_laws.specs.Capture.{HasHeader}
+use Rattle.pcapio_laws.specs.declared.format.ByteOrder.{ByteOrder}
+use Rattle.pcapio_laws.specs.declared.format.Resolution.{Resolution}
+use Rattle.stages_laws.specs.Input.{Input}
+use Rattle.stages_laws.specs.declared.run.Run.{Ghosts}
+use Rattle.stages.specs.Ending.{WhyFaulted}
+use Rattle.stages.specs.Failing.{FailedAt}
+use Rattle.stages.specs.Feeding.{ReadFailed, ReadIsHere, IsNoCapture}
+use Rattle.stages.specs.Threads.{WhyEnded, WhyNoSummaryOfThreads}
+use Rattle.stages.specs.Whole.{WhyNoSummary}
+use Rattle.stages.specs.declared.fault.RunFault.{RunFault}
+use Rattle.stages.specs.declared.fault.RunFault.TheVariants.{Memory, Thread, Read, Write, Capture as Refused, Window, Worn}
+use Rattle.stages.specs.declared.stamped.Stamped.{Stamped}
+use Rattle.stages.proofs.Opened.{input_of, refused_whole}
+
+-- what a reader told, and what the end of the run told of it
+pub why_ended : {J R W : Type 0} {G : Ghosts J} (input : Option Input) (failures : List ℕ) (before next : ℕ) (device : Option (Counted R))
+    (answer : Result (Stamped J G) RunFault) (devices : List (Counted W)) (fault : RunFault) → ReadFailed before device answer → ReadIsHere device answer
+    → IsNoCapture input answer → WhyFaulted failures next answer devices fault → WhyEnded input failures before device devices fault
+why_ended input failures before next device (Ok stamped) devices Read failed here refused why = absurd (let e : Read ≡ Window = why.0 in cc)
+why_ended input failures before next None (Err reason) devices Read failed here refused why =
+    absurd (here refl (λ k. Err (sym why k)))
+why_ended input failures before next (Some d) (Err reason) devices Read failed here refused why =
+    (d, refl, failed d refl (λ k. Err (sym why k)))
+why_ended input failures before next device answer devices (Write p) failed here refused why = why
+why_ended input failures before next device (Ok stamped) devices (Refused fault) failed here refused why =
+    absurd (let e : Refused fault ≡ Window = why.0 in cc)
+why_ended input failures before next device (Err reason) devices (Refused fault) failed here refused why =
+    refused fault (λ k. Err (sym why k))
+why_ended input failures before next device answer devices Memory failed here refused why = tt
+why_ended input failures before next device answer devices Thread failed here refused why = tt
+why_ended input failures before next device answer devices Window failed here refused why = tt
+why_ended input failures before next device answer devices Worn failed here refused why = tt
+
+pub why_of_threads : (order : ByteOrder) (resolution : Resolution) {R W : Type 0} (remaining : R → Option (List ℕ)) (rest : Option (List ℕ)) (failures : List ℕ)
+    (reader : Counted R) (device : Option (Counted R)) (opened : Reader R) (writers devices : List (Counted W)) (fault : RunFault)
+    → IfSome (to_come remaining reader) (λ bytes. HasHeader bytes order resolution)
+    → IfSome (to_come remaining reader) (λ bytes. rest ≡ Some (drop 24 bytes)) → HasNotFailed reader (source_of opened) → failures ≡ map failures_of writers
+    → WhyEnded (input_of order rest) failures (failures_of (source_of opened)) device devices fault → WhyNoSummaryOfThreads remaining reader device writers devices fault
+why_of_threads order resolution remaining rest failures reader device opened writers devices Read header behind well same why =
+    (why.0, why.1, failed-later _ _ _ well why.2)
+why_of_threads order resolution remaining rest failures reader device opened writers devices (Write p) header behind well same why =
+    subst (λ f. FailedAt f p devices) same why
+why_of_threads order resolution remaining rest failures reader device opened writers devices (Refused fault) header behind well same why =
+    refused_whole order resolution (to_come remaining reader) rest fault header behind why.0 why.1
+why_of_threads order resolution remaining rest failures reader device opened writers devices Memory header behind well same why = tt
+why_of_threads order resolution remaining rest failures reader device opened writers devices Thread header behind well same why = tt
+why_of_threads order resolution remaining rest failures reader device opened writers devices Window header behind well same why = tt
+why_of_threads order resolution remaining rest failures reader device opened writers devices Worn header behind well same why = tt
+
+-- what a run by one thread tells of no summary is what one in threads tells
+pub of_threads : {R W : Type 0} (remaining : R → Option (List ℕ)) (reader source : Counted R) (writers devices : List (Counted W)) (fault : RunFault)
+    → WhyNoSummary remaining reader source writers devices fault → WhyNoSummaryOfThreads remaining reader (Some source) writers devices fault
+of_threads remaining reader source writers devices Read why = (source, refl, why)
+of_threads remaining reader source writers devices (Write p) why = why
+of_threads remaining reader source writers devices (Refused fault) why = why
+of_threads remaining reader source writers devices Memory why = tt
+of_threads remaining reader source writers devices Thread why = tt
+of_threads remaining reader source writers devices Window why = tt
+of_threads remaining reader source writers devices Worn why = tt

@@ -1,0 +1,8 @@
+use Rattle.stages.proofs.Alike.{same_ports, same_summary}
+use Rattle.stages.proofs.laws.workers_change_nothing.Goals as goal
+
+pub returns-clause-summary : goal.returns-clause-summary
+returns-clause-summary g c settings bytes writers one many a b r s = same_summary g.W.Write.contents settings bytes writers one many a b r s
+
+pub returns-clause-ports : goal.returns-clause-ports
+returns-clause-ports g c settings bytes writers one many a b r s = same_ports g.W.Write.contents settings bytes writers one many a b r s

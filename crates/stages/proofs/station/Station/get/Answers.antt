@@ -1,0 +1,30 @@
+use Rattle.std.proofs.Common.{rules, refl}
+use Rattle.stages.proofs.Known.{if_ok}
+use Rattle.stages.proofs.Stations.{local_of, of_local, given_apart}
+use Rattle.stages.proofs.station.Station.get.Goals as goal
+
+pub get_into-requires : goal.get_into-requires
+get_into-requires g c = (
+  search rules,
+  (
+    search rules,
+    (
+      search rules,
+      (
+        local_of c.args.self.now.fabric.now c.args.self.now.local c.in-Some.local c.args.self.now.of c.in-Some.is,
+        (c.requires.some, (c.requires.few, c.requires.empty)),
+      ),
+    ),
+  ),
+)
+
+pub invariant_of-self : goal.invariant_of-self
+invariant_of-self g c = record {
+  here = refl;
+  of = of_local c.args.self.now.fabric.now c.get_into.new.self c.get_into.ensures.local;
+  rings = c.args.self.now.rings;
+  small = c.args.self.now.small;
+}
+
+pub returns : goal.returns
+returns g c = record { apart = if_ok c.get_into.result (λ own. given_apart c.get_into.new.self c.get_into.new.into own.0) c.get_into.ensures.own }

@@ -1,0 +1,20 @@
+use Rattle.std.proofs.Common.{rules}
+use Rattle.stages.proofs.threads.pass.Goals as goal
+
+pub scoped-requires : goal.scoped-requires
+scoped-requires g c = record {
+  at = λ a. (
+    (
+      c.requires.hand,
+      c.requires.rings,
+      c.requires.few,
+      c.requires.input,
+      c.requires.between,
+      c.requires.failures,
+      c.requires.room,
+      c.requires.rules,
+      c.requires.ports,
+    ),
+    (search rules, search rules, search rules, search rules, search rules),
+  );
+}

@@ -1,0 +1,24 @@
+use Rattle.std.proofs.Common.{◌∙◌, ap, map}
+use Rattle.pcapio.specs.Counted.{told}
+use Rattle.stages.specs.Ports.{devices_of}
+use Rattle.stages.proofs.Known.{if_err}
+use Rattle.stages.proofs.Ended.{why_ended}
+use Rattle.stages.proofs.Opened.{untold}
+use Rattle.stages.proofs.threads.run_started.Goals as goal
+
+pub returns-in-Err-clause-begun : goal.returns-in-Err-clause-begun
+returns-in-Err-clause-begun g c all known =
+    untold g.W.Write.contents g.J.Run.before g.J.Run.resolution all c.into_devices-devices.result.items
+    (ap (map (told g.W.Write.contents)) (c.into_devices-devices.ensures ∙ ap (λ o. devices_of o.writers.items) c.in-Err.ensures.refused) ∙ c.requires.before)
+
+pub returns-clause-why : goal.returns-clause-why
+returns-clause-why g c =
+    let fed = c.over_rings-sink.result.1 in
+    let sink = c.over_rings-sink.result.0 in
+    if_err c.end-devices.result.1
+    (λ fault why. why_ended g.J.Run.input g.J.Run.failures g.J.Run.read_failures sink.window.next fed.device fed.answer c.end-devices.result.0.items fault
+    fed.failed fed.here fed.refused why)
+    c.end-devices.ensures.why
+
+pub end-devices-requires-clause-failed : goal.end-devices-requires-clause-failed
+end-devices-requires-clause-failed g c p is = absurd (c.over_rings-sink.result.1.unwritten p is)

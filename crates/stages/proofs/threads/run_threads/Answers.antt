@@ -1,0 +1,66 @@
+use Rattle.std.proofs.Common.{rules, ◌≡◌, ◌∙◌, refl, ap, subst, map, length, List, Some, IfOk, OnOk}
+use Rattle.std.proofs.lemmas.List.{length-map}
+use Rattle.pcapio.specs.Counted.{told, failures_of, to_come}
+use Rattle.pcapio.specs.Reader.{order_of, resolution_of, rest}
+use Rattle.stages_laws.specs.Output.{Fate}
+use Rattle.stages.specs.Ending.{Sums}
+use Rattle.stages.specs.Ports.{AreFresh, AreOutputs, AreBeginnings, devices_of}
+use Rattle.stages.specs.Tallies.{fates_of}
+use Rattle.stages.specs.Whole.{forwarding_by}
+use Rattle.stages.proofs.Known.{if_err}
+use Rattle.stages.proofs.Opened.{input_of, untouched_begun, begun_whole, run_told}
+use Rattle.stages.specs.Whole.{WhyNoSummary}
+use Rattle.stages.proofs.Ended.{of_threads, why_of_threads}
+use Rattle.stages.proofs.threads.run_threads.Goals as goal
+
+pub returns-in-Err-clause-begun : goal.returns-in-Err-clause-begun
+returns-in-Err-clause-begun g c =
+    untouched_begun g.W.Write.contents c.args.settings.now (to_come g.R.Read.remaining c.args.reader) c.args.writers.items c.args.writers.items refl
+
+pub returns-in-Err-open_all-clause-begun : goal.returns-in-Err-open_all-clause-begun
+returns-in-Err-open_all-clause-begun g c =
+    untouched_begun g.W.Write.contents c.args.settings.now (to_come g.R.Read.remaining c.args.reader) c.args.writers.items c.in-Err-open_all.writers.items
+    c.in-Err-open_all.ensures.refused
+
+pub run_started-requires-clause-fresh : goal.run_started-requires-clause-fresh
+run_started-requires-clause-fresh g c _ _ =
+    subst (λ r. AreFresh g.W.Write.contents r c.in-Ok-open_all.outputs.writers.items) c.resolution.ensures c.in-Ok-open_all.ensures.fresh
+
+pub returns-in-Ok-open_all-clause-run : goal.returns-in-Ok-open_all-clause-run
+returns-in-Ok-open_all-clause-run g c =
+    let contents = g.W.Write.contents in
+    let settings = c.args.settings.now in
+    let r = c.run_started.result.2 in
+    let input = input_of (order_of c.in-Ok.reader) (rest g.R.Read.remaining c.in-Ok.reader) in
+    let same = c.in-Ok-open_all.ensures.devices in
+    run_told contents settings (order_of c.in-Ok.reader) (resolution_of c.in-Ok.reader) (to_come g.R.Read.remaining c.args.reader)
+    (rest g.R.Read.remaining c.in-Ok.reader) c.args.writers.items c.run_started.result.1.items r c.in-Ok.ensures.header c.in-Ok.ensures.rest
+    (subst (λ ds. OnOk r ((all : List Fate) → fates_of (forwarding_by settings) settings.room input ≡ Some all
+    → AreOutputs contents (map (told contents) ds) (resolution_of c.in-Ok.reader) all c.run_started.result.1.items)) same c.run_started.ensures.outputs)
+    (subst (λ n. IfOk r (Sums input n settings.room (forwarding_by settings)))
+    (length-map (devices_of c.in-Ok-open_all.outputs.writers.items) (told contents) ∙ ap length same) c.run_started.ensures.counts)
+
+pub returns-in-Ok-open_all-clause-begun : goal.returns-in-Ok-open_all-clause-begun
+returns-in-Ok-open_all-clause-begun g c =
+    let contents = g.W.Write.contents in
+    let settings = c.args.settings.now in
+    let input = input_of (order_of c.in-Ok.reader) (rest g.R.Read.remaining c.in-Ok.reader) in
+    begun_whole contents settings (order_of c.in-Ok.reader) (resolution_of c.in-Ok.reader) (to_come g.R.Read.remaining c.args.reader)
+    (rest g.R.Read.remaining c.in-Ok.reader) c.args.writers.items c.run_started.result.1.items c.in-Ok.ensures.header c.in-Ok.ensures.rest
+    (subst (λ ds. (all : List Fate) → fates_of (forwarding_by settings) settings.room input ≡ Some all
+    → AreBeginnings contents (map (told contents) ds) (resolution_of c.in-Ok.reader) all c.run_started.result.1.items)
+    c.in-Ok-open_all.ensures.devices c.run_started.ensures.begun)
+
+pub returns-in-Ok-open_all-clause-why : goal.returns-in-Ok-open_all-clause-why
+returns-in-Ok-open_all-clause-why g c =
+    if_err c.run_started.result.2
+    (λ fault why. why_of_threads (order_of c.in-Ok.reader) (resolution_of c.in-Ok.reader) g.R.Read.remaining (rest g.R.Read.remaining c.in-Ok.reader)
+    (map failures_of (devices_of c.in-Ok-open_all.outputs.writers.items)) c.args.reader c.run_started.result.0 c.in-Ok.reader c.args.writers.items
+    c.run_started.result.1.items fault c.in-Ok.ensures.header c.in-Ok.ensures.rest c.in-Ok.ensures.well (ap (map failures_of) c.in-Ok-open_all.ensures.devices) why)
+    c.run_started.ensures.why
+
+pub returns-in-Err-clause-why : goal.returns-in-Err-clause-why
+returns-in-Err-clause-why g c =
+    let why : WhyNoSummary g.R.Read.remaining c.args.reader c.in-Err.device c.args.writers.items c.args.writers.items c.input_fault.result =
+    search rules in
+    of_threads g.R.Read.remaining c.args.reader c.in-Err.device c.args.writers.items c.args.writers.items c.input_fault.result why

@@ -1,0 +1,49 @@
+//! How what stands on the rings is made.
+ghost use Rattle.std.specs.Prelude.{◌≡◌, ◌≤◌, length};
+ghost use Rattle.mbuf.specs.Chain.{bytes_of, space_of};
+ghost use Rattle.pcapio.specs.Record.{packet_in};
+ghost use Rattle.stages.specs.Judging.{IsBefore, IsFree};
+ghost use Rattle.stages.specs.Packets.{IsRecord};
+
+use crate::packet::{Packet, Segment, Unjudged};
+use mbuf::Chain;
+use stages_laws::Run;
+use std::marker::PhantomData;
+
+impl<J: Run> Packet<J> {
+    /// A segment that no packet uses. Asked: it is one, with the room of the run.
+    pub fn free(chain: Chain) -> Packet<J>
+        requires one { length chain ≡ 1 }
+        requires room { J.room ≤ space_of chain }
+        ensures { IsFree result chain }
+    {
+        Packet::Free(Segment {
+            chain,
+            of: PhantomData,
+        })
+    }
+
+    /// A packet before its verdict. Asked: it is the record of this number, from 0, among the records of the run's
+    /// input that aren't oversize, and it was at least as long on the wire.
+    pub fn before(seq: u64, seconds: u32, fraction: u32, wire: u32, chain: Chain) -> Packet<J>
+        requires record { IsRecord J.input J.room seq (packet_in seconds fraction wire chain) }
+        requires captured { length (bytes_of chain) ≤ wire }
+        ensures { IsBefore result seq seconds fraction wire chain }
+    {
+        Packet::Before(Unjudged {
+            seq,
+            seconds,
+            fraction,
+            wire,
+            chain,
+            of: PhantomData,
+        })
+    }
+
+    /// The end mark.
+    pub fn mark() -> Packet<J>
+        ensures { result ≡ Packet.Mark }
+    {
+        Packet::Mark
+    }
+}

@@ -1,0 +1,52 @@
+//! What the reader of a run in threads leaves.
+ghost use Rattle.std.specs.Prelude.{◌≡◌, ◌≢◌, ◌⊎◌, Some, None, Err, Ok, true};
+ghost use Rattle.pcapio.specs.Reader.{Fails, source_of};
+ghost use Rattle.pcapio.specs.Counted.{failures_of};
+ghost use Rattle.stages.specs.Feeding.{ReadFailed, ReadIsHere, IsNoCapture, WroteNothing};
+ghost use Rattle.stages.specs.declared.fault.RunFault.TheVariants.{Memory, Thread};
+
+use crate::fault::{RingFault, RunFault, lower};
+use crate::stamped::Stamped;
+use pcapio::Counted;
+use stages_laws::Run;
+
+/// The input's device, where its thread could be started, and what was read of it.
+#[derive(Drop)]
+pub(crate) struct Fed<J: Run, R> {
+    pub(crate) device: Option<Counted<R>>,
+    pub(crate) answer: Result<Stamped<J>, RunFault>,
+    pub ghost failed: { ReadFailed J.read_failures device answer },
+    pub ghost here: { ReadIsHere device answer },
+    pub ghost refused: { IsNoCapture J.input answer },
+    pub ghost unwritten: { WroteNothing answer },
+}
+
+impl<J: Run, R> Fed<J, R> {
+    /// Nothing was read, for want of memory or of a thread.
+    pub(crate) fn nothing(device: Option<Counted<R>>, fault: RunFault) -> Fed<J, R>
+        requires { (fault ≡ Memory) ⊎ (fault ≡ Thread) }
+    {
+        Fed {
+            device,
+            answer: Err(fault),
+        }
+    }
+
+    /// The same, where the sink couldn't go on.
+    pub(crate) fn with(self, drained: Result<(), RingFault>) -> Fed<J, R> {
+        let Fed { device, answer, .. } = self;
+        match drained {
+            Ok(()) => Fed { device, answer },
+            Err(ring) => match answer {
+                Ok(_) => Fed {
+                    device,
+                    answer: Err(ring.told()),
+                },
+                Err(fault) => Fed {
+                    device,
+                    answer: Err(lower(fault, ring.told())),
+                },
+            },
+        }
+    }
+}

@@ -1,0 +1,19 @@
+//! Who watches packets while they are judged.
+
+/// Watches the packets of a run while workers judge them.
+pub trait Gate {
+    /// Called by a worker before the verdict of the packet of this number.
+    fn enter(&self, seq: u64);
+
+    /// Called by that worker after it.
+    fn leave(&self, seq: u64);
+}
+
+/// The gate that lets every packet pass at once.
+pub struct Open;
+
+impl Gate for Open {
+    fn enter(&self, _seq: u64) {}
+
+    fn leave(&self, _seq: u64) {}
+}

@@ -1,0 +1,336 @@
+//! A run in threads: a reader, workers, and the sink on the calling thread.
+ghost use Rattle.std.specs.Prelude.{◌≡◌, ◌<◌, ◌≤◌, ◌⊎◌, [], List, None, Some, IfErr, IfOk, IfSome, OnOk};
+ghost use Rattle.std.specs.Prelude.{length, vec_len, vec_capacity, map as mapped};
+ghost use Rattle.fabric.specs.Hands.{IsHandOf, rings_of};
+ghost use Rattle.ipv4.specs.Forwarding.{forwarded};
+ghost use Rattle.pcapio.specs.Counted.{to_come, told, failures_of};
+ghost use Rattle.pcapio.specs.Reader.{order_of, rest, source_of, stage_of};
+ghost use Rattle.pcapio.specs.declared.stage.Stage.TheVariants.{Between};
+ghost use Rattle.stages_laws.specs.Input.{IsInput};
+ghost use Rattle.stages_laws.specs.Output.{Fate};
+ghost use Rattle.stages.specs.Ending.{Sums};
+ghost use Rattle.stages.specs.Passing.{AreRings};
+ghost use Rattle.stages.specs.Ports.{AreFresh, AreOutputs, AreBeginnings, devices_of};
+ghost use Rattle.stages.specs.Tallies.{fates_of};
+ghost use Rattle.stages.specs.Threads.{WhyEnded, WhyNoSummaryOfThreads};
+ghost use Rattle.stages.specs.Whole.{forwarding_by, IsRun, IsBegun, IsUntouched};
+ghost use Rattle.stages.specs.declared.fault.RunFault.TheVariants.{Memory, Thread};
+
+use crate::closing::into_devices;
+use crate::draining::drain;
+use crate::ending::{Summary, end};
+use crate::fault::RunFault;
+use crate::fed::Fed;
+use crate::feeding::{dismiss, feed};
+use crate::gate::Gate;
+use crate::opening::open_all;
+use crate::outputs::Outputs;
+use crate::packet::Packet;
+use crate::reading::input_fault;
+use crate::rings::{SPAN, fill, open_rings};
+use crate::sink::Sink;
+use crate::station::Station;
+use crate::working::{Worked, work};
+use burst::Burst;
+use fabric::{Fabric, Hand, Opened};
+use pcapio::{Counted, Reader};
+use settings::Settings;
+use stages_laws::Run;
+use std::alloc::Global;
+use std::io::{Read, Write};
+use std::marker::Brand;
+use std::sync::Wait;
+use std::thread::{self, Threads};
+
+/// Ends the workers that were started, where a further thread couldn't be: each gets an end mark, and what comes of
+/// them is taken.
+fn call_off<J: Run, R: Read + Drop, W: Write + Drop, T: Wait>(
+    rt: &T,
+    mut station: Station<'_, Packet<J>>,
+    mut sink: Sink<J, W>,
+    started: usize,
+    settings: &Settings,
+    device: Option<Counted<R>>,
+    fault: RunFault,
+) -> (Sink<J, W>, Fed<J, R>)
+    requires few { started ≤ 16 }
+    requires room { settings.now.room ≡ J.room }
+    requires fault { (fault ≡ Memory) ⊎ (fault ≡ Thread) }
+{
+    let mut none = Burst::<Packet<J>, SPAN>::new();
+    let sent = dismiss(rt, &mut station, &mut none, started);
+    if sent.is_ok() {
+        let burst = settings.burst as usize;
+        let room = settings.room as usize;
+        let _told = drain(rt, &mut station, &mut sink, started, burst, room);
+    }
+    (sink, Fed::nothing(device, fault))
+}
+
+/// The threads of a run, over rings on which all segments are free.
+fn pass<
+    J: Run + Send + Sync,
+    G: Gate + Sync,
+    R: Read + Send + Drop,
+    W: Write + Drop,
+    T: Threads + Wait + Sync,
+>(
+    rt: &T,
+    alloc: Global,
+    gate: &G,
+    workers: usize,
+    f: &Fabric<Packet<J>, SPAN>,
+    hand: Hand<Packet<J>>,
+    reader: Reader<R>,
+    sink: Sink<J, W>,
+    settings: &Settings,
+) -> (Sink<J, W>, Fed<J, R>)
+    requires hand { IsHandOf f.now hand }
+    requires rings { AreRings (rings_of f.now) }
+    requires few { workers ≤ 16 }
+    requires input { IsInput (order_of reader) (rest R.remaining reader) J.input }
+    requires between { stage_of reader ≡ Between }
+    requires failures { failures_of (source_of reader) ≡ J.read_failures }
+    requires room { settings.now.room ≡ J.room }
+    requires rules { forwarding_by settings.now ≡ J.forwarding }
+    requires ports { vec_len settings.now.ports.sources ≡ length J.before }
+{
+    thread::scope(
+        thread::scope_env(),
+        rt,
+        move |scope| -> (Sink<J, W>, Fed<J, R>)
+            requires { IsHandOf f.now hand × AreRings (rings_of f.now) × (workers ≤ 16)
+                × IsInput (order_of reader) (rest R.remaining reader) J.input × (stage_of reader ≡ Between)
+                × (failures_of (source_of reader) ≡ J.read_failures) × (settings.now.room ≡ J.room)
+                × (forwarding_by settings.now ≡ J.forwarding)
+                × (vec_len settings.now.ports.sources ≡ length J.before) }
+        {
+            let burst = settings.burst as usize;
+            let cache = settings.cache as usize;
+            let mut sink = sink;
+            let mut hand = hand;
+            for started in 0..workers {
+                let (mine, other) = match hand.split(alloc, f) {
+                    Ok(both) => both,
+                    Err((back, _)) => {
+                        let station = Station::new(f, back, cache);
+                        let device = Some(reader.into_inner());
+                        return call_off(
+                            rt,
+                            station,
+                            sink,
+                            started,
+                            settings,
+                            device,
+                            RunFault::Memory,
+                        );
+                    }
+                };
+                hand = mine;
+                let worker = scope.spawn(
+                    move || -> Worked<Packet<J>>
+                        requires { IsHandOf f.now other × AreRings (rings_of f.now)
+                            × (forwarding_by settings.now ≡ J.forwarding)
+                            × (vec_len settings.now.ports.sources ≡ length J.before) × (0 < burst) × (burst ≤ 64) }
+                    { work(rt, gate, f, other, burst, &settings.table, &settings.ports) },
+                );
+                if worker.is_err() {
+                    let station = Station::new(f, hand, cache);
+                    let device = Some(reader.into_inner());
+                    return call_off(
+                        rt,
+                        station,
+                        sink,
+                        started,
+                        settings,
+                        device,
+                        RunFault::Thread,
+                    );
+                }
+            }
+            let (mine, other) = match hand.split(alloc, f) {
+                Ok(both) => both,
+                Err((back, _)) => {
+                    let station = Station::new(f, back, cache);
+                    let device = Some(reader.into_inner());
+                    return call_off(
+                        rt,
+                        station,
+                        sink,
+                        workers,
+                        settings,
+                        device,
+                        RunFault::Memory,
+                    );
+                }
+            };
+            let mut station = Station::new(f, mine, cache);
+            let Ok(thread) = scope.spawn(
+                move || -> Fed<J, R>
+                    requires { IsHandOf f.now other × AreRings (rings_of f.now) × (workers ≤ 16)
+                        × IsInput (order_of reader) (rest R.remaining reader) J.input × (stage_of reader ≡ Between)
+                        × (failures_of (source_of reader) ≡ J.read_failures) × (settings.now.room ≡ J.room)
+                        × (vec_len settings.now.ports.sources ≡ length J.before) }
+                {
+                    let station = Station::new(f, other, settings.cache as usize);
+                    feed(rt, station, reader, workers, settings)
+                },
+            ) else {
+                return call_off(rt, station, sink, workers, settings, None, RunFault::Thread);
+            };
+            let room = settings.room as usize;
+            let drained = drain(rt, &mut station, &mut sink, workers, burst, room);
+            (sink, thread.join(rt).with(drained))
+        },
+    )
+}
+
+/// The same, over rings of its own.
+fn over_rings<
+    J: Run + Send + Sync,
+    G: Gate + Sync,
+    R: Read + Send + Drop,
+    W: Write + Drop,
+    T: Threads + Wait + Sync,
+>(
+    rt: &T,
+    alloc: Global,
+    gate: &G,
+    workers: usize,
+    reader: Reader<R>,
+    sink: Sink<J, W>,
+    settings: &Settings,
+) -> (Sink<J, W>, Fed<J, R>)
+    requires few { workers ≤ 16 }
+    requires input { IsInput (order_of reader) (rest R.remaining reader) J.input }
+    requires between { stage_of reader ≡ Between }
+    requires failures { failures_of (source_of reader) ≡ J.read_failures }
+    requires room { settings.now.room ≡ J.room }
+    requires rules { forwarding_by settings.now ≡ J.forwarding }
+    requires ports { vec_len settings.now.ports.sources ≡ length J.before }
+{
+    let Some(opened) = open_rings::<J>(alloc, settings) else {
+        let device = Some(reader.into_inner());
+        return (sink, Fed::nothing(device, RunFault::Memory));
+    };
+    let Opened {
+        fabric,
+        hand,
+        items,
+    } = opened;
+    match fill(rt, &fabric, hand, items) {
+        Ok(hand) => pass(
+            rt, alloc, gate, workers, &fabric, hand, reader, sink, settings,
+        ),
+        Err(ring) => {
+            let fed = Fed::nothing(Some(reader.into_inner()), RunFault::Memory);
+            (sink, fed.with(Err(ring)))
+        }
+    }
+}
+
+/// The same from the first record on: nothing was told yet, and each writer has a file header to tell.
+fn run_started<
+    J: Run + Send + Sync,
+    G: Gate + Sync,
+    R: Read + Send + Drop,
+    W: Write + Drop,
+    T: Threads + Wait + Sync,
+>(
+    rt: &T,
+    alloc: Global,
+    gate: &G,
+    workers: usize,
+    reader: Reader<R>,
+    outputs: Outputs<W>,
+    spare: Vec<Counted<W>>,
+    settings: &Settings,
+) -> (
+    Option<Counted<R>>,
+    Vec<Counted<W>>,
+    Result<Summary, RunFault>,
+)
+    requires few { workers ≤ 16 }
+    requires input { IsInput (order_of reader) (rest R.remaining reader) J.input }
+    requires between { stage_of reader ≡ Between }
+    requires read_failures { failures_of (source_of reader) ≡ J.read_failures }
+    requires room { settings.now.room ≡ J.room }
+    requires rules { forwarding_by settings.now ≡ J.forwarding }
+    requires before { mapped (told W.contents) (devices_of outputs.writers.items) ≡ J.before }
+    requires failures { mapped failures_of (devices_of outputs.writers.items) ≡ J.failures }
+    requires fresh { AreFresh W.contents J.resolution outputs.writers.items }
+    requires well { outputs.failed ≡ None }
+    requires ports { vec_len outputs.writers ≡ vec_len settings.now.ports.sources }
+    requires empty { spare.items ≡ [] }
+    requires spare { vec_len outputs.writers ≤ vec_capacity spare }
+    ensures outputs { OnOk result.2 ((all : List Fate) → fates_of J.forwarding J.room J.input ≡ Some all
+        → AreOutputs W.contents J.before J.resolution all result.1.items) }
+    ensures begun { (all : List Fate) → fates_of J.forwarding J.room J.input ≡ Some all
+        → AreBeginnings W.contents J.before J.resolution all result.1.items }
+    ensures counts { IfOk result.2 (Sums J.input (length J.before) J.room J.forwarding) }
+    ensures why { IfErr result.2 (WhyEnded J.input J.failures J.read_failures result.0 result.1.items) }
+{
+    let sink: Sink<J, W> = match Sink::new(alloc, settings.buffers as usize, outputs) {
+        Ok(sink) => sink,
+        Err(outputs) => {
+            let devices = into_devices(outputs.writers, spare);
+            return (Some(reader.into_inner()), devices, Err(RunFault::Memory));
+        }
+    };
+    let (sink, fed) = over_rings(rt, alloc, gate, workers, reader, sink, settings);
+    let Fed { device, answer, .. } = fed;
+    let (devices, told) = end(sink, spare, answer);
+    (device, devices, told)
+}
+
+/// Forwards the capture that `reader` has, as `run_one` does, by a reader, so many workers, each in a thread of its
+/// own, and the sink on the calling thread: each port's device is told what `run_one` tells it, and the counts are the
+/// same. Asked: a device for each port, and 1 to 16 workers. Memory is taken at the beginning, and doesn't grow with
+/// the capture. `gate` watches the packets while they are judged.
+///
+/// All devices come back, the ports' in their order; the input's is None only where its thread couldn't be started.
+/// Refused with 1 `Memory`; 2 `Thread`, where a thread couldn't be started; 3 `Read` and 4 `Write(port)`, where that
+/// device failed in this call; 5 `Capture`, where the input is refused; 6 `Window`, where it has 2^64 - 1 records or
+/// more, or a record didn't come to the sink; 7 `Worn`, where the positions of a ring are used up. Of several the one
+/// with the lowest number. Each port's device was then told a beginning of its output, and after a port's device failed
+/// nothing more was written to any port. The threads have ended then, too; a run of more than 2^44 - 512 packets may
+/// not end.
+pub fn run_threads<
+    G: Gate + Sync,
+    R: Read + Send + Drop,
+    W: Write + Drop,
+    T: Threads + Wait + Sync,
+>(
+    rt: &T,
+    alloc: Global,
+    gate: &G,
+    workers: usize,
+    reader: Counted<R>,
+    writers: Vec<Counted<W>>,
+    settings: &Settings,
+) -> (
+    Option<Counted<R>>,
+    Vec<Counted<W>>,
+    Result<Summary, RunFault>,
+)
+    requires few { workers ≤ 16 }
+    requires ports { vec_len writers ≡ vec_len settings.now.ports.sources }
+    ensures run { IfOk result.2 (λ summary. IfSome (to_come R.remaining reader) (λ bytes.
+        IsRun W.contents settings.now bytes writers.items result.1.items summary)) }
+    ensures begun { IfSome (to_come R.remaining reader) (λ bytes.
+        IsBegun W.contents settings.now bytes writers.items result.1.items) }
+    ensures untouched { IfSome (to_come R.remaining reader) (λ bytes.
+        IsUntouched W.contents settings.now bytes writers.items result.1.items) }
+    ensures why { IfErr result.2 (WhyNoSummaryOfThreads R.remaining reader result.0 writers.items result.1.items) }
+{
+    let reader = match Reader::open(alloc, reader) {
+        Ok(reader) => reader,
+        Err((device, fault)) => return (Some(device), writers, Err(input_fault(fault))),
+    };
+    match open_all(alloc, writers, reader.resolution()) {
+        Ok((outputs, spare)) => run_started::<Brand, G, R, W, T>(
+            rt, alloc, gate, workers, reader, outputs, spare, settings,
+        ),
+        Err(writers) => (Some(reader.into_inner()), writers, Err(RunFault::Memory)),
+    }
+}

@@ -1,0 +1,114 @@
+//! Each call of the input and of each of two ports fails in turn, and two faults come at once.
+ghost use Rattle.std.specs.Prelude.{◌≤◌};
+
+use crate::cases::{Case, LONG, TWO_PORTS, three_records};
+use crate::runs::{Failing, NEVER, SOUND, is_whole, run};
+use pcapio::CapFault;
+use settings::Settings;
+use stages::RunFault;
+use std::process::Abort;
+use std::sync::Wait;
+use std::test::Fail;
+use std::thread::Threads;
+
+/// More calls than any device here is asked for, a byte at a time.
+const CALLS: u64 = 250;
+
+/// Tests that a device fails in each of its calls, that this is told, and that each port has a beginning.
+fn fails_in_turn<R: Abort + AllocGlobal + Threads + Wait + Sync>(
+    rt: &R,
+    settings: &Settings,
+    case: &Case,
+    most: usize,
+    device: usize,
+    workers: usize,
+) -> Result<(), Fail>
+    requires { workers ≤ 16 }
+{
+    let faults = [RunFault::Read, RunFault::Write(0), RunFault::Write(1)];
+    for call in 0..CALLS {
+        let failing = match device {
+            0 => Failing {
+                input: call,
+                ..SOUND
+            },
+            1 => Failing {
+                ports: [call, NEVER],
+                ..SOUND
+            },
+            _ => Failing {
+                ports: [NEVER, call],
+                ..SOUND
+            },
+        };
+        let left = run(rt, settings, case, most, failing, workers)?;
+        if left.failures == 0 {
+            is_whole(rt, &left, 3, true);
+            return Ok(());
+        }
+        assert_eq!(rt; left.failures, 1);
+        assert_eq!(rt;
+            left.answer.err(),
+            faults.get(device).copied(),
+            "{failing:?}"
+        );
+        assert!(rt; !left.wrong, "{failing:?}");
+    }
+    Err(Fail::new("no run was whole"))
+}
+
+#[test]
+fn each_call_of_a_device_fails(rt: HostRuntime) -> Result<(), Fail> {
+    let settings = Settings::read(rt.alloc(), TWO_PORTS.as_bytes())?;
+    let short = three_records(rt.alloc(), b"")?;
+    // Records that are too long to wait are written while the run goes on.
+    let long = three_records(rt.alloc(), &LONG)?;
+    for workers in [0, 2] {
+        for device in 0..3 {
+            for most in [1, 7, 1000] {
+                fails_in_turn(&rt, &settings, &short, most, device, workers)?;
+            }
+            fails_in_turn(&rt, &settings, &long, 7000, device, workers)?;
+        }
+    }
+    Ok(())
+}
+
+/// Two faults at once, with so many workers: the answer, and how often devices failed.
+fn of_two<R: Abort + AllocGlobal + Threads + Wait + Sync>(
+    rt: &R,
+    settings: &Settings,
+    case: &Case,
+    failing: Failing,
+    workers: usize,
+    told: RunFault,
+) -> Result<(), Fail>
+    requires { workers ≤ 16 }
+{
+    let left = run(rt, settings, case, 1000, failing, workers)?;
+    assert_eq!(rt; (left.answer.err(), left.wrong), (Some(told), false));
+    Ok(())
+}
+
+#[test]
+fn of_two_faults_the_lower_is_told(rt: HostRuntime) -> Result<(), Fail> {
+    let settings = Settings::read(rt.alloc(), TWO_PORTS.as_bytes())?;
+    let case = three_records(rt.alloc(), b"")?;
+    let mut bad = three_records(rt.alloc(), b"")?;
+    // Behind the records stands one of too many bytes.
+    bad.capture.truncate(24 + 50 + 50 + 54);
+    bad.capture.extend_from_slice(&[0xff; 16])?;
+    let full = Failing {
+        ports: [0, 0],
+        ..SOUND
+    };
+    let broken = Failing { input: 1, ..full };
+    let refused = RunFault::Capture(CapFault::BadRecord);
+    for workers in [0, 1, 2] {
+        of_two(&rt, &settings, &case, full, workers, RunFault::Write(0))?;
+        of_two(&rt, &settings, &case, broken, workers, RunFault::Read)?;
+        of_two(&rt, &settings, &bad, SOUND, workers, refused)?;
+        of_two(&rt, &settings, &bad, full, workers, RunFault::Write(0))?;
+    }
+    Ok(())
+}

@@ -1,0 +1,126 @@
+//! Runs of many records, by different numbers of workers and with different settings.
+ghost use Rattle.std.specs.Prelude.{◌≤◌};
+
+use crate::cases::{Case, LONG, TWO_PORTS};
+use crate::runs::{Left, SOUND, is_whole, run};
+use settings::Settings;
+use std::alloc::{AllocError, Global};
+use std::process::Abort;
+use std::sync::Wait;
+use std::test::Fail;
+use std::thread::Threads;
+
+/// The report of a run.
+fn report_of(alloc: Global, left: &Left) -> Result<Vec<u8>, Fail> {
+    let mut text = Vec::new(alloc);
+    match &left.answer {
+        Ok(told) => told.counts.report(alloc, told.torn, &mut text)?,
+        Err(_) => return Err(Fail::new("no answer")),
+    }
+    Ok(text)
+}
+
+/// A thousand records, to two ports, with drops of every kind among them.
+fn a_thousand(alloc: Global) -> Result<Case, AllocError> {
+    let mut case = Case::new(alloc, 2)?;
+    for record in 0..1000usize {
+        match (record % 10) as u8 {
+            0 | 4 | 8 => case.send((record % 4 / 2) as u8, &LONG[..record])?,
+            reason => case.waste(if reason > 7 { 7 } else { reason })?,
+        }
+    }
+    Ok(case)
+}
+
+/// Runs by 0, 1, 2 and 16 workers: each port is told all, and the report is that of one thread.
+fn alike<R: Abort + AllocGlobal + Threads + Wait + Sync>(
+    rt: &R,
+    settings: &Settings,
+    case: &Case,
+    records: u64,
+) -> Result<(), Fail> {
+    let one = run(rt, settings, case, 100_000, SOUND, 0)?;
+    is_whole(rt, &one, records, false);
+    let wanted = report_of(rt.alloc(), &one)?;
+    for workers in [1, 2, 16] {
+        let left = run(rt, settings, case, 100_000, SOUND, workers)?;
+        is_whole(rt, &left, records, false);
+        let report = report_of(rt.alloc(), &left)?;
+        assert!(rt; report.as_slice() == wanted.as_slice());
+    }
+    Ok(())
+}
+
+/// Settings of two ports with these first lines.
+fn two_ports(alloc: Global, lines: &str) -> Result<Settings, Fail> {
+    let mut text = String::from_str(alloc, lines)?;
+    text.push_str(TWO_PORTS)?;
+    let settings = Settings::read(alloc, text.as_str().as_bytes())?;
+    Ok(settings)
+}
+
+#[test]
+fn a_thousand_records_by_so_many_workers(rt: HostRuntime) -> Result<(), Fail> {
+    let case = a_thousand(rt.alloc())?;
+    for lines in [
+        "burst = 1\n",
+        "burst = 32\n",
+        "burst = 64\nring = 1\n",
+        "burst = 1\nring = 1\ncache = 0\n",
+    ] {
+        let settings = two_ports(rt.alloc(), lines)?;
+        alike(&rt, &settings, &case, 1000)?;
+    }
+    Ok(())
+}
+
+#[test]
+fn records_of_many_segments(rt: HostRuntime) -> Result<(), Fail> {
+    let mut case = Case::new(rt.alloc(), 2)?;
+    for record in 0..100usize {
+        // As many bytes as 64 segments of 64 have, less up to 99.
+        case.send((record % 2) as u8, &LONG[..4096 - 34 - record])?;
+    }
+    for lines in [
+        "room = 64\ncache = 0\nburst = 1\n",
+        "room = 64\ncache = 32\nburst = 64\n",
+    ] {
+        let settings = two_ports(rt.alloc(), lines)?;
+        alike(&rt, &settings, &case, 100)?;
+    }
+    Ok(())
+}
+
+#[test]
+fn one_record_and_none(rt: HostRuntime) -> Result<(), Fail> {
+    let settings = Settings::read(rt.alloc(), TWO_PORTS.as_bytes())?;
+    let mut case = Case::new(rt.alloc(), 2)?;
+    alike(&rt, &settings, &case, 0)?;
+    case.send(1, b"one")?;
+    alike(&rt, &settings, &case, 1)
+}
+
+#[test]
+fn many_records_to_sixteen_ports(rt: HostRuntime) -> Result<(), Fail> {
+    let mut text = String::from_str(rt.alloc(), "buffers = 112\nbits = 16\nroom = 64\n")?;
+    for q in 0..16 {
+        text.push_str(format!(in rt.alloc();
+            "[[port]]\nmac = \"02:00:00:00:00:1{q:x}\"\n"
+        )?.as_str())?;
+    }
+    let mut case = Case::new(rt.alloc(), 16)?;
+    for q in 0..16u8 {
+        text.push_str(format!(in rt.alloc();
+            "[[route]]\nprefix = \"10.{q}.0.0/16\"\nport = {q}\nto = \"02:00:00:00:00:2{q:x}\"\n"
+        )?.as_str())?;
+    }
+    for record in 0..2000u64 {
+        case.send((record % 16) as u8, &LONG[..100])?;
+    }
+    let settings = Settings::read(rt.alloc(), text.as_bytes())?;
+    let left = run(&rt, &settings, &case, 100_000, SOUND, 0)?;
+    is_whole(&rt, &left, 2000, false);
+    let told = left.answer.ok().ok_or("no answer")?;
+    assert_eq!(rt; told.counts.sent(), [125; 16].as_slice());
+    Ok(())
+}

@@ -1,0 +1,89 @@
+//! Runs for each amount of memory that is too little.
+ghost use Rattle.std.specs.Prelude.{◌≤◌};
+
+use crate::cases::{Case, TWO_PORTS, three_records};
+use crate::runs::{Left, SOUND, is_whole, run};
+use exhaust::take_all;
+use settings::Settings;
+use stages::RunFault;
+use std::process::Abort;
+use std::sync::Wait;
+use std::test::Fail;
+use std::thread::Threads;
+
+/// Runs over a case, with one more piece of memory given back each time that it is refused: how often it was, each
+/// time with a beginning at each port and no device that failed, and what the first run with enough of it left.
+fn run_at_last<R: Abort + AllocGlobal + Threads + Wait + Sync>(
+    rt: &R,
+    settings: &Settings,
+    case: &Case,
+    held: &mut Vec<Vec<u8>>,
+    workers: usize,
+) -> (usize, Option<Left>)
+    requires { workers ≤ 16 }
+{
+    let mut refused = 0usize;
+    for _ in 0..held.len() {
+        if let Ok(left) = run(rt, settings, case, 7, SOUND, workers) {
+            if left.answer.is_ok() {
+                return (refused, Some(left));
+            }
+            assert_eq!(rt; (left.wrong, left.failures), (false, 0));
+            match left.answer.err() {
+                Some(RunFault::Memory) => (),
+                // A thread takes memory too.
+                Some(RunFault::Thread) => assert!(rt; workers > 0),
+                fault => assert_eq!(rt; fault, None),
+            }
+            refused = refused.saturating_add(1);
+        }
+        held.pop();
+    }
+    (refused, None)
+}
+
+/// Writes to more of the stack than any run needs: it can't grow once all addresses are taken.
+#[inline(never)]
+fn deepen() -> u8 {
+    let mut room = [[0u8; 65_536]; 16];
+    touch(&mut room)
+}
+
+/// Writes to each of these bytes, and gives the last.
+#[inline(never)]
+fn touch(room: &mut [[u8; 65_536]]) -> u8 {
+    let mut last = 0u8;
+    for part in room {
+        part.fill(1);
+        last = part.last().copied().unwrap_or(0);
+    }
+    last
+}
+
+/// Runs while all memory is taken, and a piece of it is given back each time.
+fn has_memory_at_last<R: Abort + AllocGlobal + Threads + Wait + Sync>(
+    rt: &R,
+    workers: usize,
+) -> Result<(), Fail>
+    requires { workers ≤ 16 }
+{
+    let settings = Settings::read(rt.alloc(), TWO_PORTS.as_bytes())?;
+    let case = three_records(rt.alloc(), b"")?;
+    assert_eq!(rt; deepen(), 1);
+    let mut held = take_all(rt.alloc())?.ok_or("memory can't be used up in this build")?;
+    let (refused, left) = run_at_last(rt, &settings, &case, &mut held, workers);
+    drop(held);
+    assert!(rt; refused > 0);
+    is_whole(rt, &left.ok_or("memory was never enough")?, 3, true);
+    Ok(())
+}
+
+#[test]
+fn tells_memory_until_there_is_enough(rt: HostRuntime) -> Result<(), Fail> {
+    has_memory_at_last(&rt, 0)
+}
+
+#[test]
+fn threads_tell_memory_until_there_is_enough(rt: HostRuntime) -> Result<(), Fail> {
+    has_memory_at_last(&rt, 2)
+}
