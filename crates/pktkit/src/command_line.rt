@@ -5,8 +5,8 @@ use clap::error::ErrorKind;
 use clap::{Arg, ArgAction, ArgMatches, Command, Error};
 use std::alloc::Global;
 
-/// The most workers that a run may have beside the calling thread. So far that thread does all.
-const MOST_WORKERS: u64 = 0;
+/// The most workers that a run may have.
+pub const MOST_WORKERS: usize = 16;
 
 /// What a command line asks for.
 #[derive(Clone, Copy, Debug, PartialEq, Eq)]
@@ -19,7 +19,7 @@ pub enum Asked<'a> {
     Run(RunFiles<'a>),
 }
 
-/// The files that a run is told.
+/// What a run is told.
 #[derive(Clone, Copy, Debug, PartialEq, Eq)]
 pub struct RunFiles<'a> {
     /// The file of its settings.
@@ -28,6 +28,8 @@ pub struct RunFiles<'a> {
     pub input: &'a str,
     /// What the names of the ports' files begin with.
     pub out: &'a str,
+    /// How many workers judge packets, each in a thread of its own; where there are none, one thread does all.
+    pub workers: usize,
 }
 
 /// Reads the words after the program's name. Without any the input is asked for.
@@ -47,12 +49,13 @@ pub fn read_words<'a>(alloc: Global, words: &'a [String]) -> Result<Asked<'a>, E
     }
 }
 
-/// The files that a run is told.
+/// What a run is told.
 fn run_files<'a>(run: &ArgMatches<'a>) -> Option<RunFiles<'a>> {
     Some(RunFiles {
         config: run.get_str("config")?,
         input: run.get_str("in")?,
         out: run.get_str("out")?,
+        workers: run.get_one::<usize>("workers")?,
     })
 }
 
@@ -93,9 +96,9 @@ fn run_command<'a>(alloc: Global) -> Result<Command<'a>, Error> {
         .long("workers")
         .value_name("N")
         .action(ArgAction::Set)
-        .value_parser(ValueParser::unsigned(0, MOST_WORKERS))
-        .default_value("0")
-        .help("How many workers judge packets; with 0 one thread does all");
+        .value_parser(ValueParser::unsigned(0, MOST_WORKERS as u64))
+        .default_value("1")
+        .help("How many threads judge packets, 0 to 16; with 0 one thread does all");
     let command = Command::new(alloc, "run")
         .about("Forwards a capture by routes, and prints a report")
         .arg(path(alloc, "config", "FILE", "The settings, a TOML document"))?

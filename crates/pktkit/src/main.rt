@@ -34,6 +34,7 @@ fn main(rt: HostRuntime) -> ExitCode {
     };
     let status = program(
         &rt,
+        &rt,
         words.as_slice(),
         rt.stdin(),
         &mut rt.stdout(),

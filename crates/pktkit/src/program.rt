@@ -1,4 +1,5 @@
-//! The whole program, over the words of its command line, a reader and two writers.
+//! The whole program, over the words of its command line, a reader and two writers. Files and memory are of one
+//! runtime, threads may be of another.
 
 ghost use Rattle.std.specs.Prelude.{◌≤◌};
 
@@ -11,6 +12,8 @@ use lines::TextFault;
 use std::fs;
 use std::io::{Read, Write};
 use std::rt::Files;
+use std::sync::Wait;
+use std::thread::Threads;
 use steps::steps_text;
 
 /// The name that stands for the input where no file is named.
@@ -19,19 +22,21 @@ const INPUT: &str = "-";
 /// Runs the program and tells its status: 0 where all went well or help was asked for, 1 after a fault, which is
 /// told in one line on `err`, and 2 where the command line is refused. Where `out` fails, that is the one fault
 /// that is told; where `err` fails, the status stays.
-pub fn program<R: Files + AllocGlobal, I: Read + Drop, O: Write, E: Write>(
-    rt: &R,
-    words: &[String],
-    input: I,
-    out: &mut O,
-    err: &mut E,
-) -> u8
+pub fn program<
+    R: Files + AllocGlobal,
+    T: Threads + Wait + Sync,
+    I: Read + Drop,
+    O: Write,
+    E: Write,
+>(rt: &R, threads: &T, words: &[String], input: I, out: &mut O, err: &mut E) -> u8
+where
+    R::File: Send,
     ensures { result ≤ 2 }
 {
     let done = match read_words(rt.alloc(), words) {
         Ok(Asked::Ring(file)) => answer_ring(rt, file, input, out),
         Ok(Asked::Steps(file)) => answer_steps(rt, file, input, out),
-        Ok(Asked::Run(files)) => answer_run(rt, &files, out),
+        Ok(Asked::Run(files)) => answer_run(rt, threads, &files, out),
         Err(refusal) => return refuse(&refusal, out, err),
     };
     match done {
@@ -109,12 +114,16 @@ fn well<'a>(answered: Result<(), TextFault>) -> Result<(), Fault<'a>> {
 }
 
 /// Prints the report of a run over a capture.
-fn answer_run<'a, R: Files + AllocGlobal, O: Write>(
+fn answer_run<'a, R: Files + AllocGlobal, T: Threads + Wait + Sync, O: Write>(
     rt: &R,
+    threads: &T,
     files: &RunFiles<'a>,
     out: &mut O,
-) -> Result<(), Fault<'a>> {
-    let report = run_files(rt, files)?;
+) -> Result<(), Fault<'a>>
+where
+    R::File: Send,
+{
+    let report = run_files(rt, threads, files)?;
     print(report.as_slice(), out)
 }
 

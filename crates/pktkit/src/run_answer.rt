@@ -1,32 +1,53 @@
-//! The run over a capture: its files are opened in their order, the capture goes through `run_one`, and the report is
-//! made.
+//! The run over a capture: its files are opened in their order, the capture is forwarded by one thread or by several,
+//! and the report is made.
 
 ghost use Rattle.std.specs.Prelude.{◌≡◌, ◌++◌, IfOk, codes, decimal, vec_len};
 ghost use Rattle.counters.specs.Report.{report_of};
 
-use crate::command_line::RunFiles;
+use crate::command_line::{MOST_WORKERS, RunFiles};
 use crate::fault::Fault;
 use itoa::Buffer;
 use pcapio::Counted;
 use settings::Settings;
-use stages::{Summary, run_one};
+use stages::{Open, Summary, run_one, run_threads};
 use std::alloc::{AllocError, Global};
 use std::fs;
 use std::rt::Files;
+use std::sync::Wait;
+use std::thread::Threads;
 
 /// The report of a run over these files. The settings are read first, then the capture is opened, then the files of
 /// the ports are created or emptied, and then the run begins: a fault leaves the files alone that come after it.
-pub fn run_files<'a, R: Files + AllocGlobal>(
+pub fn run_files<'a, R: Files + AllocGlobal, T: Threads + Wait + Sync>(
     rt: &R,
+    threads: &T,
     files: &RunFiles<'a>,
-) -> Result<Vec<u8>, Fault<'a>> {
+) -> Result<Vec<u8>, Fault<'a>>
+where
+    R::File: Send,
+{
     let settings = read_settings(rt, files.config)?;
     let input = match fs::open(rt, files.input) {
         Ok(input) => Counted::new(input),
         Err(error) => return Err(Fault::of_file(&error, Fault::File(files.input))),
     };
     let ports = create_ports(rt, files.out, settings.ports.sources.len())?;
-    let (_input, _ports, summary) = run_one(rt.alloc(), input, ports, &settings);
+    let summary = if files.workers == 0 {
+        let (_input, _ports, summary) = run_one(rt.alloc(), input, ports, &settings);
+        summary
+    } else {
+        let workers = files.workers.min(MOST_WORKERS);
+        let (_input, _ports, summary) = run_threads(
+            threads,
+            rt.alloc(),
+            &Open,
+            workers,
+            input,
+            ports,
+            &settings,
+        );
+        summary
+    };
     match summary {
         Ok(summary) => {
             let report = report(rt.alloc(), &summary)?;

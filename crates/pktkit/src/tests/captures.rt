@@ -5,7 +5,9 @@ use std::alloc::AllocError;
 use std::fs;
 use std::process::Abort;
 use std::rt::Files;
+use std::sync::Wait;
 use std::test::Fail;
+use std::thread::Threads;
 
 /// The settings of one port and one route.
 pub const ONE_PORT: &str = "buffers = 256\n[[port]]\nmac = \"02:00:00:00:00:10\"\n[[route]]\n\
@@ -75,12 +77,15 @@ pub fn put_record(file: &mut Vec<u8>, wire: u32, parts: &[&[u8]]) -> Result<(), 
 }
 
 /// Writes settings and a capture under names that begin with this one.
-pub fn lay<R: Files + AllocGlobal>(
+pub fn lay<R: Files + AllocGlobal + Threads + Wait + Sync>(
     rt: &R,
     name: &str,
     settings: &str,
     capture: &[u8],
-) -> Result<(), Fail> {
+) -> Result<(), Fail>
+where
+    R::File: Send,
+{
     fs::write(
         rt,
         format!(in rt.alloc(); "{name}.toml")?.as_str(),
@@ -91,45 +96,119 @@ pub fn lay<R: Files + AllocGlobal>(
 }
 
 /// Runs the program over these files.
-pub fn run_files<'x, R: Files + AllocGlobal>(
+pub fn run_files<'x, R: Files + AllocGlobal + Threads + Wait + Sync>(
     rt: &R,
     config: &'x str,
     input: &'x str,
     out: &'x str,
-) -> Result<Ran, AllocError> {
+) -> Result<Ran, AllocError>
+where
+    R::File: Send,
+{
     let words = ["run", "--out", out, "--config", config, "--in", input];
     run(rt, &words, b"")
 }
 
 /// Runs the program over the settings and the capture of this name.
-pub fn run_laid<R: Files + AllocGlobal>(rt: &R, name: &str) -> Result<Ran, AllocError> {
+pub fn run_laid<R: Files + AllocGlobal + Threads + Wait + Sync>(
+    rt: &R,
+    name: &str,
+) -> Result<Ran, AllocError>
+where
+    R::File: Send,
+{
     let config = format!(in rt.alloc(); "{name}.toml")?;
     let input = format!(in rt.alloc(); "{name}.pcap")?;
     run_files(rt, config.as_str(), input.as_str(), name)
 }
 
-/// Runs the program over settings and a capture, and takes them away.
-pub fn run_over<R: Files + AllocGlobal>(
+/// Runs the program by so many workers over the settings and the capture of this name.
+fn run_by<R: Files + AllocGlobal + Threads + Wait + Sync>(
+    rt: &R,
+    name: &str,
+    workers: &str,
+) -> Result<Ran, AllocError>
+where
+    R::File: Send,
+{
+    let config = format!(in rt.alloc(); "{name}.toml")?;
+    let input = format!(in rt.alloc(); "{name}.pcap")?;
+    let words = [
+        "run",
+        "--workers",
+        workers,
+        "--out",
+        name,
+        "--config",
+        config.as_str(),
+        "--in",
+        input.as_str(),
+    ];
+    run(rt, &words, b"")
+}
+
+/// What the files of the first two ports hold, one after the other; nothing of a file that isn't there.
+fn ports<R: Files + AllocGlobal>(rt: &R, name: &str) -> Result<Vec<u8>, Fail> {
+    let mut told = Vec::new(rt.alloc());
+    for q in 0..2u32 {
+        let file = format!(in rt.alloc(); "{name}.{q}.pcap")?;
+        if let Ok(bytes) = fs::read(rt, file.as_str()) {
+            told.extend_from_slice(&bytes.len().to_le_bytes())?;
+            told.extend_from_slice(bytes.as_slice())?;
+        }
+    }
+    Ok(told)
+}
+
+/// Runs the program over settings and a capture by one thread, and by one and two workers, with the same bytes at each
+/// port and the same report, and takes them away.
+pub fn run_over<R: Abort + Files + AllocGlobal + Threads + Wait + Sync>(
     rt: &R,
     name: &str,
     settings: &str,
     capture: &[u8],
-) -> Result<Ran, Fail> {
+) -> Result<Ran, Fail>
+where
+    R::File: Send,
+{
     lay(rt, name, settings, capture)?;
-    let ran = run_laid(rt, name)?;
+    let one = run_by(rt, name, "0")?;
+    let told = ports(rt, name)?;
+    for workers in ["1", "2"] {
+        let ran = run_by(rt, name, workers)?;
+        assert_eq!(rt; ran.status, one.status, "{workers}");
+        assert!(rt;
+            ran.out.as_slice() == one.out.as_slice() && ran.err.as_slice() == one.err.as_slice()
+        );
+        let others = ports(rt, name)?;
+        assert!(rt; others.as_slice() == told.as_slice());
+    }
     take_away(rt, name)?;
-    Ok(ran)
+    Ok(one)
 }
 
 /// Takes the settings and the capture of this name away.
-pub fn take_away<R: Files + AllocGlobal>(rt: &R, name: &str) -> Result<(), Fail> {
+pub fn take_away<R: Files + AllocGlobal + Threads + Wait + Sync>(
+    rt: &R,
+    name: &str,
+) -> Result<(), Fail>
+where
+    R::File: Send,
+{
     fs::remove_file(rt, format!(in rt.alloc(); "{name}.toml")?.as_str())?;
     fs::remove_file(rt, format!(in rt.alloc(); "{name}.pcap")?.as_str())?;
     Ok(())
 }
 
 /// What a port's file holds, which is taken away.
-pub fn port<R: Files + AllocGlobal>(rt: &R, name: &str, q: u32) -> Result<Vec<u8>, Fail> {
+pub fn port<R: Files + AllocGlobal + Threads + Wait + Sync>(
+    rt: &R,
+    name: &str,
+    q: u32,
+) -> Result<Vec<u8>, Fail>
+where
+    R::File: Send,
+{
     let file = format!(in rt.alloc(); "{name}.{q}.pcap")?;
     let bytes = fs::read(rt, file.as_str())?;
     fs::remove_file(rt, file.as_str())?;

@@ -67,7 +67,7 @@ fn a_file_that_is_not_there(rt: HostRuntime) -> Result<(), Fail> {
 fn an_input_that_fails(rt: HostRuntime) -> Result<(), Fail> {
     let mut out = Vec::new(rt.alloc());
     let mut err = Vec::new(rt.alloc());
-    let status = program(&rt, &[], Broken, &mut out, &mut err);
+    let status = program(&rt, &rt, &[], Broken, &mut out, &mut err);
     assert_eq!(rt; (status, text(&err)), (1, Some("pktkit: file -\n")));
     assert_eq!(rt; out.len(), 0);
     Ok(())
@@ -76,15 +76,22 @@ fn an_input_that_fails(rt: HostRuntime) -> Result<(), Fail> {
 #[test]
 fn an_output_that_fails(rt: HostRuntime) -> Result<(), Fail> {
     let mut err = Vec::new(rt.alloc());
-    let status = program(&rt, &[], b"count\n".as_slice(), &mut Broken, &mut err);
+    let status = program(&rt, &rt, &[], b"count\n".as_slice(), &mut Broken, &mut err);
     assert_eq!(rt; (status, text(&err)), (1, Some("pktkit: output\n")));
     // It is the only fault told, also before a line of no form.
     let mut err = Vec::new(rt.alloc());
-    let status = program(&rt, &[], b"count\nlook\n".as_slice(), &mut Broken, &mut err);
+    let status = program(
+        &rt,
+        &rt,
+        &[],
+        b"count\nlook\n".as_slice(),
+        &mut Broken,
+        &mut err,
+    );
     assert_eq!(rt; (status, text(&err)), (1, Some("pktkit: output\n")));
     // Nothing is written, so nothing fails.
     let mut err = Vec::new(rt.alloc());
-    let status = program(&rt, &[], b"look\n".as_slice(), &mut Broken, &mut err);
+    let status = program(&rt, &rt, &[], b"look\n".as_slice(), &mut Broken, &mut err);
     assert_eq!(rt; (status, text(&err)), (1, Some("pktkit: line 1\n")));
     Ok(())
 }
@@ -93,11 +100,11 @@ fn an_output_that_fails(rt: HostRuntime) -> Result<(), Fail> {
 fn an_error_stream_that_fails(rt: HostRuntime) -> Result<(), Fail> {
     let mut out = Vec::new(rt.alloc());
     assert_eq!(rt;
-        program(&rt, &[], b"look\n".as_slice(), &mut out, &mut Broken),
+        program(&rt, &rt, &[], b"look\n".as_slice(), &mut out, &mut Broken),
         1
     );
     assert_eq!(rt;
-        program(&rt, &[], b"count\n".as_slice(), &mut out, &mut Broken),
+        program(&rt, &rt, &[], b"count\n".as_slice(), &mut out, &mut Broken),
         0
     );
     Ok(())

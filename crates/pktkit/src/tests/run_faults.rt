@@ -2,8 +2,8 @@
 
 use super::captures::*;
 use super::faults::Broken;
-use super::run;
 use super::starved::Starved;
+use super::{run, run_apart};
 use crate::fault::Fault;
 use crate::program::program;
 use stages::RunFault;
@@ -12,7 +12,9 @@ use std::fs;
 use std::os::unix::fs::symlink;
 use std::process::Abort;
 use std::rt::Files;
+use std::sync::Wait;
 use std::test::Fail;
+use std::thread::Threads;
 
 /// What stood in the file of a port before a run.
 const OLD: &[u8] = b"old";
@@ -96,13 +98,16 @@ fn captures_that_are_refused(rt: HostRuntime) -> Result<(), Fail> {
 }
 
 /// Tests that a run over these files ends with this fault.
-fn expect_fault<'x, R: Abort + Files + AllocGlobal>(
+fn expect_fault<'x, R: Abort + Files + AllocGlobal + Threads + Wait + Sync>(
     rt: &R,
     config: &'x str,
     input: &'x str,
     out: &'x str,
     told: &str,
-) -> Result<(), Fail> {
+) -> Result<(), Fail>
+where
+    R::File: Send,
+{
     let ran = run_files(rt, config, input, out)?;
     let line = format!(in rt.alloc(); "pktkit: {told}\n")?;
     is_at_fault(rt, &ran, line.as_str());
@@ -179,7 +184,14 @@ fn streams_that_fail(rt: HostRuntime) -> Result<(), Fail> {
         words.push(String::from_str(rt.alloc(), word)?)?;
     }
     let mut err = Vec::new(rt.alloc());
-    let status = program(&rt, words.as_slice(), b"".as_slice(), &mut Broken, &mut err);
+    let status = program(
+        &rt,
+        &rt,
+        words.as_slice(),
+        b"".as_slice(),
+        &mut Broken,
+        &mut err,
+    );
     assert_eq!(rt;
         (status, std::str::from_utf8(err.as_slice()).ok()),
         (1, Some("pktkit: output\n"))
@@ -188,7 +200,14 @@ fn streams_that_fail(rt: HostRuntime) -> Result<(), Fail> {
         assert_eq!(rt; port(&rt, name, q)?.as_slice(), MICRO.as_slice());
     }
     let mut out = Vec::new(rt.alloc());
-    let status = program(&rt, words.as_slice(), b"".as_slice(), &mut out, &mut Broken);
+    let status = program(
+        &rt,
+        &rt,
+        words.as_slice(),
+        b"".as_slice(),
+        &mut out,
+        &mut Broken,
+    );
     assert_eq!(rt; (status, out.is_empty()), (0, false));
     for q in 0..2 {
         assert_eq!(rt; port(&rt, name, q)?.as_slice(), MICRO.as_slice());
@@ -202,7 +221,16 @@ fn files_without_memory(rt: HostRuntime) -> Result<(), Fail> {
     lay(&rt, name, TWO_PORTS, &MICRO)?;
     for end in [".toml", ".pcap", ".0.pcap", ".1.pcap"] {
         let starved = (Starved::new(&rt, end), rt.alloc());
-        let ran = run_laid(&starved, name)?;
+        let words = [
+            "run",
+            "--config",
+            "pktkit_files_without_memory.toml",
+            "--in",
+            "pktkit_files_without_memory.pcap",
+            "--out",
+            name,
+        ];
+        let ran = run_apart(&starved, &rt, &words, b"")?;
         is_at_fault(&rt, &ran, "pktkit: memory\n");
     }
     assert_eq!(rt; port(&rt, name, 0)?.len(), 0);
@@ -235,7 +263,7 @@ fn numbers_of_workers(rt: HostRuntime) -> Result<(), Fail> {
     let old = "pktkit_numbers_of_workers.0.pcap";
     lay(&rt, name, TWO_PORTS, &MICRO)?;
     fs::write(&rt, old, OLD)?;
-    for workers in ["17", "-1", "", "1", "none"] {
+    for workers in ["17", "-1", "", "none"] {
         let words = [
             "run",
             "--workers",

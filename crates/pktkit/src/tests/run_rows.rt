@@ -7,7 +7,9 @@ use super::captures::*;
 use std::alloc::{AllocError, Global};
 use std::process::Abort;
 use std::rt::Files;
+use std::sync::Wait;
 use std::test::Fail;
+use std::thread::Threads;
 
 /// Bytes of a frame behind its IPv4 header.
 const ZEROS: [u8; 4063] = [0; 4063];
@@ -86,7 +88,7 @@ fn cut_at_each_byte(rt: HostRuntime) -> Result<(), Fail> {
 
 /// Tests a capture of one frame that is sent: the original length that it tells and the one that is written, its IPv4
 /// header as it comes and as it is sent, and what follows.
-fn expect_sent<R: Abort + Files + AllocGlobal>(
+fn expect_sent<R: Abort + Files + AllocGlobal + Threads + Wait + Sync>(
     rt: &R,
     name: &str,
     told: u32,
@@ -94,7 +96,10 @@ fn expect_sent<R: Abort + Files + AllocGlobal>(
     header: &[u8],
     sent: &[u8],
     more: &[u8],
-) -> Result<(), Fail> {
+) -> Result<(), Fail>
+where
+    R::File: Send,
+{
     let mut capture = Vec::new(rt.alloc());
     capture.extend_from_slice(&MICRO)?;
     put_record(&mut capture, told, &[&ETHER, header, more])?;

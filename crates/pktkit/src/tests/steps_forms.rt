@@ -3,7 +3,9 @@
 use super::{expect_replies, expect_steps};
 use std::process::Abort;
 use std::rt::Files;
+use std::sync::Wait;
 use std::test::Fail;
+use std::thread::Threads;
 
 #[test]
 fn numbers_blanks_and_modes(rt: HostRuntime) -> Result<(), Fail> {
@@ -23,11 +25,14 @@ fn numbers_blanks_and_modes(rt: HostRuntime) -> Result<(), Fail> {
 }
 
 /// Tests that each of these lines has no form: a file of it alone is refused at line 1.
-fn expect_no_form<R: Abort + Files + AllocGlobal>(
+fn expect_no_form<R: Abort + Files + AllocGlobal + Threads + Wait + Sync>(
     rt: &R,
     name: &str,
     lines: &[&str],
-) -> Result<(), Fail> {
+) -> Result<(), Fail>
+where
+    R::File: Send,
+{
     for line in lines {
         expect_steps(rt, name, line, 1, "", "pktkit: line 1\n")?;
     }
