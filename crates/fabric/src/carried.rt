@@ -19,18 +19,13 @@ fn numbers_at<T: Tagged, const N: usize>(items: &Burst<T, N>, i: usize, out: &mu
     }
 }
 
-/// Whether each item carries exactly one buffer, as those of a free ring do.
-pub(crate) fn are_single<T: Tagged, const N: usize>(items: &Burst<T, N>) -> bool
-    ensures { result ≡ list_all (λ x. length (T.numbers x) == 1) items.now }
+/// Whether an item with so many buffers can't stand on such a ring: on a free ring each has exactly one.
+#[inline]
+fn is_barred(free: bool, count: usize) -> bool
+    ensures barred { result ≡ true → (free ≡ true) × (count ≢ 1) }
+    ensures other { result ≡ false → free ≡ true → count ≡ 1 }
 {
-    let mut out = ArrayVec::new();
-    for i in 0..items.len() {
-        numbers_at(items, i, &mut out);
-        if out.len() != 1 {
-            return false;
-        }
-    }
-    true
+    free && count != 1
 }
 
 impl Owned {
@@ -46,17 +41,22 @@ impl Owned {
         }
     }
 
-    /// Clears the buffers of the items, up to the first item that carries one that isn't marked, and says how many
-    /// items it passed.
-    fn disown_first<T: Tagged, const N: usize>(&mut self, items: &Burst<T, N>) -> usize
+    /// Clears the buffers of the items, up to the first item that carries one that isn't marked, or, on a free ring,
+    /// that doesn't carry exactly one, and says how many items it passed.
+    fn disown_first<T: Tagged, const N: usize>(&mut self, free: bool, items: &Burst<T, N>) -> usize
         ensures fits { result ≤ length items.now }
         ensures cleared { self.new ≡ cleared self.old (flat_map T.numbers (take result items.now)) }
         ensures there { all_there self.old (flat_map T.numbers (take result items.now)) ≡ true }
-        ensures stopped { result ≢ length items.now → all_there self.old (flat_map T.numbers items.now) ≡ false }
+        ensures single { free ≡ true → list_all (λ x. length (T.numbers x) == 1) (take result items.now) ≡ true }
+        ensures stopped { result ≢ length items.now → all_there self.old (flat_map T.numbers items.now) ≡ true
+            → (free ≡ true) × (list_all (λ x. length (T.numbers x) == 1) items.now ≡ false) }
     {
         let mut out = ArrayVec::new();
         for i in 0..items.len() {
             numbers_at(items, i, &mut out);
+            if is_barred(free, out.len()) {
+                return i;
+            }
             if !self.clear_all(out.as_slice()) {
                 return i;
             }
@@ -64,13 +64,21 @@ impl Owned {
         items.len()
     }
 
-    /// Clears the buffers of the items, where each is marked and none stands twice; else nothing changes.
-    pub(crate) fn disown<T: Tagged, const N: usize>(&mut self, items: &Burst<T, N>) -> bool
-        ensures value { result ≡ all_there self.old (flat_map T.numbers items.now) }
-        ensures cleared { result ≡ true → self.new ≡ cleared self.old (flat_map T.numbers items.now) }
-        ensures refused { result ≡ false → self.new ≡ self.old }
+    /// Clears the buffers of the items, where each is marked and none stands twice, and, on a free ring, where each
+    /// item carries exactly one; else nothing changes.
+    pub(crate) fn disown<T: Tagged, const N: usize>(
+        &mut self,
+        free: bool,
+        items: &Burst<T, N>,
+    ) -> bool
+        ensures mine { result ≡ true → (self.new ≡ cleared self.old (flat_map T.numbers items.now))
+            × (all_there self.old (flat_map T.numbers items.now) ≡ true)
+            × (free ≡ true → list_all (λ x. length (T.numbers x) == 1) items.now ≡ true) }
+        ensures kept { result ≡ false → self.new ≡ self.old }
+        ensures other { result ≡ false → all_there self.old (flat_map T.numbers items.now) ≡ true
+            → (free ≡ true) × (list_all (λ x. length (T.numbers x) == 1) items.now ≡ false) }
     {
-        let passed = self.disown_first(items);
+        let passed = self.disown_first(free, items);
         if passed == items.len() {
             return true;
         }

@@ -9,7 +9,6 @@ ghost use Rattle.fabric.specs.Views.{IsKept};
 
 use crate::fabric::Fabric;
 use crate::hand::{Hand, PutOpen, SettleFault, Share};
-use crate::opens::may_put;
 use burst::{Burst, Tagged};
 use geom::Side;
 
@@ -47,7 +46,7 @@ impl<T: Tagged> Hand<T> {
             (λ plan. result ≡ false → AreNotYours T.numbers plan (view self.old) items.now) }
     {
         let owned = &mut self.share.owned;
-        let may = may_put(owned, fabric.is_free(ring), items);
+        let may = owned.disown(fabric.is_free(ring), items);
         if may {
             owned.own(items, items.len());
         }

@@ -1,10 +1,12 @@
 //! How a hand keeps buffers back, and has them free again.
-ghost use Rattle.std.specs.Prelude.{◌≡◌, [], true, false};
-ghost use Rattle.fabric.specs.Keepers.{AreKept, IsKeeperFor, Keeps, KeepsLess, KeepsMore, KeepsNoMore, SameKeeper};
+ghost use Rattle.std.specs.Prelude.{◌≡◌, ◌<◌, [], length, true, false};
+ghost use Rattle.fabric.specs.Hands.{OnRing, rings_of};
+ghost use Rattle.fabric.specs.Keepers.{AreKept, IsKeeperFor, IsKeeperOf, Keeps, KeepsLess, KeepsMore, KeepsNoMore};
+ghost use Rattle.fabric.specs.Keepers.{AreNotSpare, AreSpare, SameKeeper, SparesTheSame};
 
+use crate::fabric::Fabric;
 use crate::hand::{Hand, Share};
 use crate::keeper::Keeper;
-use crate::opens::may_put;
 use burst::{Burst, Tagged};
 
 impl<T: Tagged> Hand<T> {
@@ -28,7 +30,31 @@ impl<T: Tagged> Keeper<T> {
         ensures kept { result ≡ true → KeepsMore T.numbers self.old items.now self.new }
         ensures other { result ≡ false → KeepsNoMore T.numbers self.old items.now self.new }
     {
-        may_put(&mut self.owned, true, items)
+        self.owned.disown(true, items)
+    }
+
+    /// Whether items may be put on a ring by this hand: they carry buffers that are its own and not kept back, none
+    /// twice, and on a free ring exactly one each. No step on a word.
+    #[inline]
+    pub fn may_put<const N: usize>(
+        &mut self,
+        fabric: &Fabric<T, N>,
+        ring: usize,
+        items: &Burst<T, N>,
+    ) -> bool
+        requires keeper { IsKeeperOf fabric.now self.old }
+        requires ring { ring < length (rings_of fabric.now) }
+        ensures same { SameKeeper self.old self.new × SparesTheSame self.old self.new }
+        ensures yours { OnRing fabric.now ring
+            (λ plan. result ≡ true → AreSpare T.numbers plan self.old items.now) }
+        ensures other { OnRing fabric.now ring
+            (λ plan. result ≡ false → AreNotSpare T.numbers plan self.old items.now) }
+    {
+        let may = self.owned.disown(fabric.is_free(ring), items);
+        if may {
+            self.owned.own(items, items.len());
+        }
+        may
     }
 
     /// Keeps the buffers of these items back no more. Asked: it does. No step on a word.

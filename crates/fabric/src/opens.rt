@@ -1,38 +1,15 @@
 //! Open spans, and how they are settled.
-ghost use Rattle.std.specs.Prelude.{◌≡◌, ◌==◌, [], length, take, IfOk, IfErr, true, false};
-ghost use Rattle.std.specs.List.{flat_map, list_all};
+ghost use Rattle.std.specs.Prelude.{◌≡◌, [], length, take, IfOk, IfErr};
+ghost use Rattle.std.specs.List.{flat_map};
 ghost use Rattle.fabric.specs.Hands.{RefusesPut, RefusesTake, HasPut, HasTaken, SamePut, SameTake, put_left};
 ghost use Rattle.fabric.specs.Hands.{put_span, put_view, take_left, take_span, take_view};
 ghost use Rattle.burst.specs.Numbers.{AreDistinct};
 ghost use Rattle.fabric.specs.Views.{IsKept};
 ghost use Rattle.fabric.specs.declared.hand.SettleFault.TheVariants.{NotYours};
-ghost use Rattle.fabric.specs.Owned.{all_there, cleared};
 
-use crate::carried::are_single;
 use crate::hand::{Hand, PutOpen, SettleFault, Share, TakeSpan};
-use crate::owned::Owned;
 use crate::settle::is_count;
 use burst::{Burst, Tagged};
-
-/// Whether items may be put on a ring: they carry buffers that are marked, none twice, and on a free ring exactly one
-/// each. The row is then without them; else nothing changes.
-pub(crate) fn may_put<T: Tagged, const N: usize>(
-    owned: &mut Owned,
-    free: bool,
-    items: &Burst<T, N>,
-) -> bool
-    ensures mine { result ≡ true → (owned.new ≡ cleared owned.old (flat_map T.numbers items.now))
-        × (all_there owned.old (flat_map T.numbers items.now) ≡ true)
-        × (free ≡ true → list_all (λ x. length (T.numbers x) == 1) items.now ≡ true) }
-    ensures kept { result ≡ false → owned.new ≡ owned.old }
-    ensures other { result ≡ false → all_there owned.old (flat_map T.numbers items.now) ≡ true
-        → (free ≡ true) × (list_all (λ x. length (T.numbers x) == 1) items.now ≡ false) }
-{
-    if free && !are_single(items) {
-        return false;
-    }
-    owned.disown(items)
-}
 
 impl<'f, T: Tagged, const N: usize> PutOpen<'f, T, N> {
     /// The first position of the span.
@@ -80,7 +57,7 @@ impl<'f, T: Tagged, const N: usize> PutOpen<'f, T, N> {
             mut owned,
             parts,
         } = share;
-        if !may_put(&mut owned, ring.shape.plan.free, items) {
+        if !owned.disown(ring.shape.plan.free, items) {
             let share = Share { seat, owned, parts };
             return Err((PutOpen { ring, share, place }, SettleFault::NotYours));
         }

@@ -2,12 +2,13 @@
 //! as much as a list by value.
 ghost use Rattle.std.specs.Prelude.{◌≡◌, ◌<◌, [], length};
 ghost use Rattle.fabric.specs.Hands.{IsHandOf, OnRing, rings_of, view};
+ghost use Rattle.fabric.specs.Settles.{AreYours};
 ghost use Rattle.ringapi.specs.Puts.{IsPutOf, IsUnfinishedPut, PutHasTold, PutSettles, PutTells};
 ghost use Rattle.ringapi.specs.Views.{by_bulk, by_burst};
 ghost use Rattle.ringapi.specs.Takes.{IsTakeOf, IsUnfinishedTake, TakeHasTold, TakeSettles, TakeTells};
 
 use crate::answers::{PutAnswer, TakeAnswer};
-use crate::put::{put, try_put};
+use crate::put::{put, put_own, try_put};
 use crate::take::{take, try_take};
 use burst::{Burst, Tagged};
 use fabric::{Fabric, Hand};
@@ -98,6 +99,52 @@ pub fn put_burst_from<'f, T: Tagged, const N: usize, R: Wait>(
     ensures finished { IsUnfinishedPut result → ⊥ }
 {
     put(rt, f, hand, ring, How::Burst, list)
+}
+
+/// `put_bulk_from` of items that are the hand's to put, as whoever got them from a pool knows: nothing is tested before
+/// the start. Asked: they are.
+///
+/// Never answered: `NotYours`, `Open`, `Busy`, `Contended`. No memory; any number of steps on words.
+pub fn put_own_bulk_from<'f, T: Tagged, const N: usize, R: Wait>(
+    rt: &R,
+    f: &'f Fabric<T, N>,
+    hand: Hand<T>,
+    ring: usize,
+    list: &mut Burst<T, N>,
+) -> PutAnswer<'f, T, N>
+    requires hand { IsHandOf f.now hand }
+    requires ring { ring < length (rings_of f.now) }
+    requires yours { OnRing f.now ring (λ plan. AreYours T.numbers plan (view hand) list.old) }
+    ensures made { IsPutOf f.now ring result }
+    ensures told { OnRing f.now ring
+        (λ plan. PutHasTold T.numbers by_bulk ring plan (view hand) list.old result list.new) }
+    ensures settled { PutSettles ring (view hand) list.old result }
+    ensures finished { IsUnfinishedPut result → ⊥ }
+{
+    put_own(rt, f, hand, ring, How::Bulk, list)
+}
+
+/// `put_burst_from` of items that are the hand's to put, as whoever got them from a pool knows: nothing is tested before
+/// the start. Asked: they are.
+///
+/// Never answered: `NotYours`, `Open`, `Busy`, `Contended`. No memory; any number of steps on words.
+pub fn put_own_burst_from<'f, T: Tagged, const N: usize, R: Wait>(
+    rt: &R,
+    f: &'f Fabric<T, N>,
+    hand: Hand<T>,
+    ring: usize,
+    list: &mut Burst<T, N>,
+) -> PutAnswer<'f, T, N>
+    requires hand { IsHandOf f.now hand }
+    requires ring { ring < length (rings_of f.now) }
+    requires yours { OnRing f.now ring (λ plan. AreYours T.numbers plan (view hand) list.old) }
+    ensures made { IsPutOf f.now ring result }
+    ensures told { OnRing f.now ring
+        (λ plan. PutHasTold T.numbers by_burst ring plan (view hand) list.old result list.new) }
+    ensures settled { PutSettles ring (view hand) list.old result }
+    ensures finished { IsUnfinishedPut result → ⊥ }
+{
+    put_own(rt, f, hand, ring, How::Burst, list)
 }
 
 /// Tries once to take `n` items, or none, into an empty list. Asked: the list is empty.

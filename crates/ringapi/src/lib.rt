@@ -12,8 +12,9 @@ mod values;
 
 pub use answers::{Moved, PutAnswer, Refusal, TakeAnswer};
 pub use lent::{
-    put_bulk_from, put_burst_from, take_bulk_into, take_burst_into, try_put_bulk_from,
-    try_put_burst_from, try_take_bulk_into, try_take_burst_into,
+    put_bulk_from, put_burst_from, put_own_bulk_from, put_own_burst_from, take_bulk_into,
+    take_burst_into, try_put_bulk_from, try_put_burst_from, try_take_bulk_into,
+    try_take_burst_into,
 };
 pub use peek::{PeekPut, PeekSpan, PeekTake, peek_put, peek_take, peek_take_into};
 pub use values::{

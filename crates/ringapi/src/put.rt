@@ -103,6 +103,36 @@ fn again<'f, T: Tagged, const N: usize>(
     }
 }
 
+/// A whole put of items that are the hand's to put, tried until it is finished.
+pub(crate) fn put_own<'f, T: Tagged, const N: usize, R: Wait>(
+    rt: &R,
+    f: &'f Fabric<T, N>,
+    hand: Hand<T>,
+    ring: usize,
+    how: How,
+    list: &mut Burst<T, N>,
+) -> PutAnswer<'f, T, N>
+    requires hand { IsHandOf f.now hand }
+    requires ring { ring < length (rings_of f.now) }
+    requires yours { OnRing f.now ring (λ plan. AreYours T.numbers plan (view hand) list.old) }
+    ensures made { IsPutOf f.now ring result }
+    ensures told { OnRing f.now ring
+        (λ plan. PutHasTold T.numbers how ring plan (view hand) list.old result list.new) }
+    ensures settled { PutSettles ring (view hand) list.old result }
+    ensures finished { IsUnfinishedPut result → ⊥ }
+{
+    let backoff = Backoff::new();
+    let mut answer = attempt(f, hand, ring, how, list);
+    for _ in rt.forever() {
+        if !answer.is_unfinished() {
+            return answer;
+        }
+        backoff.snooze();
+        answer = again(f, answer, ring, how, list);
+    }
+    unreachable!()
+}
+
 /// A whole put, tried until it is finished.
 pub(crate) fn put<'f, T: Tagged, const N: usize, R: Wait>(
     rt: &R,
@@ -120,14 +150,10 @@ pub(crate) fn put<'f, T: Tagged, const N: usize, R: Wait>(
     ensures settled { PutSettles ring (view hand) list.old result }
     ensures finished { IsUnfinishedPut result → ⊥ }
 {
-    let backoff = Backoff::new();
-    let mut answer = try_put(f, hand, ring, how, list);
-    for _ in rt.forever() {
-        if !answer.is_unfinished() {
-            return answer;
-        }
-        backoff.snooze();
-        answer = again(f, answer, ring, how, list);
+    let mut hand = hand;
+    if hand.may_put(f, ring, list) {
+        put_own(rt, f, hand, ring, how, list)
+    } else {
+        PutAnswer::Refused(hand, Refusal::NotYours)
     }
-    unreachable!()
 }

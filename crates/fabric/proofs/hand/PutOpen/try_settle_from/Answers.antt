@@ -14,8 +14,8 @@ use Rattle.fabric.proofs.Rows.{take_whole, undo}
 use Rattle.fabric.proofs.Settling.{count_whole, packed_long}
 use Rattle.fabric.proofs.hand.PutOpen.try_settle_from.Goals as goal
 
-pub returns-then-not-may_put-clause-refused : goal.returns-then-not-may_put-clause-refused
-returns-then-not-may_put-clause-refused g c =
+pub returns-then-not-disown-clause-refused : goal.returns-then-not-disown-clause-refused
+returns-then-not-disown-clause-refused g c =
     let o = c.args.self in
     let count = subst (λ n. IsCount o.ring.shape.plan.put n o.place.count) c.len.ensures.value (c.is_count.ensures.good c.if-not-is_count.false) in (
       (refl, refl, refl),
@@ -23,7 +23,7 @@ returns-then-not-may_put-clause-refused g c =
       (
         count,
         not_yours g.T.Tagged.numbers o.ring.shape.plan o.share.seat.me.0 o.share.owned c.args.items.now o.share.row
-            (c.may_put.ensures.other c.if-not-may_put.true),
+            (c.disown.ensures.other c.if-not-disown.true),
         refl,
       ),
     )
@@ -33,7 +33,7 @@ publish-requires g c =
     let o = c.args.self in
     let tags = g.T.Tagged.numbers in
     let cells = c.items.inside.cells in
-    let mine = c.may_put.ensures.mine c.if-not-may_put.false in
+    let mine = c.disown.ensures.mine c.if-not-disown.false in
     let long = sym (ap length c.items.view_is) ∙ packed_long cells c.items.invariant in
     let count = subst (λ n. IsCount o.ring.shape.plan.put n o.place.count) (c.len.ensures.value ∙ long) (c.is_count.ensures.good c.if-not-is_count.false) in
     let owns = put_owns tags o.share.seat.me.0.pool o.share.seat.me.0.party o.share.owned o.share.row c.args.items.now mine.1 in (
@@ -66,7 +66,7 @@ pub invariant_of-result-in_default : goal.invariant_of-result-in_default
 invariant_of-result-in_default g c =
     let o = c.args.self in
     let tags = g.T.Tagged.numbers in
-    let mine = c.may_put.ensures.mine c.if-not-may_put.false in
+    let mine = c.disown.ensures.mine c.if-not-disown.false in
     let done = c.in_default.ensures.done in
     let row =
     put_row tags o.share.seat.me.0.pool o.share.seat.me.0.party o.share.owned o.share.row c.args.items.now o.ring.index o.place.start o.place.count
@@ -75,7 +75,7 @@ invariant_of-result-in_default g c =
       counted = o.share.counted ∙ ap (λ v. v.parts) (sym done.0);
       alive = subst (λ v. 0 < v.parts) (sym done.0) o.share.alive;
       well = done.2;
-      row = subst (λ v. IsRow tags v.pool v.party c.may_put.new.owned) (sym done.0)
+      row = subst (λ v. IsRow tags v.pool v.party c.disown.new.self) (sym done.0)
           (subst (λ r. IsRow tags o.share.seat.me.0.pool (with_settled o.share.seat.me.0.party (span_of o.ring.index Put o.place.start o.place.count)
           (somes c.items.inside.cells)) r) (sym mine.0) (subst (λ l. IsRow tags o.share.seat.me.0.pool
           (with_settled o.share.seat.me.0.party (span_of o.ring.index Put o.place.start o.place.count) l)
@@ -87,7 +87,7 @@ pub invariant_of-share-2 : goal.invariant_of-share-2
 invariant_of-share-2 g c =
     let o = c.args.self in
     let tags = g.T.Tagged.numbers in
-    let mine = c.may_put.ensures.mine c.if-not-may_put.false in
+    let mine = c.disown.ensures.mine c.if-not-disown.false in
     let early = c.in-Some.ensures.early in
     let same = ap somes early.4 ∙ c.items.view_is in
     let back : c.own.new.self ≡ o.share.owned =

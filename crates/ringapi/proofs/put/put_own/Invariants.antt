@@ -1,6 +1,6 @@
 use Rattle.fabric.specs.Hands.{OnRing, view}
 use Rattle.ringapi.specs.Puts.{IsPutOf, PutHasTold}
-use Rattle.ringapi.proofs.put.put.Given as goal
+use Rattle.ringapi.proofs.put.put_own.Given as goal
 
 abbrev pub invariant-loop : goal.invariant-loop
 invariant-loop g l = record {

@@ -1,0 +1,40 @@
+use Rattle.std.proofs.Common.{[], rules}
+use Rattle.fabric.specs.Hands.{rings_of, view}
+use Rattle.fabric.proofs.Told.{ring_at}
+use Rattle.ringapi.proofs.Putting.{tells_settles}
+use Rattle.ringapi.proofs.put.put_own.Goals as goal
+
+pub loop-init : goal.loop-init
+loop-init g c = record {
+  iterator = (tt, tt);
+  made = c.attempt-answer.ensures.made;
+  told = λ plan there. ([], [], c.attempt-answer.ensures.told plan there);
+}
+
+pub returns-then-not-is_unfinished-clause-settled : goal.returns-then-not-is_unfinished-clause-settled
+returns-then-not-is_unfinished-clause-settled g c =
+    let w = ring_at (rings_of c.args.f.now) c.args.ring c.requires.ring in
+    let told = c.loop.invariant.told w.0 w.1 in
+    tells_settles g.T.Tagged.numbers c.args.how c.args.ring w.0 (view c.args.hand) c.args.list.now told.0 told.1 c.args.f.now c.loop.answer c.loop.list w.1
+    c.loop.invariant.made told.2
+
+pub again-answer-requires : goal.again-answer-requires
+again-answer-requires g c = (
+  search rules,
+  (
+    search rules,
+    (
+      search rules,
+      (
+        c.loop.invariant.made,
+        (
+          c.requires.ring,
+          (
+            c.is_unfinished.ensures.some (c.if-not-is_unfinished.false),
+            λ plan there. (view c.args.hand, c.args.list.now, c.loop.invariant.told plan there),
+          ),
+        ),
+      ),
+    ),
+  ),
+)
