@@ -2,6 +2,7 @@
 use Rattle.std.proofs.Common.{◌≡◌, ℕ, ◌+◌, ◌-◌, ◌<◌, ◌≤◌, List, [], ◌∷◌, length, refl, ap, ◌∙◌, subst, arith, Ok, Err, drop, take}
 use Rattle.std.proofs.lemmas.Bool.Decides.{nat_tests}
 use Rattle.geom.specs.Plan.{granted}
+use Rattle.geom.specs.declared.plan.How.{How}
 use Rattle.geom.specs.declared.plan.How.TheVariants.{Bulk}
 use Rattle.geom.specs.declared.plan.RingPlan.{RingPlan}
 use Rattle.geom.specs.declared.plan.Side.{Side}
@@ -42,31 +43,32 @@ use Rattle.pool.specs.Asks.{HasLess, Spills, Takes, refusal_of}
 pub all_granted : (n room count : ℕ) → count ≡ granted Bulk n room → 0 < count → count ≡ n
 all_granted n room count is some = grind (arith, nat_tests, is, some)
 
-module _ {T : Type 0} (tags : T → List ℕ) (most n ring : ℕ) (side : Side) (plan : RingPlan) where
-  pub bulk_all : (v w : View T) (starts : List (View T × StartFault)) (count left : ℕ) (shown items : List T) (tails : List ℕ)
-      → IsMoved tags most by_bulk n ring side plan v starts count left shown tails items w → count ≡ n
-  bulk_all v w starts count left shown items tails is = all_granted n _ count is.2.started.granted is.2.started.positive
-
+module _ {T : Type 0} (tags : T → List ℕ) (most : ℕ) (how : How) (n ring : ℕ) (side : Side) (plan : RingPlan) where
   -- the party of the hand, after its span was settled
   pub moved_party : (v w : View T) (starts : List (View T × StartFault)) (count left : ℕ) (shown items : List T) (tails : List ℕ)
-      → (is : IsMoved tags most by_bulk n ring side plan v starts count left shown tails items w)
+      → (is : IsMoved tags most how n ring side plan v starts count left shown tails items w)
       → w.party ≡ with_settled v.party (span_of ring side is.0 count) items
   moved_party v w starts count left shown items tails is =
       ap (λ (u : View T). u.party) is.3
       ∙ ap (λ p. with_settled p (span_of ring side is.0 count) items)
-      (reserved_party tags most by_bulk n ring side plan v starts is.0 count left shown tails is.1 is.2)
+      (reserved_party tags most how n ring side plan v starts is.0 count left shown tails is.1 is.2)
 
-module _ {T : Type 0} (tags : T → List ℕ) (most n ring : ℕ) (plan : RingPlan) where
-  pool_before : (v : View T) (starts : List (View T × StartFault)) (w : View T) → RefusedStarts tags most by_bulk n ring Put plan v starts w
+module _ {T : Type 0} (tags : T → List ℕ) (most : ℕ) (how : How) (n ring : ℕ) (side : Side) (plan : RingPlan) where
+  pool_before : (v : View T) (starts : List (View T × StartFault)) (w : View T) → RefusedStarts tags most how n ring side plan v starts w
       → w.pool ≡ v.pool
   pool_before v [] w is = ap (λ u. u.pool) is
   pool_before v (start ∷ before) w is =
-      (refused_kept tags most by_bulk n ring Put plan start.0 w start.1 is.0).pool ∙ pool_before v before start.0 is.1
+      (refused_kept tags most how n ring side plan start.0 w start.1 is.0).pool ∙ pool_before v before start.0 is.1
 
   -- refused starts leave the hand as many buffers as it had
-  pub had_before : (v : View T) (starts : List (View T × StartFault)) (w : View T) → RefusedStarts tags most by_bulk n ring Put plan v starts w
+  pub had_before : (v : View T) (starts : List (View T × StartFault)) (w : View T) → RefusedStarts tags most how n ring side plan v starts w
       → buffers_had tags w.pool w.party ≡ buffers_had tags v.pool v.party
-  had_before v starts w is = λ i. buffers_had tags (pool_before v starts w is i) (starts_kept tags most by_bulk n ring Put plan v starts w is i)
+  had_before v starts w is = λ i. buffers_had tags (pool_before v starts w is i) (starts_kept tags most how n ring side plan v starts w is i)
+
+module _ {T : Type 0} (tags : T → List ℕ) (most n ring : ℕ) (side : Side) (plan : RingPlan) where
+  pub bulk_all : (v w : View T) (starts : List (View T × StartFault)) (count left : ℕ) (shown items : List T) (tails : List ℕ)
+      → IsMoved tags most by_bulk n ring side plan v starts count left shown tails items w → count ≡ n
+  bulk_all v w starts count left shown items tails is = all_granted n _ count is.2.started.granted is.2.started.positive
 
 module _ {T : Type 0} {G : Ghosts T} (tags : T → List ℕ) (most ring : ℕ) (plan : RingPlan) where
   -- a bulk take that came through
@@ -94,7 +96,7 @@ module _ {T : Type 0} {G : Ghosts T} (tags : T → List ℕ) (most ring : ℕ) (
   took_holds v n h items pool once takes b =
       let told = takes.2 in
       let is = told.2.2 in
-      ap (holds tags b) (moved_party tags most n ring Take plan v (view h) told.0 takes.1.count takes.1.left items items told.1 is)
+      ap (holds tags b) (moved_party tags most by_bulk n ring Take plan v (view h) told.0 takes.1.count takes.1.left items items told.1 is)
       ∙ holds_take tags b ring is.0 takes.1.count v.party items (once b).2
 
   -- from a free ring, it is of one buffer each
@@ -124,7 +126,7 @@ module _ {T : Type 0} {G : Ghosts T} (tags : T → List ℕ) (most ring : ℕ) (
   put_none v h (Start Worn) items rest yours free few some fit final told =
       (told.2.1, subst (λ l. PutHasTold {N = most} tags by_bulk ring plan v items (put.Refused h (Start Worn)) l) told.2.1 told)
   put_none v h (Start BadCount) items rest yours free few some fit final told =
-      absurd (told.2.5 (some, fit, λ side free_too. omega (arith, few, had_before tags most (length items) ring plan v told.0 told.2.2 told.2.3)))
+      absurd (told.2.5 (some, fit, λ side free_too. omega (arith, few, had_before tags most by_bulk (length items) ring Put plan v told.0 told.2.2 told.2.3)))
 
   -- what it leaves is no longer than what it had
   pub put_rest : (v : View T) (answer : PutAnswer T most G) (items rest : List T)
@@ -142,7 +144,7 @@ module _ {T : Type 0} {G : Ghosts T} (tags : T → List ℕ) (most ring : ℕ) (
       let told = spills.1 in
       let is = told.2.2 in
       let all : m.count ≡ length items = bulk_all tags most (length items) ring Put plan v (view h) told.0 m.count m.left [] (take m.count items) told.1 is in
-      ap (holds tags b) (moved_party tags most (length items) ring Put plan v (view h) told.0 m.count m.left [] (take m.count items) told.1 is)
+      ap (holds tags b) (moved_party tags most by_bulk (length items) ring Put plan v (view h) told.0 m.count m.left [] (take m.count items) told.1 is)
       ∙ (holds_put tags b ring is.0 m.count v.party (take m.count items) ∙ ap (λ l. holds tags b v.party - occurrences_in tags b l) (all_first m.count items all))
 
   -- a refused request leaves the hand what it had

@@ -6,4 +6,5 @@ pub mod Kept
 pub mod Wholes
 pub mod ByValue
 pub mod Apart
+pub mod Others
 mod Rows

@@ -1,9 +1,10 @@
 -- What a contract sees of a pool's cache
-use Rattle.std.specs.Prelude.{◌≡◌, ℕ, List}
+use Rattle.std.specs.Prelude.{◌≡◌, ℕ, List, Option}
 use Rattle.burst.specs.declared.tagged.Tagged.{Ghosts}
 use Rattle.fabric_laws.specs.declared.view.View.{View}
 use Rattle.fabric.specs.declared.fabric.Fabric.{Fabric}
 use Rattle.fabric.specs.declared.hand.Hand.{Hand}
+use Rattle.fabric.specs.declared.keeper.Keeper.{Keeper}
 use Rattle.pool.specs.declared.local.Local.{Local}
 use Rattle.pool.specs.Hands.{IsHandIn, IsIn, IsSameIn, view_in}
 
@@ -18,6 +19,9 @@ module _ {T : Type 0} {G : Ghosts T} {N : ℕ} where
   -- the free ring
   abbrev pub ring_of : Local T N G → ℕ
   ring_of l = l.ring
+
+  abbrev pub hand_of : Local T N G → Option (Keeper T G)
+  hand_of l = l.hand
 
   -- the view of its hand
   abbrev pub view_of : Local T N G → View T
@@ -38,3 +42,7 @@ module _ {T : Type 0} {G : Ghosts T} {N : ℕ} where
   -- the same ring and size
   abbrev pub SameRing : Local T N G → Local T N G → Type 0
   SameRing l m = (m.ring ≡ l.ring) × (m.size ≡ l.size)
+
+  -- the same items in the cache
+  abbrev pub SameCache : Local T N G → Local T N G → Type 0
+  SameCache l m = m.cache ≡ l.cache

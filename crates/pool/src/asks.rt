@@ -10,7 +10,7 @@ use crate::faults::PoolFault;
 use crate::moves::{append, deal, part};
 use burst::{Burst, Tagged};
 use fabric::{Fabric, Hand, StartFault};
-use ringapi::{PutAnswer, TakeAnswer, put_bulk_from, take_bulk_into};
+use ringapi::{PutAnswer, TakeAnswer, put_own_bulk_from, take_bulk_into};
 use std::sync::Wait;
 
 /// What a refused take means to a caller that asks for buffers.
@@ -108,7 +108,7 @@ pub(crate) fn place<T: Tagged, const N: usize, R: Wait>(
     ensures done { IfOk result (λ _. list.new ≡ []) }
     ensures back { IfErr result (λ _. list.new ≡ list.old) }
 {
-    match put_bulk_from(rt, f, hand, ring, list) {
+    match put_own_bulk_from(rt, f, hand, ring, list) {
         PutAnswer::Done(hand, _) => Ok(hand),
         PutAnswer::Refused(hand, _) => Err(hand),
         PutAnswer::Open(_, _) => unreachable!(),

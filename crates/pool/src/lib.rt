@@ -3,6 +3,7 @@
 #![tactic(auto)]
 
 mod asks;
+mod beside;
 mod cached;
 mod faults;
 mod keeping;
@@ -10,6 +11,7 @@ mod lent;
 mod local;
 mod moves;
 mod opening;
+mod rings;
 #[cfg(test)]
 mod tests;
 mod values;
