@@ -28,8 +28,10 @@ use Rattle.fabric.specs.Views.{IsWornAt, span_of}
 use Rattle.fabric.proofs.Holding.{holds_put, holds_take}
 use Rattle.fabric.proofs.Told.{refused_kept, started_party}
 use Rattle.pool.specs.Asks.{HasMore}
+use Rattle.pool.proofs.Asking.{had_before, moved_party}
 use Rattle.pool.proofs.Counts.{count_parts}
 use Rattle.pool.proofs.Few.{own_few}
+use Rattle.pool.proofs.Singles.{single_drop}
 use Rattle.ringapi.specs.declared.answers.Moved.{Moved}
 use Rattle.ringapi.specs.declared.answers.PutAnswer.TheVariants.{Done, Refused}
 use Rattle.ringapi.specs.declared.answers.Refusal.{Refusal}
@@ -46,10 +48,6 @@ same_number n = grind (arith, nat_tests)
 and_none : (b : Bool) → (b && false) ≡ false
 and_none true = refl
 and_none false = refl
-
-second_of : (t u : Bool) → (t && u) ≡ true → u ≡ true
-second_of true u e = e
-second_of false u e = absurd (let z : false ≡ true = e in cc)
 
 pub no_more : {A : Type 0} (xs : List A) → length xs ≡ 0 → xs ≡ []
 no_more [] e = refl
@@ -105,26 +103,6 @@ module _ {T : Type 0} where
     puts = more.puts ∙ (ap (λ xs. xs ++ items) before.puts ∙ append_assoc (settled_on 2 Put u) sent items);
   }
 
-module _ {T : Type 0} (tags : T → List ℕ) (most : ℕ) (how : How) (n ring : ℕ) (side : Side) (plan : RingPlan) where
-  -- the party of a hand, after its span was settled
-  moved_party : (v w : View T) (starts : List (View T × StartFault)) (count left : ℕ) (shown items : List T) (tails : List ℕ)
-      → (is : IsMoved tags most how n ring side plan v starts count left shown tails items w)
-      → w.party ≡ with_settled v.party (span_of ring side is.0 count) items
-  moved_party v w starts count left shown items tails is =
-      ap (λ (u : View T). u.party) is.3
-      ∙ ap (λ p. with_settled p (span_of ring side is.0 count) items)
-      (reserved_party tags most how n ring side plan v starts is.0 count left shown tails is.1 is.2)
-
-  pool_before : (v : View T) (starts : List (View T × StartFault)) (w : View T) → RefusedStarts tags most how n ring side plan v starts w
-      → w.pool ≡ v.pool
-  pool_before v [] w is = ap (λ u. u.pool) is
-  pool_before v (start ∷ before) w is =
-      (refused_kept tags most how n ring side plan start.0 w start.1 is.0).pool ∙ pool_before v before start.0 is.1
-
-  had_before : (v : View T) (starts : List (View T × StartFault)) (w : View T) → RefusedStarts tags most how n ring side plan v starts w
-      → buffers_had tags w.pool w.party ≡ buffers_had tags v.pool v.party
-  had_before v starts w is = λ i. buffers_had tags (pool_before v starts w is i) (starts_kept tags most how n ring side plan v starts w is i)
-
 module _ {T : Type 0} (tags : T → List ℕ) (how : How) (n ring : ℕ) (plan : RingPlan) where
   -- a take whose span was settled with its first items
   pub took_first : (v : View T) (start count left : ℕ) (shown : List T) (w x : View T) (k pool : ℕ) → IsHeldOnce tags pool v.party
@@ -138,12 +116,6 @@ module _ {T : Type 0} (tags : T → List ℕ) (how : How) (n ring : ℕ) (plan :
         λ b. ap (holds tags b) party ∙ holds_take tags b ring start count v.party (take k shown) (once b).2,
       )
 
-module _ {T : Type 0} (tags : T → List ℕ) where
-  last_single : (items : List T) (k : ℕ) → AreSingle tags items → AreSingle tags (drop k items)
-  last_single items k single =
-      second_of _ _ (sym (list_all-append (λ x. length (tags x) == 1) (take k items) (drop k items))
-      ∙ (ap (list_all (λ x. length (tags x) == 1)) (take-append-drop k items) ∙ single))
-
 module _ {T : Type 0} {G : Ghosts T} (tags : T → List ℕ) (most : ℕ) (how : How) (ring : ℕ) (plan : RingPlan) where
   -- what is left of a list whose first items were put is the hand's own still
   pub rest_yours : (v : View T) (h : Hand T G) (m : Moved) (items rest : List T) → PutHasTold {N = most} tags how ring plan v items (Done h m) rest
@@ -154,7 +126,7 @@ module _ {T : Type 0} {G : Ghosts T} (tags : T → List ℕ) (most : ℕ) (how :
       λ b. ap (holds tags b) (moved_party tags most how (length items) ring Put plan v (view h) told.0 m.count m.left [] (take m.count items) told.1 is)
       ∙ holds_put tags b ring is.0 m.count v.party (take m.count items) in
       subst (AreYours tags plan (view h)) (sym told.2.1)
-      (record { owned = λ b. omega (arith, yours.owned b, less b, count_parts tags b m.count items); single = λ free. last_single tags items m.count (yours.single free) })
+      (record { owned = λ b. omega (arith, yours.owned b, less b, count_parts tags b m.count items); single = λ free. single_drop tags m.count items (yours.single free) })
 
   -- a refused put leaves the hand what it had, and the list its items
   pub refused_party : (v : View T) (h : Hand T G) (why : Refusal) (items rest : List T) → PutHasTold {N = most} tags how ring plan v items (Refused h why) rest

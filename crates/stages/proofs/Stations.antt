@@ -33,8 +33,8 @@ module _ {T : Type 0} {G : Ghosts T} {N : ℕ} where
   in_here f (Some h) here k = k h refl
 
   -- a thread's cache is of its fabric
-  pub local_of : (f : Fabric T N) (local : Option (Local T N G)) (l : Local T N G) → IsOf f local → local ≡ Some l → IsLocalOf f l
-  local_of f local l is here = in_here f l.hand l.here (λ k e. is l k here e)
+  pub local_of : (f : Fabric T N) (l : Local T N G) → IsOf f l → IsLocalOf f l
+  local_of f l is = in_here f l.hand l.here is
 
   keeper_in : (f : Fabric T N) (o : Option (Keeper T G)) (k : Keeper T G) → IsIn f o → o ≡ Some k → IsKeeperOf f k
   keeper_in f None k is e = absurd is
@@ -42,18 +42,8 @@ module _ {T : Type 0} {G : Ghosts T} {N : ℕ} where
       let s : x ≡ k = cc e in
       subst (IsKeeperOf f) s is
 
-  pub of_local : (f : Fabric T N) (m : Local T N G) → IsLocalOf f m → IsOf f (let a : Option (Local T N G) = Some m in a)
-  of_local f m is l k same e =
-      let s : m ≡ l = cc same in
-      keeper_in f l.hand k (subst (λ (x : Local T N G). IsLocalOf f x) s is) e
-
-  hand_from : (f : Fabric T N) (o : Option (Keeper T G)) (h : Hand T G) → IsIn f o → IsHandIn h o → IsHandOf f h
-  hand_from f None h is same = absurd is
-  hand_from f (Some k) h is same = (ap (λ s. s.table_id) (sym same) ∙ is.0, ap (λ s. s.me.0.plans) (sym same) ∙ is.1, ap (λ s. s.me.0.pool) (sym same) ∙ is.2)
-
-  -- the hand that a cache gives back is of its fabric
-  pub hand_of_local : (f : Fabric T N) (l : Local T N G) (h : Hand T G) → IsLocalOf f l → HasHand h l → IsHandOf f h
-  hand_of_local f l h is same = hand_from f l.hand h is same
+  pub of_local : (f : Fabric T N) (m : Local T N G) → IsLocalOf f m → IsOf f m
+  of_local f m is k e = keeper_in f m.hand k is e
 
   into_cache : (f : Fabric T N) (o : Option (Keeper T G)) (h : Hand T G) → IsHandOf f h → IsHandIn h o → IsIn f o
   into_cache f None h is same = absurd same

@@ -10,7 +10,7 @@ ghost use Rattle.stages.specs.Passing.{Puts};
 use burst::{Burst, Tagged};
 use crossbeam_utils::Backoff;
 use fabric::{Fabric, Hand, StartFault};
-use ringapi::{PutAnswer, Refusal, put_burst_from};
+use ringapi::{PutAnswer, Refusal, put_own_burst_from};
 use std::sync::Wait;
 
 /// Whether a put was refused for want of room alone.
@@ -23,8 +23,8 @@ fn wants_room(refusal: Refusal) -> bool
     }
 }
 
-/// Puts all items of a list, from its front, as many at a time as there is room for. Refused where the ring is worn, or
-/// where the items aren't the hand's to put; the list then has those that were not put.
+/// Puts all items of a list, from its front, as many at a time as there is room for. Asked: they are the hand's to put.
+/// Refused where the ring is worn; the list then has those that were not put.
 pub(crate) fn put_all<T: Tagged, const N: usize, R: Wait>(
     rt: &R,
     f: &Fabric<T, N>,
@@ -34,18 +34,17 @@ pub(crate) fn put_all<T: Tagged, const N: usize, R: Wait>(
 ) -> Result<Hand<T>, Hand<T>>
     requires hand { IsHandOf f.now hand }
     requires ring { ring < length (rings_of f.now) }
+    requires yours { OnRing f.now ring (λ plan. AreYours T.numbers plan (view hand) list.old) }
     ensures done { IfOk result (λ h. IsHandOf f.now h × (list.new ≡ [])
         × Puts ring (view hand).party.settled (view h).party.settled list.old) }
-    ensures refused { IfErr result (λ h. IsHandOf f.now h) }
-    ensures worn { OnRing f.now ring (λ plan. AreYours T.numbers plan (view hand) list.old
-        → IfErr result (λ h. IsWornAt N (view h))) }
+    ensures refused { IfErr result (λ h. IsHandOf f.now h × IsWornAt N (view h)) }
 {
     let backoff = Backoff::new();
     for _ in rt.forever() {
         if list.len() == 0 {
             return Ok(hand);
         }
-        match put_burst_from(rt, f, hand, ring, list) {
+        match put_own_burst_from(rt, f, hand, ring, list) {
             PutAnswer::Done(back, _) => hand = back,
             PutAnswer::Refused(back, refusal) => {
                 if !wants_room(refusal) {

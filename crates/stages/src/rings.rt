@@ -1,5 +1,5 @@
 //! The rings of a run in threads, and the segments that stand on them.
-ghost use Rattle.std.specs.Prelude.{◌≡◌, ◌<◌, IfOk, IfSome, length};
+ghost use Rattle.std.specs.Prelude.{◌≡◌, ◌<◌, [], IfOk, IfSome, length};
 ghost use Rattle.fabric.specs.Hands.{IsHandOf, rings_of};
 ghost use Rattle.stages.specs.Passing.{AreRings};
 
@@ -78,6 +78,26 @@ pub(crate) fn open_rings<J: Run>(
     }
 }
 
+/// Puts these segments on their ring. Refused where they aren't the hand's, or the ring is worn.
+fn free_all<J: Run, T: Wait>(
+    rt: &T,
+    f: &Fabric<Packet<J>, SPAN>,
+    mut hand: Hand<Packet<J>>,
+    list: &mut Burst<Packet<J>, SPAN>,
+) -> Result<Hand<Packet<J>>, RingFault>
+    requires hand { IsHandOf f.now hand }
+    requires rings { AreRings (rings_of f.now) }
+    ensures { IfOk result (λ h. IsHandOf f.now h × (list.new ≡ [])) }
+{
+    if !hand.may_put(f, FREE, list) {
+        return Err(RingFault::Window);
+    }
+    match put_all(rt, f, hand, FREE, list) {
+        Ok(hand) => Ok(hand),
+        Err(_) => Err(RingFault::Worn),
+    }
+}
+
 /// Puts all segments on their ring.
 pub(crate) fn fill<J: Run, T: Wait>(
     rt: &T,
@@ -92,15 +112,15 @@ pub(crate) fn fill<J: Run, T: Wait>(
     let mut list = Burst::<Packet<J>, SPAN>::new();
     for item in items {
         if list.is_full() {
-            hand = match put_all(rt, f, hand, FREE, &mut list) {
+            hand = match free_all(rt, f, hand, &mut list) {
                 Ok(hand) => hand,
-                Err(_) => return Err(RingFault::Worn),
+                Err(fault) => return Err(fault),
             };
         }
         list.push(item);
     }
-    match put_all(rt, f, hand, FREE, &mut list) {
+    match free_all(rt, f, hand, &mut list) {
         Ok(hand) => Ok(hand),
-        Err(_) => Err(RingFault::Worn),
+        Err(fault) => Err(fault),
     }
 }

@@ -1,7 +1,6 @@
 //! The place of a thread of a run at the rings: its hand, with a cache of segments that no packet uses.
-ghost use Rattle.std.specs.Prelude.{◌≡◌, ◌<◌, ◌≤◌, [], length, IfOk, true};
+ghost use Rattle.std.specs.Prelude.{◌≡◌, ◌<◌, ◌≤◌, [], length, IfOk};
 ghost use Rattle.std.specs.List.{flat_map};
-ghost use Rattle.std.specs.Option.{is_some};
 ghost use Rattle.burst.specs.Numbers.{AreDistinct};
 ghost use Rattle.fabric.specs.Hands.{IsHandOf, rings_of};
 ghost use Rattle.pool.specs.Locals.{IsLocalOf};
@@ -9,24 +8,21 @@ ghost use Rattle.stages.specs.Passing.{AreRings};
 ghost use Rattle.stages.specs.Stations.{IsOf};
 
 use crate::fault::RingFault;
-use crate::puts::put_all;
 use crate::rings::FREE;
 use burst::{Burst, Tagged};
+use crossbeam_utils::Backoff;
 use fabric::{Fabric, Hand, StartFault};
 use pool::{Local, PoolFault};
-use ringapi::{TakeAnswer, take_burst_into};
+use ringapi::Refusal;
 use std::sync::Wait;
 
-/// A thread's place at the rings of a run. Between calls its hand is always there.
+/// A thread's place at the rings of a run.
 #[derive(Drop)]
 pub(crate) struct Station<'f, T: Tagged> {
     fabric: &'f Fabric<T, 256>,
-    local: Option<Local<T, 256>>,
-    size: usize,
-    pub ghost here: { is_some local ≡ true },
+    local: Local<T, 256>,
     pub ghost of: { IsOf fabric.now local },
     pub ghost rings: { AreRings (rings_of fabric.now) },
-    pub ghost small: { size ≤ 128 },
 }
 
 /// A hand in front of an empty cache.
@@ -42,61 +38,12 @@ fn fresh<T: Tagged>(f: &Fabric<T, 256>, hand: Hand<T>, size: usize) -> Local<T, 
     }
 }
 
-/// A hand in front of its cache again, and whether that could be.
-fn again<T: Tagged>(
-    f: &Fabric<T, 256>,
-    hand: Hand<T>,
-    cache: Burst<T, 256>,
-    size: usize,
-) -> (Local<T, 256>, bool)
-    requires hand { IsHandOf f.now hand }
-    requires rings { AreRings (rings_of f.now) }
-    requires small { size ≤ 128 }
-    ensures { IsLocalOf f.now result.0 }
-{
-    match Local::resume(hand, cache, FREE, size) {
-        Ok(local) => (local, true),
-        Err((hand, _, _)) => (fresh(f, hand, size), false),
-    }
-}
-
-/// Puts all of a list, as room comes, and tells whether it did.
-fn offer<T: Tagged, R: Wait>(
-    rt: &R,
-    f: &Fabric<T, 256>,
-    hand: Hand<T>,
-    ring: usize,
-    list: &mut Burst<T, 256>,
-) -> (Hand<T>, bool)
-    requires hand { IsHandOf f.now hand }
-    requires ring { ring < length (rings_of f.now) }
-    ensures hand { IsHandOf f.now result.0 }
-    ensures left { result.1 ≡ true → list.new ≡ [] }
-{
-    match put_all(rt, f, hand, ring, list) {
-        Ok(hand) => (hand, true),
-        Err(hand) => (hand, false),
-    }
-}
-
-/// Takes at most `n` items, as many as there are, and tells whether the ring is worn.
-fn draw<T: Tagged, R: Wait>(
-    rt: &R,
-    f: &Fabric<T, 256>,
-    hand: Hand<T>,
-    ring: usize,
-    n: usize,
-    into: &mut Burst<T, 256>,
-) -> (Hand<T>, bool)
-    requires hand { IsHandOf f.now hand }
-    requires ring { ring < length (rings_of f.now) }
-    requires empty { into.old ≡ [] }
-    ensures { IsHandOf f.now result.0 }
-{
-    match take_burst_into(rt, f, hand, ring, n, into) {
-        TakeAnswer::Done(hand, _) => (hand, false),
-        TakeAnswer::Refused(hand, fault) => (hand, fault == StartFault::Worn),
-        TakeAnswer::Open(_, _) => unreachable!(),
+/// Why a put goes no further, where it doesn't wait for room.
+fn fault_of(refusal: Refusal) -> Option<RingFault> {
+    match refusal {
+        Refusal::Start(StartFault::NoRoom(_)) => None,
+        Refusal::Start(StartFault::Worn) => Some(RingFault::Worn),
+        _ => Some(RingFault::Window),
     }
 }
 
@@ -109,8 +56,7 @@ impl<'f, T: Tagged> Station<'f, T> {
     {
         Station {
             fabric: f,
-            local: Some(fresh(f, hand, size)),
-            size,
+            local: fresh(f, hand, size),
         }
     }
 
@@ -127,10 +73,7 @@ impl<'f, T: Tagged> Station<'f, T> {
         requires empty { into.old ≡ [] }
         ensures apart { IfOk result (λ _. AreDistinct (flat_map T.numbers into.new)) }
     {
-        let Some(local) = &mut self.local else {
-            unreachable!();
-        };
-        local.get_into(rt, self.fabric, n, into)
+        self.local.get_into(rt, self.fabric, n, into)
     }
 
     /// Gives segments back, at most 64. Refused where they aren't this hand's, and where the ring is worn.
@@ -138,10 +81,7 @@ impl<'f, T: Tagged> Station<'f, T> {
         requires few { length list.old ≤ 64 }
         ensures left { IfOk result (λ _. list.new ≡ []) }
     {
-        let Some(local) = &mut self.local else {
-            unreachable!();
-        };
-        match local.put_from(rt, self.fabric, list) {
+        match self.local.put_from(rt, self.fabric, list) {
             Ok(()) => Ok(()),
             Err(PoolFault::Worn) => Err(RingFault::Worn),
             Err(_) => Err(RingFault::Window),
@@ -158,21 +98,20 @@ impl<'f, T: Tagged> Station<'f, T> {
         requires ring { ring < 3 }
         ensures left { IfOk result (λ _. list.new ≡ []) }
     {
-        let Some(local) = self.local.take() else {
-            unreachable!();
-        };
-        let (hand, cache) = local.into_hand();
-        let (hand, sent) = offer(rt, self.fabric, hand, ring, list);
-        let (local, whole) = again(self.fabric, hand, cache, self.size);
-        self.local = Some(local);
-        if !sent {
-            return Err(RingFault::Worn);
+        let backoff = Backoff::new();
+        for _ in rt.forever() {
+            if list.len() == 0 {
+                return Ok(());
+            }
+            match self.local.send_from(rt, self.fabric, ring, list) {
+                Ok(_) => (),
+                Err(refusal) => match fault_of(refusal) {
+                    None => backoff.snooze(),
+                    Some(fault) => return Err(fault),
+                },
+            }
         }
-        if whole {
-            Ok(())
-        } else {
-            Err(RingFault::Window)
-        }
+        unreachable!()
     }
 
     /// Takes at most `n` packets from a ring into an empty list, as many as there are; none where there are none.
@@ -186,20 +125,9 @@ impl<'f, T: Tagged> Station<'f, T> {
         requires ring { ring < 3 }
         requires empty { into.old ≡ [] }
     {
-        let Some(local) = self.local.take() else {
-            unreachable!();
-        };
-        let (hand, cache) = local.into_hand();
-        let (hand, worn) = draw(rt, self.fabric, hand, ring, n, into);
-        let (local, whole) = again(self.fabric, hand, cache, self.size);
-        self.local = Some(local);
-        if worn {
-            return Err(RingFault::Worn);
-        }
-        if whole {
-            Ok(())
-        } else {
-            Err(RingFault::Window)
+        match self.local.receive_into(rt, self.fabric, ring, n, into) {
+            Err(StartFault::Worn) => Err(RingFault::Worn),
+            _ => Ok(()),
         }
     }
 }

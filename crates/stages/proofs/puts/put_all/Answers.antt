@@ -14,7 +14,7 @@ loop-init g c = record {
   sent = [];
   all = refl;
   puts = puts_none c.args.ring _ _ refl;
-  yours = λ plan there yours. yours;
+  yours = c.requires.yours;
 }
 
 pub returns-then-len-eq0-clause-done : goal.returns-then-len-eq0-clause-done
@@ -30,7 +30,7 @@ loop-preserved-in-Done g c =
     let i = c.loop.invariant in
     let known = ring_at (rings_of c.args.f.now) c.args.ring c.requires.ring in
     let m = c.in-Done.field-1 in
-    let rest = c.put_burst_from.new.list in
+    let rest = c.put_own_burst_from.new.list in
     let first = take m.count c.loop.list in
     let told = c.in-Done.ensures.told known.0 known.1 in
     record {
@@ -40,30 +40,33 @@ loop-preserved-in-Done g c =
       all = append_assoc i.sent first rest
           ∙ (ap (λ l. i.sent ++ l) (ap (λ l. first ++ l) told.2.1 ∙ take-append-drop m.count c.loop.list) ∙ i.all);
       puts = puts_more c.args.ring _ _ _ i.sent first c.in-Done.ensures.settled.0 i.puts c.in-Done.ensures.settled.1;
-      yours = λ plan there yours. rest_yours g.T.Tagged.numbers g.row.N by_burst c.args.ring plan (view c.loop.hand) c.in-Done.back m c.loop.list rest
-          (c.in-Done.ensures.told plan there) (i.yours plan there yours);
+      yours = λ plan there. rest_yours g.T.Tagged.numbers g.row.N by_burst c.args.ring plan (view c.loop.hand) c.in-Done.back m c.loop.list rest
+          (c.in-Done.ensures.told plan there) (i.yours plan there);
     }
 
-pub returns-then-not-wants_room-clause-worn : goal.returns-then-not-wants_room-clause-worn
-returns-then-not-wants_room-clause-worn g c plan there yours =
+pub returns-then-not-wants_room-clause-refused : goal.returns-then-not-wants_room-clause-refused
+returns-then-not-wants_room-clause-refused g c =
     let i = c.loop.invariant in
-    let some : 0 < length c.loop.list = search rules in
-    refused_worn g.T.Tagged.numbers g.row.N by_burst c.args.ring plan (view c.loop.hand) c.in-Refused.back c.in-Refused.refusal c.loop.list c.put_burst_from.new.list
-    (c.in-Refused.ensures.told plan there) c.in-Refused.ensures.settled c.in-Refused.ensures.finished (c.wants_room.ensures (search rules)) some
-    (omega (arith, c.len.ensures.value, c.len.ensures.fits)) c.loop.hand.share.well (i.yours plan there yours)
+    let known = ring_at (rings_of c.args.f.now) c.args.ring c.requires.ring in
+    let some : 0 < length c.loop.list = search rules in (
+      c.in-Refused.ensures.made,
+      refused_worn g.T.Tagged.numbers g.row.N by_burst c.args.ring known.0 (view c.loop.hand) c.in-Refused.back c.in-Refused.refusal c.loop.list c.put_own_burst_from.new.list
+          (c.in-Refused.ensures.told known.0 known.1) c.in-Refused.ensures.settled c.in-Refused.ensures.finished (c.wants_room.ensures (search rules)) some
+          (omega (arith, c.len.ensures.value, c.len.ensures.fits)) c.loop.hand.share.well (i.yours known.0 known.1),
+    )
 
 pub loop-preserved : goal.loop-preserved
 loop-preserved g c =
     let i = c.loop.invariant in
     let known = ring_at (rings_of c.args.f.now) c.args.ring c.requires.ring in
     let same = refused_party g.T.Tagged.numbers g.row.N by_burst c.args.ring known.0 (view c.loop.hand) c.in-Refused.back c.in-Refused.refusal c.loop.list
-    c.put_burst_from.new.list (c.in-Refused.ensures.told known.0 known.1) in
+    c.put_own_burst_from.new.list (c.in-Refused.ensures.told known.0 known.1) in
     record {
       iterator = (tt, tt);
       hand = c.in-Refused.ensures.made;
       sent = i.sent;
       all = ap (λ l. i.sent ++ l) same.1 ∙ i.all;
       puts = puts_kept c.args.ring _ _ _ i.sent i.puts (ap (λ p. p.settled) same.0);
-      yours = λ plan there yours. refused_yours g.T.Tagged.numbers g.row.N by_burst c.args.ring plan (view c.loop.hand) c.in-Refused.back c.in-Refused.refusal
-          c.loop.list c.put_burst_from.new.list (c.in-Refused.ensures.told plan there) (i.yours plan there yours);
+      yours = λ plan there. refused_yours g.T.Tagged.numbers g.row.N by_burst c.args.ring plan (view c.loop.hand) c.in-Refused.back c.in-Refused.refusal
+          c.loop.list c.put_own_burst_from.new.list (c.in-Refused.ensures.told plan there) (i.yours plan there);
     }

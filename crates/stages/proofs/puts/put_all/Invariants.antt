@@ -11,5 +11,5 @@ invariant-loop g l = record {
   sent : List g.row.T.Denot;
   all : sent ++ l.list ≡ l.fn.list;
   puts : Puts l.ring (view l.fn.hand).party.settled (view l.hand).party.settled sent;
-  yours : OnRing l.f l.ring (λ plan. AreYours g.T.Tagged.numbers plan (view l.fn.hand) l.fn.list → AreYours g.T.Tagged.numbers plan (view l.hand) l.list);
+  yours : OnRing l.f l.ring (λ plan. AreYours g.T.Tagged.numbers plan (view l.hand) l.list);
 }

@@ -1,17 +1,25 @@
-use Rattle.std.proofs.Common.{◌≡◌, ◌<◌, ◌++◌, true, false, length, sym, ◌∙◌, arith}
-use Rattle.fabric.specs.Hands.{rings_of, view}
-use Rattle.fabric.proofs.Told.{ring_at}
+use Rattle.std.proofs.Common.{◌≡◌, ◌++◌, true, false, rules, sym, ◌∙◌, arith}
+use Rattle.fabric.specs.Hands.{view}
 use Rattle.stages.specs.Judging.{has_mark}
 use Rattle.stages.proofs.Rounds.{goes_on, judged_yours, worked}
 use Rattle.stages.proofs.working.work.Goals as goal
 
-pub returns-in-Err-put_all-clause-worn : goal.returns-in-Err-put_all-clause-worn
-returns-in-Err-put_all-clause-worn g c _ =
-    let low : 2 < length (rings_of c.args.f.now) = omega (arith, c.requires.rings.many) in
-    let known = ring_at (rings_of c.args.f.now) 2 low in
-    c.in-Err-put_all.ensures.worn known.0 known.1
-    (judged_yours g.J.Run.forwarding known.0 (view c.loop.hand).party (view c.in-Ok.hand) c.fetch.new.into c.judge_all-ended.new.out
-    (c.requires.rings.mixed known.0 known.1) c.in-Ok.ensures.more c.judge_all-ended.ensures.judged)
+pub put_all-requires : goal.put_all-requires
+put_all-requires g c = (
+  search rules,
+  (
+    search rules,
+    (
+      c.in-Ok.ensures.hand,
+      (
+        omega (arith, c.requires.rings.many),
+        λ plan there.
+            judged_yours g.J.Run.forwarding plan (view c.loop.hand).party (view c.in-Ok.hand) c.fetch.new.into c.judge_all-ended.new.out
+            (c.requires.rings.mixed plan there) c.in-Ok.ensures.more c.judge_all-ended.ensures.judged,
+      ),
+    ),
+  ),
+)
 
 pub returns-then-ended-clause-worked : goal.returns-then-ended-clause-worked
 returns-then-ended-clause-worked g c _ =

@@ -1,4 +1,4 @@
-use Rattle.std.proofs.Common.{rules, refl}
+use Rattle.std.proofs.Common.{rules}
 use Rattle.stages.proofs.Known.{if_ok}
 use Rattle.stages.proofs.Stations.{local_of, of_local, given_apart}
 use Rattle.stages.proofs.station.Station.get.Goals as goal
@@ -11,7 +11,7 @@ get_into-requires g c = (
     (
       search rules,
       (
-        local_of c.args.self.now.fabric.now c.args.self.now.local c.in-Some.local c.args.self.now.of c.in-Some.is,
+        local_of c.args.self.now.fabric.now c.args.self.now.local c.args.self.now.of,
         (c.requires.some, (c.requires.few, c.requires.empty)),
       ),
     ),
@@ -20,10 +20,8 @@ get_into-requires g c = (
 
 pub invariant_of-self : goal.invariant_of-self
 invariant_of-self g c = record {
-  here = refl;
   of = of_local c.args.self.now.fabric.now c.get_into.new.self c.get_into.ensures.local;
   rings = c.args.self.now.rings;
-  small = c.args.self.now.small;
 }
 
 pub returns : goal.returns

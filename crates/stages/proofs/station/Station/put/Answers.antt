@@ -1,4 +1,4 @@
-use Rattle.std.proofs.Common.{rules, refl}
+use Rattle.std.proofs.Common.{rules}
 use Rattle.fabric.specs.Hands.{rings_of}
 use Rattle.fabric.proofs.Told.{ring_at}
 use Rattle.stages.proofs.Stations.{local_of, of_local, put_leaves, ring_there}
@@ -12,7 +12,7 @@ put_from-requires g c = (
     (
       search rules,
       (
-        local_of c.args.self.now.fabric.now c.args.self.now.local c.in-Some.local c.args.self.now.of c.in-Some.is,
+        local_of c.args.self.now.fabric.now c.args.self.now.local c.args.self.now.of,
         c.requires.few,
       ),
     ),
@@ -21,15 +21,13 @@ put_from-requires g c = (
 
 pub invariant_of-self : goal.invariant_of-self
 invariant_of-self g c = record {
-  here = refl;
   of = of_local c.args.self.now.fabric.now c.put_from.new.self c.put_from.ensures.local;
   rings = c.args.self.now.rings;
-  small = c.args.self.now.small;
 }
 
 pub returns-in-Ok : goal.returns-in-Ok
 returns-in-Ok g c =
     let f = c.args.self.now.fabric.now in
-    let l = c.in-Some.local in
-    let there = ring_at (rings_of f) l.ring (ring_there f l (local_of f c.args.self.now.local l c.args.self.now.of c.in-Some.is)) in
+    let l = c.args.self.now.local in
+    let there = ring_at (rings_of f) l.ring (ring_there f l (local_of f l c.args.self.now.of)) in
     record { left = put_leaves g.T.Tagged.numbers there.0 l c.put_from.new.self c.args.list.now c.put_from.new.list (c.in-Ok.ensures.told there.0 there.1) }

@@ -1,20 +1,15 @@
-use Rattle.std.proofs.Common.{rules, ◌≡◌, Some, arith}
-use Rattle.stages.proofs.Stations.{hand_of_local, local_of}
+use Rattle.std.proofs.Common.{arith, rules}
+use Rattle.stages.proofs.Stations.{local_of}
 use Rattle.stages.proofs.station.Station.send.Goals as goal
 
-pub offer-hand-requires : goal.offer-hand-requires
-offer-hand-requires g c =
-    let here : c.args.self.now.local ≡ Some c.in-Some.local = search rules in (
+pub send_from-requires : goal.send_from-requires
+send_from-requires g c = (
+  search rules,
+  (
+    search rules,
+    (
       search rules,
-      (
-        hand_of_local c.args.self.now.fabric.now c.in-Some.local c.into_hand-hand.result.0
-            (local_of c.args.self.now.fabric.now c.args.self.now.local c.in-Some.local c.args.self.now.of here) c.into_hand-hand.ensures.hand,
-        omega (arith, c.requires.ring, c.args.self.now.rings.many),
-      ),
-    )
-
-pub again-local-requires : goal.again-local-requires
-again-local-requires g c = (search rules, (search rules, (c.offer-hand.ensures.hand, (c.args.self.now.rings, c.args.self.now.small))))
-
-pub returns-then-whole : goal.returns-then-whole
-returns-then-whole g c = record { left = c.offer-hand.ensures.left (search rules) }
+      (local_of c.loop.self.fabric.now c.loop.self.local c.loop.self.of, omega (arith, c.requires.ring, c.loop.self.rings.many)),
+    ),
+  ),
+)
