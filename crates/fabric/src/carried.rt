@@ -1,5 +1,5 @@
 //! The buffers that the items of a burst carry, and a hand's row of bits for them.
-ghost use Rattle.std.specs.Prelude.{◌≡◌, ◌≢◌, ◌≤◌, ◌==◌, length, slice_get, take, true, false};
+ghost use Rattle.std.specs.Prelude.{◌≡◌, ◌≢◌, ◌≤◌, ◌==◌, [], length, slice_get, take, true, false};
 ghost use Rattle.std.specs.List.{flat_map, list_all};
 ghost use Rattle.fabric.specs.Owned.{all_there, cleared, marked, told};
 
@@ -7,12 +7,20 @@ use crate::owned::Owned;
 use arrayvec::ArrayVec;
 use burst::{Burst, Tagged};
 
+/// Takes all numbers out, one by one: most items carry one, and to blank a run of them at once costs a call.
+#[inline]
+fn empty(out: &mut ArrayVec<u32, 64>)
+    ensures { out.new.items ≡ [] }
+{
+    while let Some(_number) = out.pop() {}
+}
+
 /// The numbers of the item at place `i`, in place of what `out` has.
 #[inline]
 fn numbers_at<T: Tagged, const N: usize>(items: &Burst<T, N>, i: usize, out: &mut ArrayVec<u32, 64>)
     ensures { out.new.items ≡ told T.numbers (slice_get items.now i) }
 {
-    out.clear();
+    empty(out);
     match items.get(i) {
         Some(item) => item.tags(out),
         None => (),
