@@ -2,6 +2,7 @@ pub mod Counts
 pub mod Singles
 pub mod Few
 pub mod Asking
+pub mod Turned
 pub mod Kept
 pub mod Wholes
 pub mod ByValue

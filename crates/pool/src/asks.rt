@@ -7,7 +7,7 @@ ghost use Rattle.pool.specs.Asks.{Fetches, Flushes, HasLess, HasMore, Refills, S
 ghost use Rattle.pool.specs.Hands.{IsFreeOf};
 
 use crate::faults::PoolFault;
-use crate::moves::{append, deal, part};
+use crate::moves::{pour, serve};
 use burst::{Burst, Tagged};
 use fabric::{Fabric, Hand, StartFault};
 use ringapi::{PutAnswer, TakeAnswer, put_own_bulk_from, take_bulk_into};
@@ -115,7 +115,8 @@ pub(crate) fn place<T: Tagged, const N: usize, R: Wait>(
     }
 }
 
-/// One bulk put of the oldest `spare` items of a cache, tried until it is answered.
+/// One bulk put of the oldest `spare` items of a cache, tried until it is answered. The others wait in `others`
+/// meanwhile, which is empty before and after.
 pub(crate) fn spill<T: Tagged, const N: usize, R: Wait>(
     rt: &R,
     f: &Fabric<T, N>,
@@ -123,6 +124,7 @@ pub(crate) fn spill<T: Tagged, const N: usize, R: Wait>(
     ring: usize,
     spare: usize,
     cache: &mut Burst<T, N>,
+    others: &mut Burst<T, N>,
 ) -> Result<Hand<T>, Hand<T>>
     requires hand { IsHandOf f.now hand }
     requires free { IsFreeOf f.now ring }
@@ -130,6 +132,7 @@ pub(crate) fn spill<T: Tagged, const N: usize, R: Wait>(
     requires some { 0 < spare }
     requires few { spare ≤ length cache.old }
     requires room { length cache.old ≤ N }
+    requires empty { others.old ≡ [] }
     ensures kept { IfOk result (IsHandOf f.now) }
     ensures same { IfErr result (IsHandOf f.now) }
     ensures told { OnRing f.now ring (λ plan. Spills T.numbers N ring plan (view hand) (take spare cache.old) result) }
@@ -137,22 +140,23 @@ pub(crate) fn spill<T: Tagged, const N: usize, R: Wait>(
     ensures party { IfErr result (λ h. (view h).party ≡ (view hand).party) }
     ensures done { IfOk result (λ _. cache.new ≡ drop spare cache.old) }
     ensures back { IfErr result (λ _. cache.new ≡ cache.old) }
+    ensures left { others.new ≡ [] }
 {
-    let mut kept = Burst::new();
-    part(cache, spare, &mut kept);
+    pour(cache, spare, others);
     match place(rt, f, hand, ring, cache) {
         Ok(hand) => {
-            append(&mut kept, cache);
+            pour(others, 0, cache);
             Ok(hand)
         }
         Err(hand) => {
-            append(&mut kept, cache);
+            pour(others, 0, cache);
             Err(hand)
         }
     }
 }
 
-/// Gets items where the cache has too few: refills it, and deals out. At a refusal nothing moves.
+/// Gets items where the cache has too few: all of them, the newest first, and behind them the first of those that
+/// refill the cache. At a refusal nothing moves.
 pub(crate) fn fetch<T: Tagged, const N: usize, R: Wait>(
     rt: &R,
     f: &Fabric<T, N>,
@@ -178,13 +182,16 @@ pub(crate) fn fetch<T: Tagged, const N: usize, R: Wait>(
     ensures party { IfErr result (λ e. (view e.0).party ≡ (view hand).party) }
 {
     let missing = n - cache.len();
-    let mut taken = Burst::new();
-    match refill(rt, f, hand, ring, missing, size, &mut taken) {
+    pour(cache, 0, into);
+    match refill(rt, f, hand, ring, missing, size, cache) {
         Ok(hand) => {
-            deal(cache, missing, &mut taken, into);
+            serve(cache, missing, into);
             Ok(hand)
         }
-        Err(refused) => Err(refused),
+        Err(refused) => {
+            pour(into, 0, cache);
+            Err(refused)
+        }
     }
 }
 

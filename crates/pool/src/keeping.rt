@@ -79,7 +79,7 @@ pub(crate) fn shed<T: Tagged, const N: usize, R: Wait>(
 {
     let spare = cache.len() - size;
     let hand = keeper.whole(cache);
-    match spill(rt, f, hand, ring, spare, cache) {
+    match spill(rt, f, hand, ring, spare, cache, list) {
         Ok(hand) => Ok(keep_back(hand, cache)),
         Err(hand) => {
             part(cache, before, list);

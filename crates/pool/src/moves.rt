@@ -1,6 +1,5 @@
 //! Moves of items between lists, in the order that the cache keeps.
 ghost use Rattle.std.specs.Prelude.{◌≡◌, ◌+◌, ◌-◌, ◌≤◌, ◌++◌, [], length, take, drop, reverse};
-ghost use Rattle.pool.specs.Caches.{cached_after_get, taken_by_get};
 
 use burst::{Burst, Tagged};
 
@@ -50,22 +49,18 @@ pub(crate) fn part<T: Tagged, const N: usize>(
     to.reverse();
 }
 
-/// Deals out a cache that has too few items and those that were taken for it: all of the cache, its newest first, and
-/// the first `missing` of those taken go into the answer, the rest of these are the cache then, in the ring's order.
-pub(crate) fn deal<T: Tagged, const N: usize>(
-    cache: &mut Burst<T, N>,
-    missing: usize,
-    taken: &mut Burst<T, N>,
-    into: &mut Burst<T, N>,
+/// Moves the first `k` items of a list behind those of another, in order. Asked: there is room for them.
+pub(crate) fn serve<T: Tagged, const N: usize>(
+    from: &mut Burst<T, N>,
+    k: usize,
+    to: &mut Burst<T, N>,
 )
-    requires empty { into.old ≡ [] }
-    requires fits { missing ≤ length taken.old }
-    requires long { length taken.old ≤ N }
-    requires room { length cache.old + missing ≤ N }
-    ensures answer { into.new ≡ taken_by_get (length cache.old + missing) cache.old taken.old }
-    ensures cached { cache.new ≡ cached_after_get (length cache.old + missing) cache.old taken.old }
+    requires fits { k ≤ length from.old }
+    requires room { length to.old + k ≤ N }
+    ensures left { from.new ≡ drop k from.old }
+    ensures moved { to.new ≡ to.old ++ take k from.old }
 {
-    pour(cache, 0, into);
-    part(taken, missing, cache);
-    append(taken, into);
+    from.reverse();
+    pour(from, from.len() - k, to);
+    from.reverse();
 }

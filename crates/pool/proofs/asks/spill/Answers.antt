@@ -1,9 +1,10 @@
-use Rattle.std.proofs.Common.{◌≡◌, Ok, Err, length, drop, ap, sym, subst, rules, arith}
-use Rattle.std.proofs.lemmas.List.{length-take}
+use Rattle.std.proofs.Common.{◌≡◌, ℕ, ◌++◌, Ok, Err, List, [], length, drop, reverse, ap, sym, subst, ◌∙◌, rules, arith}
+use Rattle.std.proofs.lemmas.List.{length-take, take-append-drop}
 use Rattle.fabric.specs.Hands.{view}
 use Rattle.fabric.specs.Settles.{AreOwnBuffers}
 use Rattle.pool.proofs.Asking.{first_own, left_own}
 use Rattle.pool.specs.Asks.{HasLess, Spills}
+use Rattle.pool.proofs.Turned.{poured_behind}
 use Rattle.pool.proofs.asks.spill.Goals as goal
 
 pub place-requires : goal.place-requires
@@ -19,11 +20,11 @@ place-requires g c =
           (
             c.requires.free,
             (
-              subst (AreOwnBuffers tags (view c.args.hand)) (sym c.part.ensures.left)
+              subst (AreOwnBuffers tags (view c.args.hand)) (sym c.pour.ensures.left)
                   (first_own tags (view c.args.hand) all c.args.spare c.requires.own),
               (
-                omega (arith, ap length c.part.ensures.left, few, c.requires.some, c.requires.few),
-                omega (arith, ap length c.part.ensures.left, few, c.requires.room),
+                omega (arith, ap length c.pour.ensures.left, few, c.requires.some, c.requires.few),
+                omega (arith, ap length c.pour.ensures.left, few, c.requires.room),
               ),
             ),
           ),
@@ -33,16 +34,34 @@ place-requires g c =
 
 pub returns-in-Ok-clause-told : goal.returns-in-Ok-clause-told
 returns-in-Ok-clause-told g c plan there =
-    subst (λ l. Spills g.T.Tagged.numbers g.row.N c.args.ring plan (view c.args.hand) l (Ok c.in-Ok.hand)) c.part.ensures.left (c.in-Ok.ensures.told plan there)
+    subst (λ l. Spills g.T.Tagged.numbers g.row.N c.args.ring plan (view c.args.hand) l (Ok c.in-Ok.hand)) c.pour.ensures.left (c.in-Ok.ensures.told plan there)
 
-pub returns-clause-told : goal.returns-clause-told
-returns-clause-told g c plan there =
-    subst (λ l. Spills g.T.Tagged.numbers g.row.N c.args.ring plan (view c.args.hand) l (Err c.in-Err.hand)) c.part.ensures.left (c.in-Err.ensures.told plan there)
+pub returns-in-Err-clause-told : goal.returns-in-Err-clause-told
+returns-in-Err-clause-told g c plan there =
+    subst (λ l. Spills g.T.Tagged.numbers g.row.N c.args.ring plan (view c.args.hand) l (Err c.in-Err.hand)) c.pour.ensures.left (c.in-Err.ensures.told plan there)
+
+-- the others come back behind what the put left
+back_behind : {T : Type 0} → (k : ℕ) (all front others later empty : List T) → empty ≡ [] → others ≡ empty ++ reverse (drop k all)
+    → later ≡ front ++ reverse others → later ≡ front ++ drop k all
+back_behind k all front others later empty none waits poured =
+    poured_behind k all front others later (waits ∙ ap (λ l. l ++ reverse (drop k all)) none) poured
+
+pub returns-in-Ok-clause-done : goal.returns-in-Ok-clause-done
+returns-in-Ok-clause-done g c =
+    let all = c.args.cache.now in
+    back_behind c.args.spare all c.place.new.list c.pour.new.to c.pour-in-Ok.new.to c.args.others.now c.requires.empty c.pour.ensures.moved
+    c.pour-in-Ok.ensures.moved ∙ ap (λ l. l ++ drop c.args.spare all) c.in-Ok.ensures.done
+
+pub returns-in-Err-clause-back : goal.returns-in-Err-clause-back
+returns-in-Err-clause-back g c =
+    let all = c.args.cache.now in
+    back_behind c.args.spare all c.place.new.list c.pour.new.to c.pour-in-Err.new.to c.args.others.now c.requires.empty c.pour.ensures.moved
+    c.pour-in-Err.ensures.moved
+    ∙ (ap (λ l. l ++ drop c.args.spare all) (c.in-Err.ensures.back ∙ c.pour.ensures.left) ∙ take-append-drop c.args.spare all)
 
 pub returns-in-Ok-clause-own : goal.returns-in-Ok-clause-own
 returns-in-Ok-clause-own g c =
     let tags = g.T.Tagged.numbers in
     let h = c.in-Ok.hand in
-    let left : c.append.new.to ≡ drop c.args.spare c.args.cache.now = search rules in
-    subst (AreOwnBuffers tags (view h)) (sym left) (left_own tags (view c.args.hand) (view h) c.args.cache.now c.args.spare
-    c.requires.own (subst (λ l. HasLess tags (view c.args.hand).party l (view h).party) c.part.ensures.left c.in-Ok.ensures.less))
+    subst (AreOwnBuffers tags (view h)) (sym (returns-in-Ok-clause-done g c)) (left_own tags (view c.args.hand) (view h) c.args.cache.now c.args.spare
+    c.requires.own (subst (λ l. HasLess tags (view c.args.hand).party l (view h).party) c.pour.ensures.left c.in-Ok.ensures.less))

@@ -30,8 +30,8 @@ put_own_burst_from-requires g c =
             (
               c.requires.ring,
               λ plan there.
-                spare_yours g.T.Tagged.numbers plan c.args.keeper (view c.whole-hand.result) c.args.cache.now c.args.list.now is c.requires.kept
-                (c.may_put.ensures.yours plan there c.if-not-may_put.false),
+                  spare_yours g.T.Tagged.numbers plan c.args.keeper (view c.whole-hand.result) c.args.cache.now c.args.list.now is c.requires.kept
+                  (c.may_put.ensures.yours plan there c.if-not-may_put.false),
             ),
           ),
         ),

@@ -23,7 +23,7 @@ keep_back-requires-in-Err g c =
 pub returns-in-Ok-clause-told : goal.returns-in-Ok-clause-told
 returns-in-Ok-clause-told g c plan there =
     let cache = c.args.cache.now in (
-      c.requires.empty,
+      c.spill.ensures.left,
       c.in-Ok.ensures.done ∙ ap (λ n. drop (n - c.args.size) cache) c.len.ensures.value,
       c.in-Ok.hand,
       subst (λ (z : View g.row.T.Denot × List g.row.T.Denot). Spills g.T.Tagged.numbers g.row.N c.args.ring plan z.0 z.1 (Ok c.in-Ok.hand))
