@@ -1,7 +1,7 @@
 -- The entries agree with the buffers of the actors and of the rings after each step
 use Rattle.std.proofs.Common.{ℕ, ◌<◌, ◌≢◌, ◌≡◌, inl, inr, List, [], ◌∷◌, length, refl, ap, sym, subst, ◌∙◌, arith}
 use Rattle.std.proofs.Common.{true, false, Bool, cond}
-use Rattle.std.specs.Prelude.{slice_get, slice_set, Some, not, ◌&&◌, ◌||◌, ◌==◌, if◌then◌else◌}
+use Rattle.std.specs.Prelude.{slice_get, slice_set, Some, not, ◌&&◌, ◌||◌, ◌==◌}
 use Rattle.std.specs.List.{list_any, filter, sum_by, range_with_len}
 use Rattle.std.proofs.lemmas.List.{length-set, get_or-set_same, get_or-set_other}
 use Rattle.std.proofs.lemmas.Bool.Decides.{nat_tests}

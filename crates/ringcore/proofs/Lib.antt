@@ -1,4 +1,5 @@
 pub mod Replies
+pub mod Planned
 pub mod EntrySteps
 pub mod Steps
 pub mod SettleSteps

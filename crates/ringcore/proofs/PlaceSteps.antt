@@ -16,6 +16,7 @@ use Rattle.ringcore.specs.Agree.{EntriesAgree, IsNamed}
 use Rattle.ringcore.specs.Entries.{entry, is_cached_at, positions_on, times_with}
 use Rattle.ringcore.specs.Histories.{AgreesWith, History, actors_of, pool_size}
 use Rattle.ringcore.proofs.HandSteps.{apart_test, same_test}
+use Rattle.ringcore.specs.Planned.{rings_in}
 
 -- what an entry tells of rings and of actors
 on_ring_of : Place → ℕ → List Place
@@ -130,18 +131,18 @@ place_is w h agree b =
     x : Place
     x = entry w.places.items b
 
-    e : EntriesAgree (pool_size h) w.rings.items w.places.items w.members.items actors
+    e : EntriesAgree (pool_size h) (rings_in w.rings.items) w.places.items w.members.items actors
     e = agree.lists.entries
 
     named : IsNamed (length h.plans) (length actors) x
     named =
         subst (λ (v : ℕ). IsNamed v (length actors) x) agree.lists.spans.ring_count
-        (subst (λ (v : ℕ). IsNamed (length w.rings.items) v x) agree.lists.spans.member_count (e.named b))
+        (subst (λ (v : ℕ). IsNamed (length (rings_in w.rings.items)) v x) agree.lists.spans.member_count (e.named b))
 
     queued : (r : ℕ) → r < length h.plans → queued_at b (parties_of actors) r ≡ positions_on r x
     queued r lt =
         let plan = element h.plans r lt in
-        let ring = element w.rings.items r (omega (arith, lt, agree.lists.spans.ring_count)) in
+        let ring = element (rings_in w.rings.items) r (omega (arith, lt, agree.lists.spans.ring_count)) in
         let it = agree.lists.spans.each_ring r plan.0 ring.0 plan.1 ring.1 in
         ap (λ (v : ℕ). positions_from b v (queue (parties_of actors) r)) (sym it.take.tail)
         ∙ (ap (positions_from b ring.0.take.tail) (sym it.queue) ∙ e.queued r ring.0 ring.1 b)

@@ -17,7 +17,9 @@ use Rattle.ringcore_laws.specs.Invariant.{Invariant}
 use Rattle.ringcore_laws.proofs.OpeningLaws.{opening_kept, from_opening}
 use Rattle.ringcore_laws.proofs.RunLaws.{one_span_each, run_kept}
 use Rattle.ringcore_laws.proofs.RefusalLaws.{puts_find_room}
+use Rattle.ringcore.proofs.Planned.{plans_counted}
 use Rattle.ringcore.specs.Histories.{History, IsPlanned, IsRight, AgreesWith, StepExists, actors_of, opening_of, pool_size, followed_by}
+use Rattle.ringcore.specs.Planned.{plans_of, rings_of}
 
 pub after_all-append : (actors : List Actor) (xs ys : List Event) → after_all actors (xs ++ ys) ≡ after_all (after_all actors xs) ys
 after_all-append actors [] ys = refl
@@ -48,11 +50,11 @@ right_followed h events right more =
 
 -- one step of a world that is what a right history leaves
 pub step_followed : (old new : World) (h : History) (actor : ℕ) (step : Step) (reply : Reply)
-    → new.plans.items ≡ old.plans.items
-    → ((pool : ℕ) (actors : List Actor) → AllFit old.plans.items pool → Invariant old.plans.items pool actors
-    → ListsAgree old.plans.items pool old.rings.items old.places.items old.members.items actors
-    → (reply ≡ reply_to old.plans.items pool actors actor step)
-    × ListsAgree old.plans.items pool new.rings.items new.places.items new.members.items (after actors record { actor = actor; step = step; reply = reply }))
+    → (plans_of new) ≡ (plans_of old)
+    → ((pool : ℕ) (actors : List Actor) → AllFit (plans_of old) pool → Invariant (plans_of old) pool actors
+    → ListsAgree (plans_of old) pool (rings_of old) old.places.items old.members.items actors
+    → (reply ≡ reply_to (plans_of old) pool actors actor step)
+    × ListsAgree (plans_of old) pool (rings_of new) new.places.items new.members.items (after actors record { actor = actor; step = step; reply = reply }))
     → AgreesWith old h → IsRight h
     → (reply ≡ reply_to h.plans (pool_size h) (actors_of h) actor step)
     × AgreesWith new (followed_by h (record { actor = actor; step = step; reply = reply } ∷ []))
@@ -60,41 +62,41 @@ pub step_followed : (old new : World) (h : History) (actor : ℕ) (step : Step) 
 step_followed old new h actor step reply same goes agree right =
     let e : Event = record { actor = actor; step = step; reply = reply } in
     let there = subst (λ (ps : List RingPlan). (pool : ℕ) (actors : List Actor) → AllFit ps pool → Invariant ps pool actors
-    → ListsAgree ps pool old.rings.items old.places.items old.members.items actors
+    → ListsAgree ps pool (rings_of old) old.places.items old.members.items actors
     → (reply ≡ reply_to ps pool actors actor step)
-    × ListsAgree ps pool new.rings.items new.places.items new.members.items (after actors record { actor = actor; step = step; reply = reply })) agree.plans goes in
+    × ListsAgree ps pool (rings_of new) new.places.items new.members.items (after actors record { actor = actor; step = step; reply = reply })) agree.plans goes in
     let now = there (pool_size h) (actors_of h) right.plan.rings (right_kept h right) agree.lists in (
       now.0,
       record {
         plans = same ∙ agree.plans;
         lists =
-            subst (λ (v : List Actor). ListsAgree h.plans (pool_size h) new.rings.items new.places.items new.members.items v) (sym (after_all-append (opening_of h) h.events (e ∷ []))) now.1;
+            subst (λ (v : List Actor). ListsAgree h.plans (pool_size h) (rings_of new) new.places.items new.members.items v) (sym (after_all-append (opening_of h) h.events (e ∷ []))) now.1;
       },
       right_followed h (e ∷ []) right (now.0, tt),
     )
 
 -- a list of steps of a world that is what a right history leaves
 pub run_followed : (old new : World) (h : History) (entries : List (ℕ × Step)) (replies : List Reply)
-    → new.plans.items ≡ old.plans.items
-    → ((pool : ℕ) (actors : List Actor) → AllFit old.plans.items pool → Invariant old.plans.items pool actors
-    → ListsAgree old.plans.items pool old.rings.items old.places.items old.members.items actors
-    → RunsTo old.plans.items pool actors entries replies [] new.rings.items new.places.items new.members.items)
+    → (plans_of new) ≡ (plans_of old)
+    → ((pool : ℕ) (actors : List Actor) → AllFit (plans_of old) pool → Invariant (plans_of old) pool actors
+    → ListsAgree (plans_of old) pool (rings_of old) old.places.items old.members.items actors
+    → RunsTo (plans_of old) pool actors entries replies [] (rings_of new) new.places.items new.members.items)
     → AgreesWith old h → IsRight h
     → (length replies ≡ length entries) × AgreesWith new (followed_by h (events_of entries replies)) × IsRight (followed_by h (events_of entries replies))
 run_followed old new h entries replies same goes agree right =
     let there = subst (λ (ps : List RingPlan). (pool : ℕ) (actors : List Actor) → AllFit ps pool → Invariant ps pool actors
-    → ListsAgree ps pool old.rings.items old.places.items old.members.items actors
-    → RunsTo ps pool actors entries replies [] new.rings.items new.places.items new.members.items) agree.plans goes in
+    → ListsAgree ps pool (rings_of old) old.places.items old.members.items actors
+    → RunsTo ps pool actors entries replies [] (rings_of new) new.places.items new.members.items) agree.plans goes in
     let run = there (pool_size h) (actors_of h) right.plan.rings (right_kept h right) agree.lists in
     let whole : run.done ≡ entries = sym (append-nil run.done) ∙ run.split in
     let ran = subst (λ (d : List (ℕ × Step)). IsRun h.plans (pool_size h) (actors_of h) (events_of d replies)) whole run.right in
     let left =
-    subst (λ (d : List (ℕ × Step)). ListsAgree h.plans (pool_size h) new.rings.items new.places.items new.members.items (after_all (actors_of h) (events_of d replies))) whole run.agree in (
+    subst (λ (d : List (ℕ × Step)). ListsAgree h.plans (pool_size h) (rings_of new) new.places.items new.members.items (after_all (actors_of h) (events_of d replies))) whole run.agree in (
       run.count ∙ ap length whole,
       record {
         plans = same ∙ agree.plans;
         lists =
-            subst (λ (v : List Actor). ListsAgree h.plans (pool_size h) new.rings.items new.places.items new.members.items v)
+            subst (λ (v : List Actor). ListsAgree h.plans (pool_size h) (rings_of new) new.places.items new.members.items v)
             (sym (after_all-append (opening_of h) h.events (events_of entries replies))) left;
       },
       right_followed h (events_of entries replies) right ran,
@@ -121,12 +123,7 @@ actors_counted w h agree =
 pub knows_planned : (w : World) (h : History) (actor : ℕ) (step : Step) → AgreesWith w h → StepExists w actor step ↔ IsPlanned h actor step
 knows_planned w h actor step agree =
     let actors = actors_counted w h agree in
-    let plans : vec_len w.plans ≡ length h.plans = w.plans.ok.0 ∙ ap length agree.plans in
-    let rings : vec_len w.rings ≡ length h.plans = w.rings.ok.0 ∙ agree.lists.spans.ring_count in (
+    let rings : vec_len w.rings ≡ length h.plans = plans_counted _ w.rings.items w.rings.ok.0 ∙ ap length agree.plans in (
       (λ is. (subst (λ (n : ℕ). actor < n) actors is.0, subst (λ (n : ℕ). IsOnRing n step) rings is.1)),
-      (λ is. (
-        subst (λ (n : ℕ). actor < n) (sym actors) is.0,
-        subst (λ (n : ℕ). IsOnRing n step) (sym rings) is.1,
-        subst (λ (n : ℕ). IsOnRing n step) (sym plans) is.1,
-      )),
+      (λ is. (subst (λ (n : ℕ). actor < n) (sym actors) is.0, subst (λ (n : ℕ). IsOnRing n step) (sym rings) is.1)),
     )

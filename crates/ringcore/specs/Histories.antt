@@ -10,6 +10,7 @@ use Rattle.ringcore.specs.Agree.{ListsAgree}
 use Rattle.ringcore.specs.Runs.{IsOnRing}
 use Rattle.ringcore.specs.Runs.{ExistAll}
 use Rattle.ringcore_laws.specs.declared.protocol.Step.{Step}
+use Rattle.ringcore.specs.Planned.{plans_of, rings_of}
 
 pub record History : Type 0 where
   pub plans : List RingPlan
@@ -47,16 +48,15 @@ pub record IsRight (h : History) : Type 0 where
 
 -- the world's queued items, lengths, spans, looks and places of buffers are those that the history gives
 pub record AgreesWith (w : World) (h : History) : Type 0 where
-  pub plans : w.plans.items ≡ h.plans
-  pub lists : ListsAgree h.plans (pool_size h) w.rings.items w.places.items w.members.items (actors_of h)
+  pub plans : plans_of w ≡ h.plans
+  pub lists : ListsAgree h.plans (pool_size h) (rings_of w) w.places.items w.members.items (actors_of h)
 
 -- the world has the actor and the ring of a step
 abbrev pub StepExists : World → ℕ → Step → Type 0
-StepExists w actor step =
-    (actor < vec_len w.members) × IsOnRing (vec_len w.rings) step × IsOnRing (vec_len w.plans) step
+StepExists w actor step = (actor < vec_len w.members) × IsOnRing (vec_len w.rings) step
 
 abbrev pub StepsExist : World → List (ℕ × Step) → Type 0
-StepsExist w entries = ExistAll (vec_len w.members) (vec_len w.rings) (vec_len w.plans) entries
+StepsExist w entries = ExistAll (vec_len w.members) (vec_len w.rings) entries
 
 -- the plan of a history has the actor and the ring of a step
 abbrev pub IsPlanned : History → ℕ → Step → Type 0
@@ -65,7 +65,7 @@ IsPlanned h actor step = (actor < h.actors) × IsOnRing (length h.plans) step
 -- worlds that keep the same
 abbrev pub IsUnchanged : World → World → Type 0
 IsUnchanged old new =
-    (new.plans.items ≡ old.plans.items) × (new.rings.items ≡ old.rings.items)
+    (plans_of new ≡ plans_of old) × (rings_of new ≡ rings_of old)
     × (new.places.items ≡ old.places.items) × (new.members.items ≡ old.members.items)
 
 -- the new world is what the old one's history, followed by a beginning of the list, leaves

@@ -1,9 +1,11 @@
 pub mod Agree
 pub mod Changes
 pub mod Entries
+pub mod Fault
 pub mod Fifo
 pub mod Histories
 pub mod Opening
+pub mod Planned
 pub mod Replies
 pub mod Runs
 pub mod Stepping

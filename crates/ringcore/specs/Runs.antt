@@ -23,10 +23,9 @@ IsOnRing n (Stash b) = Unit {0}
 IsOnRing n (Unstash b) = Unit {0}
 
 -- whether actor and ring of each entry are among so many
-abbrev pub ExistAll : ℕ → ℕ → ℕ → List (ℕ × Step) → Type 0
-ExistAll members rings plans [] = Unit {0}
-ExistAll members rings plans (e ∷ entries) =
-    (e.0 < members) × IsOnRing rings e.1 × IsOnRing plans e.1 × ExistAll members rings plans entries
+abbrev pub ExistAll : ℕ → ℕ → List (ℕ × Step) → Type 0
+ExistAll members rings [] = Unit {0}
+ExistAll members rings (e ∷ entries) = (e.0 < members) × IsOnRing rings e.1 × ExistAll members rings entries
 
 -- the events of steps and their replies
 abbrev pub events_of : List (ℕ × Step) → List Reply → List Event

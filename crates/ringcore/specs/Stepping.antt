@@ -11,18 +11,18 @@ use Rattle.ringcore.specs.declared.member.Member.{Member}
 use Rattle.ringcore.specs.declared.world.World.{World}
 use Rattle.ringcore.specs.Agree.{ListsAgree}
 use Rattle.ringcore.specs.Runs.{RunsTo}
+use Rattle.ringcore.specs.Planned.{plans_of, rings_of}
 
--- there are as many actors, rings and plans as before
+-- there are as many actors and rings as before
 abbrev pub SameCounts : World → World → Type 0
 SameCounts old new =
     (vec_len new.members ≡ vec_len old.members) × (vec_len new.rings ≡ vec_len old.rings)
-    × (vec_len new.plans ≡ vec_len old.plans)
 
 abbrev pub SamePlans : World → World → Type 0
-SamePlans old new = new.plans.items ≡ old.plans.items
+SamePlans old new = plans_of new ≡ plans_of old
 
 abbrev pub SameRings : World → World → Type 0
-SameRings old new = (new.rings.items ≡ old.rings.items) × SamePlans old new
+SameRings old new = (rings_of new ≡ rings_of old) × SamePlans old new
 
 abbrev pub SameMembers : World → World → Type 0
 SameMembers old new = new.members.items ≡ old.members.items
@@ -35,20 +35,20 @@ abbrev pub MemberAt : World → ℕ → (Member → Type 0) → Type 0
 MemberAt w actor P = (m : Member) → slice_get w.members.items actor ≡ Some m → P m
 
 abbrev pub RingAt : World → ℕ → (Ring → Type 0) → Type 0
-RingAt w ring P = (r : Ring) → slice_get w.rings.items ring ≡ Some r → P r
+RingAt w ring P = (r : Ring) → slice_get (rings_of w) ring ≡ Some r → P r
 
 abbrev pub FoundAt : World → ℕ → ℕ → (Member → RingPlan → Ring → Type 0) → Type 0
 FoundAt w actor ring P =
     (m : Member) (plan : RingPlan) (r : Ring) → slice_get w.members.items actor ≡ Some m
-    → slice_get w.plans.items ring ≡ Some plan
-    → slice_get w.rings.items ring ≡ Some r → P m plan r
+    → slice_get (plans_of w) ring ≡ Some plan
+    → slice_get (rings_of w) ring ≡ Some r → P m plan r
 
 -- the actor of this number is now this one, and nobody else changed; the same of a ring
 abbrev pub SetMember : World → World → ℕ → Member → Type 0
 SetMember old new actor m = new.members.items ≡ slice_set old.members.items actor m
 
 abbrev pub SetRing : World → World → ℕ → Ring → Type 0
-SetRing old new ring r = new.rings.items ≡ slice_set old.rings.items ring r
+SetRing old new ring r = rings_of new ≡ slice_set (rings_of old) ring r
 
 abbrev pub BothSet : World → World → ℕ → ℕ → (Member → Ring → Type 0) → Type 0
 BothSet old new actor ring P = (n : Member) × (y : Ring) × SetMember old new actor n × SetRing old new ring y × P n y
@@ -57,23 +57,23 @@ BothSet old new actor ring P = (n : Member) × (y : Ring) × SetMember old new a
 -- actors after it
 abbrev pub Answers : World → World → ℕ → Step → Reply → Type 0
 Answers old new actor step reply =
-    (pool : ℕ) (actors : List Actor) → AllFit old.plans.items pool → Invariant old.plans.items pool actors
-    → ListsAgree old.plans.items pool old.rings.items old.places.items old.members.items actors
-    → (reply ≡ reply_to old.plans.items pool actors actor step)
-    × ListsAgree old.plans.items pool new.rings.items new.places.items new.members.items
+    (pool : ℕ) (actors : List Actor) → AllFit (plans_of old) pool → Invariant (plans_of old) pool actors
+    → ListsAgree (plans_of old) pool (rings_of old) old.places.items old.members.items actors
+    → (reply ≡ reply_to (plans_of old) pool actors actor step)
+    × ListsAgree (plans_of old) pool (rings_of new) new.places.items new.members.items
     (after actors record { actor = actor; step = step; reply = reply })
 
 -- the same of entries that were answered so, but for the rest
 abbrev pub AnswersAll : World → World → List (ℕ × Step) → List Reply → List (ℕ × Step) → Type 0
 AnswersAll old new entries replies rest =
-    (pool : ℕ) (actors : List Actor) → AllFit old.plans.items pool → Invariant old.plans.items pool actors
-    → ListsAgree old.plans.items pool old.rings.items old.places.items old.members.items actors
-    → RunsTo old.plans.items pool actors entries replies rest new.rings.items new.places.items new.members.items
+    (pool : ℕ) (actors : List Actor) → AllFit (plans_of old) pool → Invariant (plans_of old) pool actors
+    → ListsAgree (plans_of old) pool (rings_of old) old.places.items old.members.items actors
+    → RunsTo (plans_of old) pool actors entries replies rest (rings_of new) new.places.items new.members.items
 
 -- the same of some beginning
 abbrev pub AnswersSome : World → World → List (ℕ × Step) → Type 0
 AnswersSome old new entries =
-    (pool : ℕ) (actors : List Actor) → AllFit old.plans.items pool → Invariant old.plans.items pool actors
-    → ListsAgree old.plans.items pool old.rings.items old.places.items old.members.items actors
+    (pool : ℕ) (actors : List Actor) → AllFit (plans_of old) pool → Invariant (plans_of old) pool actors
+    → ListsAgree (plans_of old) pool (rings_of old) old.places.items old.members.items actors
     → (replies : List Reply) × (rest : List (ℕ × Step))
-    × RunsTo old.plans.items pool actors entries replies rest new.rings.items new.places.items new.members.items
+    × RunsTo (plans_of old) pool actors entries replies rest (rings_of new) new.places.items new.members.items

@@ -4,26 +4,32 @@ ghost use Rattle.std.specs.Prelude.{◌≡◌, length, map, IfOk};
 ghost use Rattle.ringcore_laws.specs.History.{buffers_given};
 ghost use Rattle.ringcore_laws.specs.declared.protocol.Place.TheVariants.{Held};
 ghost use Rattle.ringcore.specs.Opening.{AreFresh, AreGiven};
+ghost use Rattle.ringcore.specs.Planned.{plans_in, rings_in};
 
 use crate::member::Member;
 use crate::one_ring::OneRing;
-use crate::ring::{Ring, Words};
+use crate::ring::{PlannedRing, Ring, Words};
 use geom::RingPlan;
 use ringcore_laws::Place;
 use std::alloc::{AllocError, Global};
 
 /// An empty ring for each plan.
-pub fn fresh_rings(alloc: Global, plans: &[RingPlan]) -> Result<Vec<Ring>, AllocError>
-    ensures count { IfOk result (λ rings. length rings.items ≡ length plans.now) }
-    ensures fresh { IfOk result (λ rings. AreFresh plans.now rings.items) }
+pub fn fresh_rings(alloc: Global, plans: &[RingPlan]) -> Result<Vec<PlannedRing>, AllocError>
+    ensures count { IfOk result (λ rings. length (rings_in rings.items) ≡ length plans.now) }
+    ensures plans { IfOk result (λ rings. plans_in rings.items ≡ plans.now) }
+    ensures fresh { IfOk result (λ rings. AreFresh plans.now (rings_in rings.items)) }
 {
     let mut rings = Vec::new(alloc);
     for k in 0..plans.len() {
-        let queue = OneRing::new(alloc, plans[k].geometry)?;
-        rings.push(Ring {
-            put: Words { head: 0, tail: 0 },
-            take: Words { head: 0, tail: 0 },
-            queue,
+        let plan = plans[k];
+        let queue = OneRing::new(alloc, plan.geometry)?;
+        rings.push(PlannedRing {
+            plan,
+            ring: Ring {
+                put: Words { head: 0, tail: 0 },
+                take: Words { head: 0, tail: 0 },
+                queue,
+            },
         })?;
     }
     Ok(rings)

@@ -3,6 +3,7 @@
 ghost use Rattle.std.specs.Prelude.{◌≡◌, ◌↔◌, IsTrue, nat_lt};
 ghost use Rattle.std.specs.List.{list_all};
 ghost use Rattle.ringcore_laws.specs.Runs.{IsPlan};
+ghost use Rattle.ringcore.specs.Fault.{number_of};
 ghost use Rattle.ringcore.specs.Opening.{AreFew};
 
 use geom::{RingPlan, all_fit};
@@ -17,10 +18,22 @@ const MOST_BUFFERS: usize = 65536;
 /// Why a world was not opened.
 #[derive(Clone, Copy, Debug, PartialEq, Eq, Error)]
 pub enum WorldFault {
+    /// There was no memory for the rings, the actors or the entries of the buffers.
     #[error("Memory")]
     Memory = 1,
+    /// The plan may not be opened: a number is out of its range, a gift names no actor, or the buffers don't fit into a
+    /// free ring.
     #[error("BadPlan")]
     BadPlan = 2,
+}
+
+impl WorldFault {
+    /// 1 `Memory`, 2 `BadPlan`.
+    pub fn number(self) -> u8
+        ensures { result ≡ number_of self }
+    {
+        self as u8
+    }
 }
 
 /// What a world is to be.

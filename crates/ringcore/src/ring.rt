@@ -58,6 +58,13 @@ pub struct Ring {
     pub queue: OneRing<Item>,
 }
 
+/// A ring of a world, with its plan.
+#[derive(Drop)]
+pub struct PlannedRing {
+    pub plan: RingPlan,
+    pub ring: Ring,
+}
+
 /// The position in a word that was seen with nothing reserved.
 pub fn position_of(mode: Mode, word: u64) -> u64
     ensures { result ≡ position_in mode word }

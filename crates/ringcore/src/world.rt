@@ -13,9 +13,8 @@ use crate::member::Member;
 use crate::opening::{fresh_rings, given_members, given_places};
 use crate::places::place_at;
 use crate::plan::{WorldFault, WorldPlan};
-use crate::ring::Ring;
+use crate::ring::PlannedRing;
 use crate::sides::is_among;
-use geom::RingPlan;
 use ringcore_laws::{Place, Reply, Step};
 use std::alloc::{AllocError, Global};
 use std::collections::VecDeque;
@@ -26,8 +25,7 @@ mod steps;
 #[derive(Drop)]
 pub struct World {
     alloc: Global,
-    plans: Vec<RingPlan>,
-    rings: Vec<Ring>,
+    rings: Vec<PlannedRing>,
     members: Vec<Member>,
     /// Where each buffer is, at its number.
     places: Vec<Place>,
@@ -62,7 +60,6 @@ impl World {
         let places = given_places(alloc, &plan.gifts)?;
         Ok(World {
             alloc,
-            plans: plan.rings,
             rings,
             members,
             places,
@@ -92,9 +89,7 @@ impl World {
     fn has(&self, actor: usize, step: &Step) -> bool
         ensures { IsTrue result ↔ StepExists self.now actor step.now }
     {
-        actor < self.members.len()
-            && is_among(step, self.rings.len())
-            && is_among(step, self.plans.len())
+        actor < self.members.len() && is_among(step, self.rings.len())
     }
 
     /// Where a buffer is. Takes no memory.
@@ -142,7 +137,6 @@ impl World {
     fn step_once(&mut self, actor: usize, step: Step) -> Result<Reply, AllocError>
         requires actor { actor < vec_len self.old.members }
         requires ring { IsOnRing (vec_len self.old.rings) step }
-        requires plan { IsOnRing (vec_len self.old.plans) step }
         ensures counts { SameCounts self.old self.new }
         ensures plans { SamePlans self.old self.new }
         ensures step { IfOk result (λ reply. Answers self.old self.new actor step reply) }
@@ -166,7 +160,7 @@ impl World {
 
     /// A list of steps, said of the lists that the world keeps.
     fn run_all(&mut self, entries: Vec<(usize, Step)>) -> Result<Vec<Reply>, AllocError>
-        requires { ExistAll (vec_len self.old.members) (vec_len self.old.rings) (vec_len self.old.plans) entries.items }
+        requires { ExistAll (vec_len self.old.members) (vec_len self.old.rings) entries.items }
         ensures run { IfOk result (λ replies. AnswersAll self.old self.new entries.items replies.items []) }
         ensures plans { SamePlans self.old self.new }
         ensures memory { OnErr result (AnswersSome self.old self.new entries.items) }

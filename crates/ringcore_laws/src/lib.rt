@@ -14,9 +14,9 @@ mod protocol;
 pub use contents::{Item, Items, Numbers};
 pub use headline::{
     a_done_settle_keeps_soundness, a_free_ring_has_room, a_granted_reserve_keeps_soundness,
-    a_newcomer_keeps_soundness, every_buffer_has_one_place, every_history_is_sound,
-    every_list_of_steps_is_sound, every_other_step_leaves_the_parties, every_refusal_is_true,
-    two_made_one_keep_soundness,
+    a_newcomer_keeps_soundness, a_right_history_is_that_of_its_steps, every_buffer_has_one_place,
+    every_history_is_sound, every_list_of_steps_is_sound, every_other_step_leaves_the_parties,
+    every_refusal_is_true, two_made_one_keep_soundness,
 };
 pub use party::{Party, Settled};
 pub use protocol::{Observed, Place, Reply, Span, Step};

@@ -306,6 +306,19 @@ fn refuses_plans(rt: HostRuntime) -> Result<(), Fail> {
     Ok(())
 }
 
+#[test]
+fn tells_why(rt: HostRuntime) -> Result<(), Fail> {
+    let cases = [
+        (WorldFault::Memory, 1, "Memory"),
+        (WorldFault::BadPlan, 2, "BadPlan"),
+    ];
+    for (fault, number, text) in cases {
+        assert_eq!(rt; fault.number(), number);
+        assert_eq!(rt; fault.to_string(rt.alloc())?.as_str(), text);
+    }
+    Ok(())
+}
+
 /// A put of one of two buffers in a span of two.
 fn put_one(world: &mut World, item: Items) -> Result<usize, AllocError> {
     let mut rows = [

@@ -29,7 +29,6 @@ impl World {
     pub(super) fn look_step(&mut self, actor: usize, ring: usize, side: Side) -> Reply
         requires actor { actor < vec_len self.old.members }
         requires ring { ring < vec_len self.old.rings }
-        requires plan { ring < vec_len self.old.plans }
         ensures counts { SameCounts self.old self.new }
         ensures kept { SameRings self.old self.new }
         ensures places { SamePlaces self.old self.new }
@@ -40,9 +39,10 @@ impl World {
             → a.party.span ≡ m.span
             → result ≡ look_reply (mode_of plan side) l a) }
     {
+        let there = &self.rings[ring];
         look(
-            &self.plans[ring],
-            &self.rings[ring],
+            &there.plan,
+            &there.ring,
             ring,
             side,
             &mut self.members[actor],
@@ -61,7 +61,7 @@ impl World {
             → l.len ≡ (side_words r (other_side side)).tail → a.party.span ≡ m.span → a.observed ≡ m.observed
             → result ≡ room_reply ring side l a)) }
     {
-        room(&self.rings[ring], ring, side, &mut self.members[actor])
+        room(&self.rings[ring].ring, ring, side, &mut self.members[actor])
     }
 
     /// Exchanges the own word of a side, if it is the one looked at.
@@ -75,7 +75,6 @@ impl World {
     ) -> Reply
         requires actor { actor < vec_len self.old.members }
         requires ring { ring < vec_len self.old.rings }
-        requires plan { ring < vec_len self.old.plans }
         ensures counts { SameCounts self.old self.new }
         ensures kept { SamePlans self.old self.new }
         ensures places { SamePlaces self.old self.new }
@@ -88,9 +87,10 @@ impl World {
             → result ≡ (if is_some m.span then NoSpan
             else seen_reply plan side how count l m.count (seen_on ring side m.observed))) }
     {
+        let plan = self.rings[ring].plan;
         reserve(
-            &self.plans[ring],
-            &mut self.rings[ring],
+            &plan,
+            &mut self.rings[ring].ring,
             ring,
             side,
             how,
@@ -103,7 +103,6 @@ impl World {
     pub(super) fn put_step(&mut self, actor: usize, ring: usize, items: Items) -> Reply
         requires actor { actor < vec_len self.old.members }
         requires ring { ring < vec_len self.old.rings }
-        requires plan { ring < vec_len self.old.plans }
         ensures counts { SameCounts self.old self.new }
         ensures kept { SamePlans self.old self.new }
         ensures reply { FoundAt self.old actor ring (λ m plan r.
@@ -111,10 +110,11 @@ impl World {
         ensures settled { FoundAt self.old actor ring (λ m plan r. BothSet self.old self.new actor ring (λ n y.
             PutResult plan ring m n r y self.old.places.items self.new.places.items items result)) }
     {
+        let plan = self.rings[ring].plan;
         settle_put(
             self.alloc,
-            &self.plans[ring],
-            &mut self.rings[ring],
+            &plan,
+            &mut self.rings[ring].ring,
             ring,
             items,
             &mut self.members[actor],
@@ -131,7 +131,6 @@ impl World {
     ) -> Result<Reply, AllocError>
         requires actor { actor < vec_len self.old.members }
         requires ring { ring < vec_len self.old.rings }
-        requires plan { ring < vec_len self.old.plans }
         ensures counts { SameCounts self.old self.new }
         ensures kept { SamePlans self.old self.new }
         ensures reply { IfOk result (λ x. FoundAt self.old actor ring (λ m plan r.
@@ -141,10 +140,11 @@ impl World {
             TakeResult plan m n r y self.old.places.items self.new.places.items count x))) }
         ensures memory { OnErr result (IsUnchanged self.old self.new) }
     {
+        let plan = self.rings[ring].plan;
         let reply = settle_take(
             self.alloc,
-            &self.plans[ring],
-            &mut self.rings[ring],
+            &plan,
+            &mut self.rings[ring].ring,
             ring,
             count,
             &mut self.members[actor],

@@ -1,6 +1,7 @@
-use Rattle.std.proofs.Common.{◌≡◌, length}
+use Rattle.std.proofs.Common.{◌≡◌, length, take}
 use Rattle.ringcore.specs.Opening.{AreFresh}
+use Rattle.ringcore.specs.Planned.{plans_in, rings_in}
 use Rattle.ringcore.proofs.opening.fresh_rings.Given as goal
 
 abbrev pub invariant-loop-k : goal.invariant-loop-k
-invariant-loop-k l = (length l.rings.items ≡ l.k) × AreFresh l.plans l.rings.items
+invariant-loop-k l = (length (rings_in l.rings.items) ≡ l.k) × (plans_in l.rings.items ≡ take l.k l.plans) × AreFresh l.plans (rings_in l.rings.items)

@@ -5,7 +5,7 @@ use Rattle.ringcore.proofs.world.World.knows_all.Given as goal
 -- all entries exist just where those that are left do
 abbrev pub invariant-loop-k : goal.invariant-loop-k
 invariant-loop-k l =
-    (ExistAll (vec_len l.self.members) (vec_len l.self.rings) (vec_len l.self.plans) l.entries
-    → ExistAll (vec_len l.self.members) (vec_len l.self.rings) (vec_len l.self.plans) (drop l.k l.entries))
-    × (ExistAll (vec_len l.self.members) (vec_len l.self.rings) (vec_len l.self.plans) (drop l.k l.entries)
-    → ExistAll (vec_len l.self.members) (vec_len l.self.rings) (vec_len l.self.plans) l.entries)
+    (ExistAll (vec_len l.self.members) (vec_len l.self.rings) l.entries
+    → ExistAll (vec_len l.self.members) (vec_len l.self.rings) (drop l.k l.entries))
+    × (ExistAll (vec_len l.self.members) (vec_len l.self.rings) (drop l.k l.entries)
+    → ExistAll (vec_len l.self.members) (vec_len l.self.rings) l.entries)
