@@ -19,13 +19,13 @@ const MAX_SIZE: u64 = 1 << 20;
 #[derive(Clone, Copy, Debug, PartialEq, Eq, Error)]
 pub enum GeomFault {
     /// A count of slots from 2 to 2^20 that is no power of two.
-    #[error("not a power: a count of slots is a power of two")]
+    #[error("NotPower")]
     NotPower = 1,
     /// Fewer than two slots, or a capacity of no item.
-    #[error("too small: a ring has two slots at least, and takes one item")]
+    #[error("TooSmall")]
     TooSmall = 2,
     /// More than 2^20 slots, or a capacity that needs more.
-    #[error("too large: a ring has 2^20 slots at most")]
+    #[error("TooLarge")]
     TooLarge = 3,
 }
 

@@ -21,4 +21,5 @@ pub mod Rights
 pub mod Shallow
 pub mod Listing
 pub mod Sole
+pub mod Rows
 pub mod Joined

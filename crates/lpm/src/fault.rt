@@ -9,19 +9,19 @@ use thiserror::Error;
 #[derive(Clone, Copy, Debug, PartialEq, Eq, Error)]
 pub enum RouteFault {
     /// The depth is not from 1 to 32.
-    #[error("bad depth: a depth is from 1 to 32")]
+    #[error("BadDepth")]
     BadDepth = 1,
     /// The next hop is 2^24 or more.
-    #[error("bad hop: a next hop is below 2^24")]
+    #[error("BadHop")]
     BadHop = 2,
     /// The routes would need more groups than the table may have.
-    #[error("no group: each group that the table may have is in use")]
+    #[error("NoGroup")]
     NoGroup = 3,
     /// There was no memory for the route or its group.
-    #[error("memory: none for the route or its group")]
+    #[error("Memory")]
     Memory = 4,
     /// The table has no such route.
-    #[error("no route: the table has no such route")]
+    #[error("NoRoute")]
     NoRoute = 5,
 }
 

@@ -34,9 +34,11 @@ fn finds_the_longest_route(rt: HostRuntime) -> Result<(), Fail> {
             (at(10, 1, 0, 0), 16, 2),
             (at(10, 1, 2, 3), 32, 3),
             (at(10, 1, 9, 9), 16, 4),
+            (at(12, 0, 0, 0), 8, 16_777_215),
         ],
     );
     let expected = [
+        (at(12, 3, 4, 5), Some(16_777_215)),
         (at(10, 1, 2, 3), Some(3)),
         (at(10, 1, 2, 4), Some(4)),
         (at(10, 2, 0, 1), Some(1)),
@@ -61,6 +63,7 @@ fn finds_the_longest_route(rt: HostRuntime) -> Result<(), Fail> {
         (at(10, 0, 0, 0), 33, 1, RouteFault::BadDepth),
         (at(10, 0, 0, 0), 8, 16_777_216, RouteFault::BadHop),
         (at(10, 0, 0, 0), 33, 16_777_216, RouteFault::BadDepth),
+        (at(10, 9, 9, 0), 25, 16_777_216, RouteFault::BadHop),
     ];
     for (addr, depth, hop, fault) in refused {
         assert_eq!(rt;
@@ -155,33 +158,24 @@ fn has_large_groups(rt: HostRuntime) -> Result<(), Fail> {
         add_once(&mut table, at(10, 2, 0, 0), 17, 3),
         Err(RouteFault::NoGroup)
     );
+    // Without any group.
+    let mut table = Table::new(rt.alloc(), 16, 0)?;
+    add_all(&rt, &mut table, &[(at(10, 2, 0, 0), 16, 3)]);
+    assert_eq!(rt;
+        add_once(&mut table, at(10, 2, 0, 0), 17, 3),
+        Err(RouteFault::NoGroup)
+    );
     Ok(())
 }
 
 #[test]
 fn tells_why(rt: HostRuntime) -> Result<(), Fail> {
     let cases = [
-        (
-            RouteFault::BadDepth,
-            1,
-            "bad depth: a depth is from 1 to 32",
-        ),
-        (RouteFault::BadHop, 2, "bad hop: a next hop is below 2^24"),
-        (
-            RouteFault::NoGroup,
-            3,
-            "no group: each group that the table may have is in use",
-        ),
-        (
-            RouteFault::Memory,
-            4,
-            "memory: none for the route or its group",
-        ),
-        (
-            RouteFault::NoRoute,
-            5,
-            "no route: the table has no such route",
-        ),
+        (RouteFault::BadDepth, 1, "BadDepth"),
+        (RouteFault::BadHop, 2, "BadHop"),
+        (RouteFault::NoGroup, 3, "NoGroup"),
+        (RouteFault::Memory, 4, "Memory"),
+        (RouteFault::NoRoute, 5, "NoRoute"),
     ];
     for (fault, number, text) in cases {
         assert_eq!(rt; fault.number(), number);

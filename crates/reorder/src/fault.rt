@@ -8,13 +8,13 @@ use thiserror::Error;
 #[derive(Clone, Copy, Debug, PartialEq, Eq, Error)]
 pub enum InsertFault {
     /// The number is below the next one: its turn has passed.
-    #[error("late: the turn of this number has passed")]
+    #[error("Late")]
     Late = 1,
     /// The number is a whole window or more above the next one, or it is 2^64 - 1, which is always early.
-    #[error("early: this number is past the end of the window")]
+    #[error("Early")]
     Early = 2,
     /// An item with this number waits already.
-    #[error("double: an item with this number waits already")]
+    #[error("Double")]
     Double = 3,
 }
 

@@ -1,0 +1,62 @@
+-- Worked rows of prefixes, entries and levels, computed by the definitions. Addresses are written as numbers: 10.1.9.9 is 167840009
+use Rattle.std.proofs.Common.{◌≡◌, refl, false, arith}
+use Rattle.std.specs.Prelude.{Some, None}
+use Rattle.lpm.specs.NextHop.{word_of_hop, hop_in_word}
+use Rattle.lpm.specs.Prefixes.{IsDepth, first_bits, masked, prefix_of, size_of}
+use Rattle.lpm.specs.TableEntry.{entry_in, entry_of, group_of, hop_of, is_group, overwritten, word_of}
+
+-- 10.1.0.0 is 167837696
+pub masked_to_16 : prefix_of 167840009 16 ≡ record { address = 167837696; depth = 16 }
+masked_to_16 = refl
+
+pub masked_to_32 : masked 167840009 32 ≡ 167840009
+masked_to_32 = refl
+
+-- the last address, 255.255.255.255, to 128.0.0.0
+pub masked_to_1 : masked 4294967295 1 ≡ 2147483648
+masked_to_1 = refl
+
+pub first_two_bytes : first_bits 167840009 16 ≡ 2561
+first_two_bytes = refl
+
+pub a_level_of_24_bits : size_of 24 ≡ 256
+a_level_of_24_bits = refl
+
+pub least_depth : IsDepth 1
+least_depth = (omega arith, omega arith)
+
+pub greatest_depth : IsDepth 32
+greatest_depth = (omega arith, omega arith)
+
+pub no_depth_0 : ¬ IsDepth 0
+no_depth_0 d = let h = d.0 in absurd (omega arith)
+
+pub no_depth_33 : ¬ IsDepth 33
+no_depth_33 d = let h = d.1 in absurd (omega arith)
+
+-- a route of the same depth takes the place of the one before, a deeper one stays
+pub same_depth : overwritten 16 (entry_of 16 4) (entry_of 16 2) ≡ entry_of 16 4
+unfolding overwritten
+same_depth = refl
+
+pub deeper_stays : overwritten 16 (entry_of 16 4) (entry_of 17 2) ≡ entry_of 17 2
+unfolding overwritten
+deeper_stays = refl
+
+pub where_there_was_none : overwritten 1 (entry_of 1 4) (entry_of 0 0) ≡ entry_of 1 4
+unfolding overwritten
+where_there_was_none = refl
+
+-- hop 0 is a hop
+pub hop_zero : (hop_of (entry_of 8 0) ≡ Some 0) × (hop_of (entry_of 0 0) ≡ None)
+hop_zero = (refl, refl)
+
+pub greatest_hop : hop_of (entry_in (word_of (entry_of 32 16777215))) ≡ Some 16777215
+greatest_hop = refl
+
+pub a_group : (group_of (entry_of 33 7) ≡ Some 7) × (is_group (entry_of 32 7) ≡ false)
+a_group = (refl, refl)
+
+-- the answers of a burst
+pub answers : (hop_in_word (word_of_hop (Some 0)) ≡ Some 0) × (hop_in_word (word_of_hop (Some 16777215)) ≡ Some 16777215) × (hop_in_word (word_of_hop None) ≡ None)
+answers = (refl, refl, refl)
