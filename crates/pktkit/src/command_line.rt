@@ -1,9 +1,13 @@
 //! The words of the command line, and what they ask for.
 
+ghost use Rattle.std.specs.Prelude.{◌≡◌, drop, IfOk};
+ghost use Rattle.std.specs.Vec.Iter.{into_iter_items};
+
 use clap::builder::ValueParser;
 use clap::error::ErrorKind;
 use clap::{Arg, ArgAction, ArgMatches, Command, Error};
-use std::alloc::Global;
+use std::alloc::{AllocError, Global};
+use std::env::Args;
 
 /// The most workers that a run may have.
 pub const MOST_WORKERS: usize = 16;
@@ -30,6 +34,13 @@ pub struct RunFiles<'a> {
     pub out: &'a str,
     /// How many workers judge packets, each in a thread of its own; where there are none, one thread does all.
     pub workers: usize,
+}
+
+/// The words after the program's name.
+pub fn behind_name(alloc: Global, words: Args) -> Result<Vec<String>, AllocError>
+    ensures { IfOk result (λ behind. behind.items ≡ drop 1 (into_iter_items words)) }
+{
+    words.skip(1).collect(alloc)
 }
 
 /// Reads the words after the program's name. Without any the input is asked for.

@@ -24,8 +24,8 @@ pub use steps::steps_text;
 const REFUSED: u8 = 2;
 
 fn main(rt: HostRuntime) -> ExitCode {
-    let words: Result<Vec<String>, _> = match env::args(&rt) {
-        Ok(words) => words.skip(1).collect(rt.alloc()),
+    let words = match env::args(&rt) {
+        Ok(words) => command_line::behind_name(rt.alloc(), words),
         Err(error) if error.kind() == ErrorKind::OutOfMemory => Err(AllocError),
         Err(_) => return ExitCode::from(REFUSED),
     };

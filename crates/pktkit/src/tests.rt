@@ -12,6 +12,7 @@ use std::thread::Threads;
 mod captures;
 mod faults;
 mod forms;
+mod no_memory;
 mod rows;
 mod run_faults;
 mod run_rows;
@@ -19,6 +20,7 @@ mod starved;
 mod steps_forms;
 mod steps_plans;
 mod steps_rows;
+mod steps_table;
 
 /// What a run left.
 #[derive(Drop)]

@@ -1,7 +1,7 @@
 //! Files, devices that fail, and statuses of the command line.
 
 use super::{Ran, run};
-use crate::program::{out_of_memory, program};
+use crate::program::program;
 use std::fs;
 use std::io::{self, ErrorKind, Read, Write};
 use std::test::Fail;
@@ -23,6 +23,20 @@ impl Write for Broken {
 impl Read for Broken {
     fn read(&mut self, _buf: &mut [u8]) -> io::Result<usize> {
         Err(io::Error::from(ErrorKind::InvalidData))
+    }
+}
+
+/// A device that takes all bytes, and can't pass them on.
+#[derive(Drop)]
+struct Stuck;
+
+impl Write for Stuck {
+    fn write(&mut self, buf: &[u8]) -> io::Result<usize> {
+        Ok(buf.len())
+    }
+
+    fn flush(&mut self) -> io::Result<()> {
+        Err(io::Error::from(ErrorKind::StorageFull))
     }
 }
 
@@ -89,6 +103,10 @@ fn an_output_that_fails(rt: HostRuntime) -> Result<(), Fail> {
         &mut err,
     );
     assert_eq!(rt; (status, text(&err)), (1, Some("pktkit: output\n")));
+    // What was taken has to be passed on.
+    let mut err = Vec::new(rt.alloc());
+    let status = program(&rt, &rt, &[], b"count\n".as_slice(), &mut Stuck, &mut err);
+    assert_eq!(rt; (status, text(&err)), (1, Some("pktkit: output\n")));
     // Nothing is written, so nothing fails.
     let mut err = Vec::new(rt.alloc());
     let status = program(&rt, &rt, &[], b"look\n".as_slice(), &mut Broken, &mut err);
@@ -107,14 +125,6 @@ fn an_error_stream_that_fails(rt: HostRuntime) -> Result<(), Fail> {
         program(&rt, &rt, &[], b"count\n".as_slice(), &mut out, &mut Broken),
         0
     );
-    Ok(())
-}
-
-#[test]
-fn no_memory_for_the_words(rt: HostRuntime) -> Result<(), Fail> {
-    let mut err = Vec::new(rt.alloc());
-    assert_eq!(rt; out_of_memory(&mut err), 1);
-    assert_eq!(rt; text(&err), Some("pktkit: memory\n"));
     Ok(())
 }
 
