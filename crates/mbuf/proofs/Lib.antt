@@ -1,6 +1,7 @@
 pub mod Windows
 pub mod Copies
 pub mod Rows
+pub mod DeckRows
 pub mod Chains
 pub mod Entries
 pub mod Adding

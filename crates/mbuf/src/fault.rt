@@ -7,12 +7,16 @@ use thiserror::Error;
 /// Why a call on a chain is refused.
 #[derive(Clone, Copy, Debug, PartialEq, Eq, Error)]
 pub enum ChainFault {
+    /// The first segment has less headroom than the bytes take.
     #[error("NoHeadroom")]
     NoHeadroom = 1,
+    /// The last segment has less tailroom than the bytes take, or the chain less space.
     #[error("NoTailroom")]
     NoTailroom = 2,
+    /// The segment, or the packet, has too few bytes from there on; or what it is copied to is too short.
     #[error("TooShort")]
     TooShort = 3,
+    /// The two chains have more than 64 segments together.
     #[error("TooManySegments")]
     TooManySegments = 4,
 }
@@ -29,14 +33,19 @@ impl ChainFault {
 /// Why a call on a deck of shares is refused.
 #[derive(Clone, Copy, Debug, PartialEq, Eq, Error)]
 pub enum DeckFault {
+    /// The chain has less space than the share has bytes.
     #[error("NoTailroom")]
     NoTailroom = 2,
+    /// The share shows too few bytes from there on.
     #[error("TooShort")]
     TooShort = 3,
+    /// No live share has this id.
     #[error("NoSuchShare")]
     NoSuchShare = 5,
+    /// There was no memory for one more share.
     #[error("Memory")]
     Memory = 6,
+    /// All of the 2^32 - 1 ids were given.
     #[error("NoId")]
     NoId = 7,
 }

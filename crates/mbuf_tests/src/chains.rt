@@ -62,6 +62,10 @@ fn keeps_headroom_and_tailroom(rt: HostRuntime) -> Result<(), Fail> {
         (Call::Adj(130), Ok(()), [130, 62, 0]),
         (Call::Trim(63), Err(ChainFault::TooShort), [130, 62, 0]),
         (Call::Trim(60), Ok(()), [130, 2, 60]),
+        (Call::Trim(2), Ok(()), [130, 0, 62]),
+        (Call::Append(&[8; 2]), Ok(()), [130, 2, 60]),
+        (Call::Adj(2), Ok(()), [132, 0, 60]),
+        (Call::Append(&[7; 2]), Ok(()), [132, 2, 58]),
     ];
     go(&rt, &mut chain, &rows);
     assert_eq!(rt; bytes_at(&chain, [1, 2]), [Some(7), None]);
@@ -76,7 +80,7 @@ fn reads_and_writes_bytes(rt: HostRuntime) -> Result<(), Fail> {
     let rows = [(Call::Set(4, 9), Err(ChainFault::TooShort), [190, 4, 62])];
     go(&rt, &mut chain, &rows);
     assert_eq!(rt; bytes_at(&chain, [2, 4]), [Some(3), None]);
-    assert_eq!(rt; two_at(&chain, 1), Ok([2, 3]));
+    assert_eq!(rt; two_at(&chain, 2), Ok([3, 4]));
     assert_eq!(rt; two_at(&chain, 3), Err(ChainFault::TooShort));
     let few = copied(&chain, 2);
     assert_eq!(rt; few, (Err(ChainFault::TooShort), [9; 6]));
@@ -156,6 +160,7 @@ fn gives_its_parts(rt: HostRuntime) -> Result<(), Fail> {
             Err(ChainFault::NoTailroom),
             [190, 4, 62],
         ),
+        (Call::Stretch(128), Ok(()), [128, 128, 0]),
         (Call::Stretch(66), Ok(()), [128, 66, 62]),
     ];
     go(&rt, &mut chain, &rows);

@@ -39,9 +39,11 @@ fn gives_segments_with_their_last_mention(rt: HostRuntime) -> Result<(), Fail> {
     Ok(())
 }
 
-/// Cuts share 0 of bytes 1, 2 and 3 to its second byte, and copies it over others.
+/// Cuts share 0 of bytes 1, 2 and 3 to its last two bytes and then to the first of these, and copies it over others.
 fn cuts_and_copies(rt: &impl Abort, deck: &mut Deck, target: &mut Chain) {
-    assert_eq!(rt; cut(deck, 0, 1, 1), Ok(()));
+    assert_eq!(rt; cut(deck, 0, 1, 3), Err(DeckFault::TooShort));
+    assert_eq!(rt; cut(deck, 0, 1, 2), Ok(()));
+    assert_eq!(rt; cut(deck, 0, 0, 1), Ok(()));
     assert_eq!(rt; copy_into(deck, 0, target), Ok(()));
     assert_eq!(rt; copied(target, 6), (Ok(1), [2, 9, 9, 9, 9, 9]));
     assert_eq!(rt; cut(deck, 0, 0, 2), Err(DeckFault::TooShort));
@@ -56,6 +58,16 @@ fn cuts_a_share_and_copies_it(rt: HostRuntime) -> Result<(), Fail> {
     let mut target = segment(rt.alloc(), 9)?;
     target.append(&[9; 40])?;
     cuts_and_copies(&rt, &mut deck, &mut target);
+    Ok(())
+}
+
+#[test]
+fn shares_again_what_is_left(rt: HostRuntime) -> Result<(), Fail> {
+    let mut deck = deck_of(rt.alloc(), three_bytes(rt.alloc())?)?;
+    let cuts = [cut(&mut deck, 0, 1, 1), cut(&mut deck, 0, 0, 1)];
+    assert_eq!(rt; cuts, [Ok(()); 2]);
+    assert_eq!(rt; again(&mut deck, 0), Ok(1));
+    assert_eq!(rt; cut(&mut deck, 1, 0, 2), Err(DeckFault::TooShort));
     Ok(())
 }
 
