@@ -66,3 +66,14 @@ pub one_each : IsRun (ring 4 3 Multi Multi true ∷ ring 4 3 Multi Multi false �
     ∷ [])
 unfolding reply_to after side_of party_items party_count party_end listed holds moved buffers_had
 one_each = (refl, (refl, (refl, (refl, (refl, (refl, (refl, (refl, (refl, (refl, (refl, (refl, (refl, (refl, tt))))))))))))))
+
+-- a mark is a buffer's own: one that ends leaves the others
+pub marks_apart : IsRun (ring 4 3 Multi Multi false ∷ []) 2 (opening 1 (0 ∷ 0 ∷ [])) (
+    event 0 (Stash 0) (Seen 0)
+    ∷ event 0 (Stash 1) (Seen 1)
+    ∷ event 0 (Unstash 0) (Seen 0)
+    ∷ event 0 (Unstash 0) NotYours
+    ∷ event 0 (Unstash 1) (Seen 1)
+    ∷ [])
+unfolding reply_to after side_of party_items party_count party_end listed holds moved buffers_had
+marks_apart = (refl, (refl, (refl, (refl, (refl, tt)))))
