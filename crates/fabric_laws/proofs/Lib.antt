@@ -14,3 +14,4 @@ pub mod Openings
 pub mod Alone
 pub mod Closing
 pub mod Learning
+pub mod Refused

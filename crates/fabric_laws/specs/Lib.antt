@@ -3,3 +3,4 @@ pub mod Changes
 pub mod Rule
 pub mod Closing
 pub mod Kinds
+pub mod Refusals

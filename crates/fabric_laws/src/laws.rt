@@ -4,29 +4,33 @@
 //! `specs/Kinds.antt` says of its kind.
 
 ghost use Rattle.std.specs.Prelude.{◌≡◌, ◌+◌, ◌*◌, ◌<◌, ◌≤◌, ◌==◌, ℕ, List, None, Some, length, replicate, slice_get};
-ghost use Rattle.std.specs.Prelude.{true};
+ghost use Rattle.std.specs.Prelude.{◌%◌, ◌≢◌, slice_index, true};
 ghost use lib.ListN.{get_elem?};
 ghost use mathlib.Core.Option.{none, some};
 ghost use prog.Atomic.{either};
 ghost use Rattle.atomic_table.specs.Table.{Allows, Joins, Me, Splits, State, opening, step};
 ghost use Rattle.std.specs.Prelude.{Option};
+ghost use Rattle.geom.specs.declared.plan.How.{How};
 ghost use Rattle.geom.specs.declared.plan.Mode.TheVariants.{Hts, Multi};
 ghost use Rattle.geom.specs.declared.plan.RingPlan.{RingPlan};
 ghost use Rattle.geom.specs.declared.plan.Side.{Side};
 ghost use Rattle.geom.specs.declared.plan.Side.TheVariants.{Put, Take};
 ghost use Rattle.geom.specs.declared.word.TheConstants.{LAST, RESERVED};
-ghost use Rattle.geom.specs.Plan.{mode_of};
+ghost use Rattle.geom.specs.Plan.{granted, mode_of};
 ghost use Rattle.ringcore_laws.specs.declared.protocol.Observed.{Observed};
 ghost use Rattle.ringcore_laws.specs.declared.protocol.Span.{Span};
 ghost use Rattle.ringcore_laws.specs.FreeRings.{buffers_had};
-ghost use Rattle.ringcore_laws.specs.History.{other_side, position_of};
+ghost use Rattle.ringcore_laws.specs.History.{other_side, own_word, position_of, room_by_look};
+ghost use Rattle.ringcore_laws.specs.Refusals.{IsTooLittle};
+ghost use Rattle.ringcore_laws.specs.RingSide.{side_of};
 ghost use Rattle.std.specs.List.{range_with_len};
 ghost use Rattle.fabric_laws.specs.declared.view.View.{View};
 ghost use Rattle.fabric_laws.specs.Changes.{both, kept, newborn, spent, split_off};
 ghost use Rattle.fabric_laws.specs.Closing.{IsWhole, LeavesQueue, LiesLeft};
 ghost use Rattle.fabric_laws.specs.Kinds.{IsReady, look_tells, reserve_put_tells, reserve_take_tells, room_tells};
 ghost use Rattle.fabric_laws.specs.Kinds.{learn_tells, settle_tells, store_tells};
-ghost use Rattle.fabric_laws.specs.Rule.{IsFitting, IsConsistent, all_parts};
+ghost use Rattle.fabric_laws.specs.Refusals.{HasEarlier, IsTaken, room_on};
+ghost use Rattle.fabric_laws.specs.Rule.{IsFitting, IsConsistent, all_parts, parties_of_views};
 ghost use Rattle.fabric_laws.specs.Words.{own_at, settled_word_at, slot_count, tail_at};
 
 /// Look, on each side and in each mode: a load of the own word.
@@ -109,6 +113,35 @@ pub fn what_is_left_lies_in_the_slots<T>()
         → IsConsistent tags plans pool s → (id : ℕ) (v : View T) → get_elem? s.views id ≡ some v
         → IsWhole tags v × (v.party.span ≡ None → (r : ℕ) (plan : RingPlan) → slice_get plans r ≡ Some plan
         → LeavesQueue s v r) }
+{}
+
+/// Refusals are true, whatever the other hands do: a head/tail-sync word with a reservation shows another hand's open
+/// span; an own word is what the spans of all hands make; a tail that isn't the own start shows an earlier open span;
+/// and the room that a hand has seen is no less than there is as it asks. Where none of a request is granted of that,
+/// there is too little.
+pub fn a_refusal_is_true<T>()
+    ensures busy { (tags : T → List ℕ) (plans : List RingPlan) (pool : ℕ) (s : State (Option T) (View T))
+        → IsConsistent tags plans pool s → (id : ℕ) (v : View T) → get_elem? s.views id ≡ some v → v.party.span ≡ None
+        → (r : ℕ) (side : Side) (plan : RingPlan) → slice_get plans r ≡ Some plan → mode_of plan side ≡ Hts
+        → slice_index s.words (own_at r side) % RESERVED ≢ 0 → IsTaken s.views id r side }
+    ensures contended { (tags : T → List ℕ) (plans : List RingPlan) (pool : ℕ) (s : State (Option T) (View T))
+        → IsConsistent tags plans pool s → (r : ℕ) (side : Side) (plan : RingPlan) → slice_get plans r ≡ Some plan
+        → slice_index s.words (own_at r side)
+        ≡ own_word (mode_of plan side) (side_of (parties_of_views s.views) r side) }
+    ensures early { (tags : T → List ℕ) (plans : List RingPlan) (pool : ℕ) (s : State (Option T) (View T))
+        → IsConsistent tags plans pool s → (id : ℕ) (v : View T) → get_elem? s.views id ≡ some v → 0 < v.parts
+        → (span : Span) (plan : RingPlan) → v.party.span ≡ Some span → slice_get plans span.ring ≡ Some plan
+        → mode_of plan span.side ≡ Multi → slice_index s.words (tail_at span.ring span.side) ≢ span.start
+        → HasEarlier s.views span }
+    ensures no_room { (tags : T → List ℕ) (plans : List RingPlan) (pool : ℕ) (s : State (Option T) (View T))
+        → IsConsistent tags plans pool s → (id : ℕ) (v : View T) → get_elem? s.views id ≡ some v → 0 < v.parts
+        → (side : Side) (o : Observed) (plan : RingPlan) → v.observed ≡ Some o → o.side ≡ side
+        → slice_get plans o.ring ≡ Some plan → let other = mode_of plan (other_side side) in
+        room_on plan s.views o.ring side ≤ room_by_look side plan.geometry.capacity
+        (position_of (mode_of plan side) o.looked_at)
+        (position_of other (slice_index s.words (settled_word_at other o.ring (other_side side)))) }
+    ensures little { (how : How) (n room left : ℕ) → 0 < n → granted how n left ≡ 0 → room ≤ left
+        → IsTooLittle how n room }
 {}
 
 /// A hand may be split in two: the second knows the plan alone, and has half of the parts.
