@@ -15,3 +15,5 @@ pub mod Alone
 pub mod Closing
 pub mod Learning
 pub mod Refused
+pub mod Inconsistent
+pub mod Worked
