@@ -19,10 +19,12 @@ use Rattle.fabric_laws.specs.declared.view.View.{View}
 use Rattle.fabric_laws.specs.Changes.{asked}
 use Rattle.fabric_laws.specs.Kinds.{HasRoom, IsNear, IsReady, ReadsBack, look_tells, reserve_put_tells, reserve_take_tells, room_tells, run, settle_tells}
 use Rattle.fabric_laws.specs.Kinds.{store_tells}
+use Rattle.fabric_laws.specs.Refusals.{Was, and_was}
 use Rattle.fabric_laws.specs.Rule.{IsConsistent}
 use Rattle.fabric_laws.specs.Words.{own_at, settled_word_at, slot_at, tail_at}
 use Rattle.fabric_laws.proofs.Lanes.{own_inside, tail_inside}
 use Rattle.fabric_laws.proofs.Loads.{looks, rooms}
+use Rattle.fabric_laws.proofs.Refused.{witnessed}
 use Rattle.fabric_laws.proofs.Reserves.{reserves_put, reserves_take}
 use Rattle.fabric_laws.proofs.Settles.{settles, stores}
 use Rattle.fabric.specs.declared.plan.FabricPlan.{FabricPlan}
@@ -59,15 +61,20 @@ module _ {T : Type 0} (tags : T → List ℕ) (key plan : FabricPlan) (is : key 
       → Allows (IsConsistent tags key.rings.items key.buffers) slots id me word f then
   at_key f then h = subst (λ (z : FabricPlan). Allows (IsConsistent tags z.rings.items z.buffers) slots id me word f then) (sym is) h
 
+  -- the same, with the moment at which the step finds its word
+  at_moment : (f : ℕ → ℕ) (then : ℕ → Me (Option T) (View T) → Type 0) → Allows (IsConsistent tags plan.rings.items plan.buffers) slots id me word f then
+      → Allows (IsConsistent tags key.rings.items key.buffers) slots id me word f (λ x m'. then x m' × Was tags me.0 word x)
+  at_moment f then h = at_key f (λ x m'. then x m' × Was tags me.0 word x) (witnessed tags plan.rings.items plan.buffers slots id me word f then alive h)
+
   pub look_call : (side : Side) → word ≡ own_at ring side → Allows (IsConsistent tags key.rings.items key.buffers) slots id me word (λ n. n)
-      (look_tells (step slots word 0 0 none) me)
-  look_call side e = at_key (λ n. n) (look_tells (step slots word 0 0 none) me)
+      (and_was tags look_tells (step slots word 0 0 none) me)
+  look_call side e = at_moment (λ n. n) (look_tells (step slots word 0 0 none) me)
       (subst (λ (w : ℕ). Allows (IsConsistent tags plan.rings.items plan.buffers) slots id me w (λ n. n) (look_tells (step slots w 0 0 none) me)) (sym e)
       (looks tags plan.rings.items plan.buffers slots id me ring side ring_plan at alive))
 
   pub ask_call : (side : Side) (seen : ℕ) → word ≡ settled_word_at (mode_of ring_plan (other_side side)) ring (other_side side) → HasLooked ring side seen me.0
-      → Allows (IsConsistent tags key.rings.items key.buffers) slots id me word (λ n. n) (room_tells tags (step slots word 0 0 none) me)
-  ask_call side seen e look = at_key (λ n. n) (room_tells tags (step slots word 0 0 none) me)
+      → Allows (IsConsistent tags key.rings.items key.buffers) slots id me word (λ n. n) (and_was tags (room_tells tags) (step slots word 0 0 none) me)
+  ask_call side seen e look = at_moment (λ n. n) (room_tells tags (step slots word 0 0 none) me)
       (subst (λ (w : ℕ). Allows (IsConsistent tags plan.rings.items plan.buffers) slots id me w (λ n. n) (room_tells tags (step slots w 0 0 none) me)) (sym e)
       (rooms tags plan.rings.items plan.buffers slots id me ring side ring_plan record { ring = ring; side = side; looked_at = seen; tail_seen = None } at alive
       look refl refl))
@@ -77,8 +84,8 @@ module _ {T : Type 0} (tags : T → List ℕ) (key plan : FabricPlan) (is : key 
         → position_of ring_plan.put old + n ≤ LAST
         → (ring_plan.free ≡ true → n ≤ buffers_had tags plan.buffers me.0.party)
         → Allows (IsConsistent tags key.rings.items key.buffers) slots id me word (λ y. either (eqb y old) (old + n) y)
-        (reserve_put_tells (step slots word old (old + n) none) me)
-    reserve_put_call e seen room low few = at_key (λ y. either (eqb y old) (old + n) y) (reserve_put_tells (step slots word old (old + n) none) me)
+        (and_was tags reserve_put_tells (step slots word old (old + n) none) me)
+    reserve_put_call e seen room low few = at_moment (λ y. either (eqb y old) (old + n) y) (reserve_put_tells (step slots word old (old + n) none) me)
         (subst (λ (w : ℕ). Allows (IsConsistent tags plan.rings.items plan.buffers) slots id me w (λ y. either (eqb y old) (old + n) y)
         (reserve_put_tells (step slots w old (old + n) none) me)) (sym e)
         (reserves_put tags plan.rings.items plan.buffers slots id me ring ring_plan record { ring = ring; side = Put; looked_at = old; tail_seen = Some t } t n
@@ -87,8 +94,8 @@ module _ {T : Type 0} (tags : T → List ℕ) (key plan : FabricPlan) (is : key 
     pub reserve_take_call : word ≡ own_at ring Take → HasSeen ring Take old t me.0 → position_of ring_plan.take old + n ≤ t
         → position_of ring_plan.take old + n ≤ LAST
         → Allows (IsConsistent tags key.rings.items key.buffers) slots id me word (λ y. either (eqb y old) (old + n) y)
-        (reserve_take_tells tags (step slots word old (old + n) none) me)
-    reserve_take_call e seen room low = at_key (λ y. either (eqb y old) (old + n) y) (reserve_take_tells tags (step slots word old (old + n) none) me)
+        (and_was tags (reserve_take_tells tags) (step slots word old (old + n) none) me)
+    reserve_take_call e seen room low = at_moment (λ y. either (eqb y old) (old + n) y) (reserve_take_tells tags (step slots word old (old + n) none) me)
         (subst (λ (w : ℕ). Allows (IsConsistent tags plan.rings.items plan.buffers) slots id me w (λ y. either (eqb y old) (old + n) y)
         (reserve_take_tells tags (step slots w old (old + n) none) me)) (sym e)
         (reserves_take tags plan.rings.items plan.buffers slots id me ring ring_plan record { ring = ring; side = Take; looked_at = old; tail_seen = Some t } t
@@ -97,9 +104,9 @@ module _ {T : Type 0} (tags : T → List ℕ) (key plan : FabricPlan) (is : key 
   pub settle_call : (side : Side) (start count : ℕ) (items : List T) → word ≡ tail_at ring side → mode_of ring_plan side ≡ Multi → length items ≡ count
       → IsReady tags plan.rings.items ring_plan (span_of ring side start count) items me
       → Allows (IsConsistent tags key.rings.items key.buffers) slots id me word (λ y. either (eqb y start) (start + count) y)
-      (settle_tells tags (step slots word start (start + count) none) me)
+      (and_was tags (settle_tells tags) (step slots word start (start + count) none) me)
   settle_call side start count items e multi all ready =
-      at_key (λ y. either (eqb y start) (start + count) y) (settle_tells tags (step slots word start (start + count) none) me)
+      at_moment (λ y. either (eqb y start) (start + count) y) (settle_tells tags (step slots word start (start + count) none) me)
       (subst (λ (w : ℕ). Allows (IsConsistent tags plan.rings.items plan.buffers) slots id me w (λ y. either (eqb y start) (start + count) y)
       (settle_tells tags (step slots w start (start + count) none) me)) (sym e)
       (settles tags plan.rings.items plan.buffers slots id me (span_of ring side start count) ring_plan items at alive ready multi all))

@@ -10,3 +10,4 @@ pub mod Making
 pub mod Closing
 pub mod Closed
 pub mod Rings
+pub mod Truths

@@ -1,4 +1,5 @@
-//! What each kind of step on a word tells the hand that makes it. These types are for the proofs alone.
+//! What each kind of step on a word tells the hand that makes it; a kind that may be refused also tells that all was
+//! consistent as it found its word (`and_was`). These types are for the proofs alone.
 use atomic_table::{Join, Play, Split};
 use burst::Tagged;
 use fabric_laws::View;
@@ -8,8 +9,9 @@ pub struct Looks;
 
 impl<T: Tagged> Play<Option<T>, View<T>> for Looks {
     ghost use Rattle.fabric_laws.specs.Kinds.{look_tells};
+    ghost use Rattle.fabric_laws.specs.Refusals.{and_was};
 
-    ghost then = { look_tells };
+    ghost then = { and_was T.numbers look_tells };
 }
 
 /// Room: a load of the word that shows how far the other side is settled.
@@ -17,8 +19,9 @@ pub struct Asks;
 
 impl<T: Tagged> Play<Option<T>, View<T>> for Asks {
     ghost use Rattle.fabric_laws.specs.Kinds.{room_tells};
+    ghost use Rattle.fabric_laws.specs.Refusals.{and_was};
 
-    ghost then = { room_tells T.numbers };
+    ghost then = { and_was T.numbers (room_tells T.numbers) };
 }
 
 /// Reserve of the put side: an exchange of its own word.
@@ -26,8 +29,9 @@ pub struct ReservesPut;
 
 impl<T: Tagged> Play<Option<T>, View<T>> for ReservesPut {
     ghost use Rattle.fabric_laws.specs.Kinds.{reserve_put_tells};
+    ghost use Rattle.fabric_laws.specs.Refusals.{and_was};
 
-    ghost then = { reserve_put_tells };
+    ghost then = { and_was T.numbers reserve_put_tells };
 }
 
 /// Reserve of the take side: an exchange of its own word.
@@ -35,8 +39,9 @@ pub struct ReservesTake;
 
 impl<T: Tagged> Play<Option<T>, View<T>> for ReservesTake {
     ghost use Rattle.fabric_laws.specs.Kinds.{reserve_take_tells};
+    ghost use Rattle.fabric_laws.specs.Refusals.{and_was};
 
-    ghost then = { reserve_take_tells T.numbers };
+    ghost then = { and_was T.numbers (reserve_take_tells T.numbers) };
 }
 
 /// Settle of a multi side: an exchange of its tail.
@@ -44,8 +49,9 @@ pub struct Settles;
 
 impl<T: Tagged> Play<Option<T>, View<T>> for Settles {
     ghost use Rattle.fabric_laws.specs.Kinds.{settle_tells};
+    ghost use Rattle.fabric_laws.specs.Refusals.{and_was};
 
-    ghost then = { settle_tells T.numbers };
+    ghost then = { and_was T.numbers (settle_tells T.numbers) };
 }
 
 /// Settle of an HTS side: a store of its word.

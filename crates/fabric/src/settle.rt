@@ -7,6 +7,7 @@ ghost use Rattle.ringcore_laws.specs.FreeRings.{AreSingle};
 ghost use Rattle.ringcore_laws.specs.Moves.{Owns};
 ghost use Rattle.fabric_laws.specs.Changes.{missed, settled};
 ghost use Rattle.fabric_laws.specs.Kinds.{IsHeldOnce};
+ghost use Rattle.fabric_laws.specs.Refusals.{WasEarlier};
 ghost use Rattle.burst.specs.Items.{somes};
 ghost use Rattle.fabric.specs.Rings.{IsSameSeat, IsSeated, slots_of};
 ghost use Rattle.fabric.specs.Settles.{IsCount};
@@ -89,6 +90,8 @@ impl<T: Tagged, const N: usize> Ring<'_, T, N> {
         ensures early { IfSome result (λ x. (self.now.shape.plan.put ≡ Multi) × (x < place.start)
             × (seat.new.me.0 ≡ missed x seat.old.me.0) × (seat.new.me.1 ≡ seat.old.me.1)
             × (cells.new ≡ cells.old)) }
+        ensures so { IfSome result
+            (λ x. WasEarlier T.numbers (span_of self.now.index Put place.start place.count) seat.old.me.0 x) }
     {
         let k = cells.len();
         self.offer(seat, place, cells);
@@ -152,6 +155,8 @@ impl<T: Tagged, const N: usize> Ring<'_, T, N> {
         ensures early { IfSome result (λ x. (self.now.shape.plan.take ≡ Multi) × (x < place.start)
             × (seat.new.me.0 ≡ missed x seat.old.me.0) × (seat.new.me.1 ≡ seat.old.me.1)
             × (cells.new ≡ cells.old)) }
+        ensures so { IfSome result
+            (λ x. WasEarlier T.numbers (span_of self.now.index Take place.start place.count) seat.old.me.0 x) }
     {
         self.keep(seat, place, k, cells);
         match self.shape.plan.take {

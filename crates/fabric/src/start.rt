@@ -8,13 +8,16 @@ ghost use Rattle.geom.specs.declared.plan.Side.TheVariants.{Put, Take};
 ghost use Rattle.geom.specs.Plan.{granted, mode_of};
 ghost use Rattle.ringcore_laws.specs.History.{position_of};
 ghost use Rattle.ringcore_laws.specs.Party.{with_open};
-ghost use Rattle.fabric_laws.specs.Changes.{found_busy};
+ghost use Rattle.fabric_laws.specs.Changes.{asked, found_busy};
 ghost use Rattle.fabric_laws.specs.Kinds.{ReadsBack};
+ghost use Rattle.fabric_laws.specs.Refusals.{HadAtMost, WasTaken};
+ghost use Rattle.fabric_laws.specs.declared.view.View.{View};
 ghost use Rattle.fabric.specs.Hands.{IsHandOf, OnRing, put_fabric, put_left, put_span, put_view, rings_of};
 ghost use Rattle.fabric.specs.Hands.{take_fabric, take_left, take_span, take_view, view};
 ghost use Rattle.fabric.specs.Owned.{count_true};
 ghost use Rattle.fabric.specs.Rings.{IsSameSeat, IsSeated};
 ghost use Rattle.fabric.specs.Starts.{RefusesRoom, RefusesCount, MayAsk, Probes, RefusesStart, Starts};
+ghost use Rattle.fabric.specs.Truths.{IsTrueRefusal};
 ghost use Rattle.fabric.specs.Views.{IsKept, IsWornAt};
 ghost use Rattle.fabric.specs.declared.hand.StartFault.TheVariants.{Worn};
 
@@ -94,6 +97,9 @@ impl<T: Tagged, const N: usize> Ring<'_, T, N> {
         ensures busy { IfErr result (λ x. (mode_of self.now.shape.plan side ≡ Hts) × (x % RESERVED ≢ 0)
             × ReadsBack self.now.index side (position_of (mode_of self.now.shape.plan side) x) seat.old.me.0
             × (seat.new.me.0 ≡ found_busy x seat.old.me.0)) }
+        ensures taken { IfErr result (λ x. WasTaken T.numbers self.now.index side seat.old.me.0 x) }
+        ensures room { IfOk result (λ q. (u : View T) × (seat.new.me.0 ≡ asked q.tail u)
+            × HadAtMost T.numbers self.now.index side self.now.shape.plan u q.room) }
     {
         let mode = self.shape.plan.mode(side);
         let word = self.look(seat, side);
@@ -132,6 +138,8 @@ impl<T: Tagged, const N: usize> Ring<'_, T, N> {
             × (a.1 ≡ granted how n a.0.room) × (0 < a.1) × (a.1 ≤ n) × (a.1 ≤ a.0.room) × (a.0.start + a.1 ≤ LAST)) }
         ensures err { IfErr result (λ e. RefusesStart T.numbers N how n
             self.now.index side self.now.shape.plan seat.old.me.0 seat.new.me.0 e) }
+        ensures so { IfErr result
+            (λ e. IsTrueRefusal T.numbers self.now.index side self.now.shape.plan seat.old.me.0 seat.new.me.0 e) }
     {
         let probe = match self.probe(seat, side) {
             Ok(probe) => probe,
@@ -168,6 +176,8 @@ impl<T: Tagged, const N: usize> Fabric<T, N> {
         ensures opened { IfOk result (λ o. (put_view o).party ≡ with_open (view hand).party (put_span o)) }
         ensures kept { IfErr result (λ e. IsKept (view hand) (view e.0)) }
         ensures worn { IfErr result (λ e. e.1 ≡ Worn → IsWornAt N (view e.0)) }
+        ensures so { IfErr result (λ e. OnRing self.now ring
+            (λ plan. IsTrueRefusal T.numbers ring Put plan (view hand) (view e.0) e.1)) }
     {
         let target = Ring {
             fabric: self,
@@ -239,6 +249,8 @@ impl<T: Tagged, const N: usize> Fabric<T, N> {
         ensures opened { IfOk result (λ o. (take_view o).party ≡ with_open (view hand).party (take_span o)) }
         ensures kept { IfErr result (λ e. IsKept (view hand) (view e.0)) }
         ensures worn { IfErr result (λ e. e.1 ≡ Worn → IsWornAt N (view e.0)) }
+        ensures so { IfErr result (λ e. OnRing self.now ring
+            (λ plan. IsTrueRefusal T.numbers ring Take plan (view hand) (view e.0) e.1)) }
     {
         let target = Ring {
             fabric: self,

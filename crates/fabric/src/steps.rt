@@ -9,10 +9,11 @@ ghost use Rattle.geom.specs.Plan.{mode_of};
 ghost use Rattle.ringcore_laws.specs.declared.protocol.Observed.{Observed};
 ghost use Rattle.ringcore_laws.specs.declared.protocol.Span.{Span};
 ghost use Rattle.ringcore_laws.specs.FreeRings.{AreSingle, buffers_had};
-ghost use Rattle.ringcore_laws.specs.History.{other_side, position_of};
+ghost use Rattle.ringcore_laws.specs.History.{other_side, position_of, room_by_look};
 ghost use Rattle.ringcore_laws.specs.Moves.{Owns};
 ghost use Rattle.fabric_laws.specs.Changes.{view_after_look, asked, missed, reserved, settled};
 ghost use Rattle.fabric_laws.specs.Kinds.{HasRoom, IsHeldOnce, IsNear, IsReady, ReadsBack, run};
+ghost use Rattle.fabric_laws.specs.Refusals.{HadAtMost, Was, WasEarlier};
 ghost use Rattle.fabric.specs.Hands.{rings_of};
 ghost use Rattle.fabric.specs.Rings.{IsSameSeat, IsSeated, slots_of};
 ghost use Rattle.fabric.specs.Views.{HasLooked, HasSeen, span_of};
@@ -88,6 +89,7 @@ impl<T: Tagged, const N: usize> Ring<'_, T, N> {
         ensures reads_back { ReadsBack self.now.index side
             (position_of (mode_of self.now.shape.plan side) result) seat.old.me.0 }
         ensures last { position_of (mode_of self.now.shape.plan side) result ≤ LAST }
+        ensures was { Was T.numbers seat.old.me.0 (own_at self.now.index side) result }
     {
         self.fabric
             .table
@@ -108,6 +110,9 @@ impl<T: Tagged, const N: usize> Ring<'_, T, N> {
             (position_of (mode_of self.now.shape.plan side) word) result }
         ensures room { HasRoom T.numbers side self.now.shape.plan
             (position_of (mode_of self.now.shape.plan side) word) result seat.old.me.0 }
+        ensures most { HadAtMost T.numbers self.now.index side self.now.shape.plan seat.old.me.0
+            (room_by_look side self.now.shape.plan.geometry.capacity
+            (position_of (mode_of self.now.shape.plan side) word) result) }
     {
         let other = opposite(side);
         let mode = self.shape.plan.mode(other);
@@ -141,6 +146,7 @@ impl<T: Tagged, const N: usize> Ring<'_, T, N> {
             × (seat.new.me.1 ≡ slots_of self.now start
             (replicate count None) ++ seat.old.me.1) }
         ensures lost { result ≢ word → (seat.new.me.0 ≡ missed result seat.old.me.0) × (seat.new.me.1 ≡ seat.old.me.1) }
+        ensures was { Was T.numbers seat.old.me.0 (own_at self.now.index Put) result }
     {
         self.fabric.table.shared.compare_exchange::<ReservesPut>(
             seat,
@@ -172,6 +178,7 @@ impl<T: Tagged, const N: usize> Ring<'_, T, N> {
             ++ seat.old.me.1)
             × (self.now.shape.plan.free ≡ true → AreSingle T.numbers items) }
         ensures lost { result ≢ word → (seat.new.me.0 ≡ missed result seat.old.me.0) × (seat.new.me.1 ≡ seat.old.me.1) }
+        ensures was { Was T.numbers seat.old.me.0 (own_at self.now.index Take) result }
     {
         self.fabric.table.shared.compare_exchange::<ReservesTake>(
             seat,
@@ -202,6 +209,8 @@ impl<T: Tagged, const N: usize> Ring<'_, T, N> {
             × IsHeldOnce T.numbers seat.new.me.0.pool seat.new.me.0.party }
         ensures lost { result ≢ start → (seat.new.me.0 ≡ missed result seat.old.me.0)
             × (seat.new.me.1 ≡ seat.old.me.1) × (result < start) }
+        ensures early { result ≢ start
+            → WasEarlier T.numbers (span_of self.now.index side start count) seat.old.me.0 result }
     {
         self.fabric.table.shared.compare_exchange::<Settles>(
             seat,

@@ -5,7 +5,8 @@ ghost use Rattle.std.specs.List.{flat_map};
 ghost use Rattle.burst.specs.Numbers.{AreDistinct};
 ghost use Rattle.geom.specs.declared.plan.Side.TheVariants.{Take};
 ghost use Rattle.fabric.specs.Hands.{RefusesPut, RefusesTake, HasPut, HasTaken, IsHandOf, OnRing, SamePut, SameTake};
-ghost use Rattle.fabric.specs.Hands.{put_view, rings_of, take_fabric, take_left, take_span, take_view, view};
+ghost use Rattle.fabric.specs.Hands.{put_span, put_view, rings_of, take_fabric, take_left, take_span, take_view, view};
+ghost use Rattle.fabric.specs.Truths.{IsTrueRefusal, IsTrueTooEarly};
 ghost use Rattle.fabric.specs.Views.{IsKept, IsWornAt};
 ghost use Rattle.fabric.specs.declared.hand.SettleFault.TheVariants.{NotYours};
 ghost use Rattle.fabric.specs.declared.hand.StartFault.TheVariants.{Worn};
@@ -40,6 +41,8 @@ impl<T: Tagged, const N: usize> Fabric<T, N> {
             (λ o. (take_view o.span).party ≡ with_open (view hand).party (take_span o.span)) }
         ensures kept { IfErr result (λ e. IsKept (view hand) (view e.0)) }
         ensures worn { IfErr result (λ e. e.1 ≡ Worn → IsWornAt N (view e.0)) }
+        ensures so { IfErr result (λ e. OnRing self.now ring
+            (λ plan. IsTrueRefusal T.numbers ring Take plan (view hand) (view e.0) e.1)) }
     {
         let mut items = Burst::new();
         match self.try_start_take_into(hand, ring, n, how, &mut items) {
@@ -59,6 +62,7 @@ impl<'f, T: Tagged, const N: usize> PutOpen<'f, T, N> {
         ensures refused { IfErr result (λ e. SamePut self.entry e.0 × (e.1 ≡ items)
             × RefusesPut T.numbers self.entry items e.0 e.2) }
         ensures kept { IfErr result (λ e. IsKept (put_view self.entry) (put_view e.0)) }
+        ensures so { IfErr result (λ e. IsTrueTooEarly T.numbers (put_span self.entry) (put_view self.entry) e.2) }
     {
         let mut burst = items;
         match self.try_settle_from(&mut burst) {
@@ -109,6 +113,8 @@ impl<'f, T: Tagged, const N: usize> TakeOpen<'f, T, N> {
         ensures kept { IfErr result (λ e. IsKept (take_view self.entry.span) (take_view e.0.span)) }
         ensures apart { IfOk result (λ h. AreDistinct (flat_map T.numbers h.1)) }
         ensures named { IfErr result (λ e. e.1 ≡ NotYours → ⊥) }
+        ensures so { IfErr result
+            (λ e. IsTrueTooEarly T.numbers (take_span self.entry.span) (take_view self.entry.span) e.1) }
     {
         let TakeOpen { span, mut items } = self;
         match span.try_settle_into(k, &mut items) {

@@ -11,6 +11,8 @@ use Rattle.fabric.specs.declared.hand.StartFault.TheVariants.{BadCount, Contende
 use Rattle.fabric.specs.Hands.{rings_of, view}
 use Rattle.fabric.specs.Views.{span_of}
 use Rattle.fabric.proofs.Told.{refused_kept, ring_at, started_party, worn_at}
+use Rattle.fabric.specs.Truths.{IsTrueRefusal}
+use Rattle.fabric.proofs.Truths.{lost_true}
 use Rattle.fabric.proofs.Starting.{alive_on, bad_count, bad_put, contended, few_buffers, has_seen, idle_on, count_refused, may_put, put_room, row_on}
 use Rattle.fabric.proofs.Starting.{row_opened, same_ring, shape_at, started, well_on, well_opened}
 use Rattle.fabric.proofs.fabric.Fabric.try_start_put.Goals as goal
@@ -249,3 +251,18 @@ returns-in-Err-clause-worn g c is =
     let r = returns-in-Err-clause-refused g c in
     worn_at g.T.Tagged.numbers g.row.N c.args.how c.args.n c.args.ring Put w.0 (rings_of c.args.self.now) (view c.args.hand) c.aim.new.seat.me.0
     c.in-Err.fault (r.1 w.0 w.1) (returns-in-Err-clause-asked g c w.0 w.1).1 r.0.1 w.1 is
+
+pub returns-in-Err-clause-so : goal.returns-in-Err-clause-so
+returns-in-Err-clause-so g c plan there =
+    let f = c.args.self.now in
+    let at = shape_at f.plan.rings.items f.shapes.items c.args.ring c.index.result.now f.laid c.requires.ring c.index.ensures in
+    subst (λ p. IsTrueRefusal g.T.Tagged.numbers c.args.ring Put p c.args.hand.share.seat.me.0 c.aim.new.seat.me.0 c.in-Err.fault)
+    (same_ring f.plan.rings.items c.args.ring c.index.result.now.plan plan at.0 there) c.in-Err.ensures.so
+
+pub returns-then-found-probe-clause-so : goal.returns-then-found-probe-clause-so
+returns-then-found-probe-clause-so g c plan there =
+    let f = c.args.self.now in
+    let v = c.args.hand.share.seat.me.0 in
+    let lost = c.reserve_put-found.ensures.lost c.if-found-probe.true in
+    lost_true g.T.Tagged.numbers c.args.ring Put plan c.reserve_put-found.result f.plan.rings.items v c.aim.new.seat.me.0
+    c.reserve_put-found.new.seat.me.0 there (c.aim.ensures.kept.plans ∙ c.requires.hand.1) lost.0 c.reserve_put-found.ensures.was

@@ -7,6 +7,7 @@ use Rattle.fabric_laws.proofs.Cells.{length-cells}
 use Rattle.fabric.specs.Views.{span_of}
 use Rattle.fabric.proofs.Seats.{seated_on}
 use Rattle.fabric.proofs.Settling.{count_fits, count_whole, ready_take, take_some, taken_long}
+use Rattle.fabric.proofs.Truths.{earlier_on}
 use Rattle.fabric.proofs.ring.Ring.dequeue.Goals as goal
 
 pub store-requires : goal.store-requires
@@ -106,3 +107,8 @@ returns-then-found-place-clause-done g c =
       t.2,
       c.keep.ensures.cells ∙ (ap (take c.args.k) q.shows ∙ take_some c.args.k shown),
     )
+
+pub returns-else-found-place-clause-so : goal.returns-else-found-place-clause-so
+returns-else-found-place-clause-so g c =
+    earlier_on g.T.Tagged.numbers (span_of c.args.self.now.index Take c.args.place.start c.args.place.count) c.args.seat.now.me.0 c.keep.new.seat.me.0
+    c.settle-found.result c.keep.ensures.seat.1 (c.settle-found.ensures.early c.if-found-place.false)

@@ -2,6 +2,9 @@ use Rattle.std.proofs.Common.{ap, length, rules, sym, ◌∙◌}
 use Rattle.fabric_laws.specs.Changes.{missed}
 use Rattle.fabric_laws.specs.Words.{slot_at}
 use Rattle.fabric.proofs.Settling.{back_held, back_is, count_whole}
+use Rattle.geom.specs.declared.plan.Side.TheVariants.{Put}
+use Rattle.fabric.specs.Views.{span_of}
+use Rattle.fabric.proofs.Truths.{earlier_on}
 use Rattle.fabric.proofs.ring.Ring.publish.Goals as goal
 
 pub withdraw-requires : goal.withdraw-requires
@@ -32,3 +35,8 @@ returns-else-found-place-clause-early g c =
       c.withdraw.ensures.slots ∙ sym q.slots,
       c.withdraw.ensures.cells ∙ back,
     )
+
+pub returns-else-found-place-clause-so : goal.returns-else-found-place-clause-so
+returns-else-found-place-clause-so g c =
+    earlier_on g.T.Tagged.numbers (span_of c.args.self.now.index Put c.args.place.start c.args.place.count) c.args.seat.now.me.0 c.offer.new.seat.me.0
+    c.settle-found.result c.offer.ensures.seat.1 (c.settle-found.ensures.early c.if-found-place.false)
