@@ -11,3 +11,4 @@ pub mod Closing
 pub mod Closed
 pub mod Rings
 pub mod Truths
+pub mod Faults

@@ -11,6 +11,7 @@ use crate::ring::{Place, Ring};
 use atomic_table::Seat;
 use burst::Tagged;
 use fabric_laws::View;
+use thiserror::Error;
 
 /// The parts of a whole fabric: a split halves a hand's parts, a join adds them up.
 pub(crate) const ALL_PARTS: u64 = 1 << 63;
@@ -68,28 +69,36 @@ pub struct TakeSpan<'f, T: Tagged, const N: usize> {
 }
 
 /// Why a start reserves nothing. Each number is one that this call found.
-#[derive(Drop, Clone, Copy, Debug, PartialEq, Eq)]
+#[derive(Drop, Clone, Copy, Debug, PartialEq, Eq, Error)]
 pub enum StartFault {
     /// Another hand's span of that head/tail-sync side is open: the word found.
+    #[error("another span of this side is open: word {0}")]
     Busy(u64),
     /// The exchange lost against another hand: the word found.
+    #[error("another hand was first: word {0}")]
     Contended(u64),
     /// There is too little room, or too few items: so much.
+    #[error("too little room, or too few items: {0}")]
     NoRoom(u64),
     /// The positions of the ring are used up.
+    #[error("the ring is worn")]
     Worn,
     /// A count of 0, of more than `N`, or on a free ring of more than the hand's buffers.
+    #[error("no such count")]
     BadCount,
 }
 
 /// Why a settle settles nothing.
-#[derive(Drop, Clone, Copy, Debug, PartialEq, Eq)]
+#[derive(Drop, Clone, Copy, Debug, PartialEq, Eq, Error)]
 pub enum SettleFault {
     /// A multi span is settled whole, an HTS span with at most as many items as it has positions.
+    #[error("no such count")]
     BadCount,
     /// An earlier span of the side isn't settled yet: the tail found.
+    #[error("an earlier span isn't settled yet: tail {0}")]
     NotYet(u64),
     /// An item carries a buffer that isn't the hand's own, or that another item carries too, or the ring is a free ring
     /// and the item doesn't carry exactly one.
+    #[error("not this hand's buffers")]
     NotYours,
 }

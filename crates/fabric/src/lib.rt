@@ -7,6 +7,7 @@ mod carried;
 mod close;
 mod closed;
 mod fabric;
+mod faults;
 mod firsts;
 mod hand;
 mod join;

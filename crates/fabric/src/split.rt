@@ -11,13 +11,16 @@ use crate::owned::Owned;
 use crate::plays::Halves;
 use burst::Tagged;
 use std::alloc::Global;
+use thiserror::Error;
 
 /// Why a hand is not split.
-#[derive(Drop, Clone, Copy, Debug, PartialEq, Eq)]
+#[derive(Drop, Clone, Copy, Debug, PartialEq, Eq, Error)]
 pub enum SplitFault {
     /// There was no memory for the row of the second hand's buffers.
+    #[error("out of memory")]
     Memory,
     /// The hand has one part only: too many splits lie between it and the first hand.
+    #[error("a hand with one part")]
     TooMany,
 }
 
