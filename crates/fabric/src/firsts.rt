@@ -5,7 +5,7 @@ ghost use Rattle.std.specs.Prelude.{IfOk, IfErr};
 ghost use Rattle.geom.specs.declared.plan.Mode.TheVariants.{Hts};
 ghost use Rattle.fabric.specs.Hands.{HasPut, IsHandOf, OnRing, RefusesPut, SamePut, put_span, put_view};
 ghost use Rattle.fabric.specs.Hands.{rings_of, view};
-ghost use Rattle.fabric.specs.Settles.{AreNotYours, AreYours};
+ghost use Rattle.fabric.specs.Settles.{AreNotYours, AreYours, HoldsLess};
 ghost use Rattle.fabric.specs.Truths.{IsTrueTooEarly};
 ghost use Rattle.fabric.specs.Views.{IsKept};
 
@@ -70,6 +70,7 @@ impl<'f, T: Tagged, const N: usize> PutOpen<'f, T, N> {
             × RefusesPut T.numbers self.entry (take k items.old) e.0 e.1) }
         ensures kept { IfErr result (λ e. IsKept (put_view self.entry) (put_view e.0)) }
         ensures so { IfErr result (λ e. IsTrueTooEarly T.numbers (put_span self.entry) (put_view self.entry) e.1) }
+        ensures owned { IfOk result (λ h. HoldsLess T.numbers (put_view self.entry) (take k items.old) (view h)) }
     {
         if k == items.len() {
             return self.try_settle_from(items);

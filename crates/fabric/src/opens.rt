@@ -2,7 +2,8 @@
 ghost use Rattle.std.specs.Prelude.{◌≡◌, [], length, take, IfOk, IfErr};
 ghost use Rattle.std.specs.List.{flat_map};
 ghost use Rattle.fabric.specs.Hands.{RefusesPut, RefusesTake, HasPut, HasTaken, SamePut, SameTake, put_left};
-ghost use Rattle.fabric.specs.Hands.{put_span, put_view, take_left, take_span, take_view};
+ghost use Rattle.fabric.specs.Hands.{put_span, put_view, take_left, take_span, take_view, view};
+ghost use Rattle.fabric.specs.Settles.{HoldsLess, HoldsMore};
 ghost use Rattle.burst.specs.Numbers.{AreDistinct};
 ghost use Rattle.fabric.specs.Truths.{IsTrueTooEarly};
 ghost use Rattle.fabric.specs.Views.{IsKept};
@@ -49,6 +50,7 @@ impl<'f, T: Tagged, const N: usize> PutOpen<'f, T, N> {
             × RefusesPut T.numbers self.entry items.old e.0 e.1) }
         ensures kept { IfErr result (λ e. IsKept (put_view self.entry) (put_view e.0)) }
         ensures so { IfErr result (λ e. IsTrueTooEarly T.numbers (put_span self.entry) (put_view self.entry) e.1) }
+        ensures owned { IfOk result (λ h. HoldsLess T.numbers (put_view self.entry) items.old (view h)) }
     {
         if !is_count(self.ring.shape.plan.put, items.len(), self.place.count) {
             return Err((self, SettleFault::BadCount));
@@ -116,6 +118,7 @@ impl<'f, T: Tagged, const N: usize> TakeSpan<'f, T, N> {
         ensures apart { IfOk result (λ _. AreDistinct (flat_map T.numbers items.new)) }
         ensures named { IfErr result (λ e. e.1 ≡ NotYours → ⊥) }
         ensures so { IfErr result (λ e. IsTrueTooEarly T.numbers (take_span self.entry) (take_view self.entry) e.1) }
+        ensures owned { IfOk result (λ h. HoldsMore T.numbers (take_view self.entry) items.new (view h)) }
     {
         if !is_count(self.ring.shape.plan.take, k, self.place.count) {
             return Err((self, SettleFault::BadCount));

@@ -6,6 +6,7 @@ ghost use Rattle.burst.specs.Numbers.{AreDistinct};
 ghost use Rattle.geom.specs.declared.plan.Side.TheVariants.{Take};
 ghost use Rattle.fabric.specs.Hands.{RefusesPut, RefusesTake, HasPut, HasTaken, IsHandOf, OnRing, SamePut, SameTake};
 ghost use Rattle.fabric.specs.Hands.{put_span, put_view, rings_of, take_fabric, take_left, take_span, take_view, view};
+ghost use Rattle.fabric.specs.Settles.{HoldsLess, HoldsMore};
 ghost use Rattle.fabric.specs.Truths.{IsTrueRefusal, IsTrueTooEarly};
 ghost use Rattle.fabric.specs.Views.{IsKept, IsWornAt};
 ghost use Rattle.fabric.specs.declared.hand.SettleFault.TheVariants.{NotYours};
@@ -63,6 +64,7 @@ impl<'f, T: Tagged, const N: usize> PutOpen<'f, T, N> {
             × RefusesPut T.numbers self.entry items e.0 e.2) }
         ensures kept { IfErr result (λ e. IsKept (put_view self.entry) (put_view e.0)) }
         ensures so { IfErr result (λ e. IsTrueTooEarly T.numbers (put_span self.entry) (put_view self.entry) e.2) }
+        ensures owned { IfOk result (λ h. HoldsLess T.numbers (put_view self.entry) items (view h)) }
     {
         let mut burst = items;
         match self.try_settle_from(&mut burst) {
@@ -115,6 +117,7 @@ impl<'f, T: Tagged, const N: usize> TakeOpen<'f, T, N> {
         ensures named { IfErr result (λ e. e.1 ≡ NotYours → ⊥) }
         ensures so { IfErr result
             (λ e. IsTrueTooEarly T.numbers (take_span self.entry.span) (take_view self.entry.span) e.1) }
+        ensures owned { IfOk result (λ h. HoldsMore T.numbers (take_view self.entry.span) h.1 (view h.0)) }
     {
         let TakeOpen { span, mut items } = self;
         match span.try_settle_into(k, &mut items) {

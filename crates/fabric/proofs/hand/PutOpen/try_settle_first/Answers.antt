@@ -1,7 +1,8 @@
 use Rattle.std.proofs.Common.{◌++◌, length, reverse, ap, drop, rules, subst, sym, ◌∙◌, arith}
 use Rattle.std.proofs.lemmas.List.{length-append, length-drop, length-reverse, length-take, take-append-drop}
 use Rattle.std.proofs.lemmas.Result.{IfErr-weaker, IfOk-weaker}
-use Rattle.fabric.specs.Hands.{RefusesPut, HasPut}
+use Rattle.fabric.specs.Hands.{RefusesPut, HasPut, put_view, view}
+use Rattle.fabric.specs.Settles.{HoldsLess}
 use Rattle.fabric.proofs.Pours.{few_back, restored, all_first, none_behind}
 use Rattle.fabric.proofs.hand.PutOpen.try_settle_first.Goals as goal
 
@@ -71,3 +72,15 @@ returns-clause-refused g c =
       subst (λ l. RefusesPut g.T.Tagged.numbers c.args.self l e.0 e.1) c.pour.ensures.left p.2,
     ))
     c.try_settle_from-answer.ensures.refused
+
+pub returns-then-k-len-clause-owned : goal.returns-then-k-len-clause-owned
+returns-then-k-len-clause-owned g c =
+    let all = c.if-k-len.true ∙ c.len.ensures.value in
+    IfOk-weaker c.try_settle_from.result _ _
+    (λ h p. subst (λ l. HoldsLess g.T.Tagged.numbers (put_view c.args.self) l (view h)) (sym (all_first c.args.k c.args.items.now all)) p)
+    c.try_settle_from.ensures.owned
+
+pub returns-clause-owned : goal.returns-clause-owned
+returns-clause-owned g c =
+    IfOk-weaker c.try_settle_from-answer.result _ _
+    (λ h p. subst (λ l. HoldsLess g.T.Tagged.numbers (put_view c.args.self) l (view h)) c.pour.ensures.left p) c.try_settle_from-answer.ensures.owned

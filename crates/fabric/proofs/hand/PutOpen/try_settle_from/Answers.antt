@@ -9,7 +9,8 @@ use Rattle.fabric.specs.Views.{span_of}
 use Rattle.burst.specs.Items.{somes}
 use Rattle.fabric.specs.Owned.{IsRow, cleared, marked}
 use Rattle.fabric.specs.Settles.{IsCount}
-use Rattle.fabric.proofs.Holding.{not_yours, put_owns, put_row}
+use Rattle.fabric_laws.specs.Changes.{settled}
+use Rattle.fabric.proofs.Holding.{holds_less, not_yours, put_owns, put_row}
 use Rattle.fabric.proofs.Rows.{take_whole, undo}
 use Rattle.fabric.proofs.Settling.{count_whole, packed_long}
 use Rattle.fabric.proofs.hand.PutOpen.try_settle_from.Goals as goal
@@ -112,3 +113,13 @@ returns-clause-refused g c =
       ap somes early.4 ∙ c.items.view_is,
       (early.0, count_whole o.ring.shape.plan.put (length c.args.items.now) o.place.count early.0 count, early.1, early.2),
     )
+
+pub returns-in_default-clause-owned : goal.returns-in_default-clause-owned
+returns-in_default-clause-owned g c =
+    let o = c.args.self in
+    let tags = g.T.Tagged.numbers in
+    let v = o.share.seat.me.0 in
+    let mine = c.may_put.ensures.mine c.if-not-may_put.false in
+    holds_less tags o.ring.index o.place.start o.place.count v c.publish.new.seat.me.0 c.args.items.now
+    (c.in_default.ensures.done.0 ∙ ap (λ l. settled (span_of o.ring.index Put o.place.start o.place.count) l v) c.items.view_is)
+    (put_owns tags v.pool v.party o.share.owned o.share.row c.args.items.now mine.1)

@@ -8,7 +8,8 @@ use Rattle.fabric_laws.proofs.Cells.{length-cells}
 use Rattle.burst.specs.Items.{somes}
 use Rattle.fabric.specs.Owned.{IsRow, marked}
 use Rattle.fabric.specs.Views.{span_of}
-use Rattle.fabric.proofs.Holding.{take_row}
+use Rattle.fabric.specs.Settles.{HoldsMore}
+use Rattle.fabric.proofs.Holding.{holds_more, take_row}
 use Rattle.fabric.proofs.Rows.{take_whole}
 use Rattle.fabric.proofs.Told.{taken_apart}
 use Rattle.burst.specs.Numbers.{AreDistinct}
@@ -101,3 +102,13 @@ returns-in_default-clause-apart g c =
     let same = ap somes done.3 ∙ somes_of (take c.args.k v.shown) in
     subst (λ l. AreDistinct (flat_map tags l)) (sym same)
     (taken_apart tags o.ring.index o.place.start o.place.count (take c.args.k v.shown) v _ done.0 o.share.well done.2)
+
+pub returns-in_default-clause-owned : goal.returns-in_default-clause-owned
+returns-in_default-clause-owned g c =
+    let o = c.args.self in
+    let tags = g.T.Tagged.numbers in
+    let v = o.share.seat.me.0 in
+    let done = c.in_default.ensures.done in
+    let same = ap somes done.3 ∙ somes_of (take c.args.k v.shown) in
+    subst (λ l. HoldsMore tags v l c.dequeue.new.seat.me.0) (sym same)
+    (holds_more tags o.ring.index o.place.start o.place.count v c.dequeue.new.seat.me.0 (take c.args.k v.shown) done.0 o.share.well)
