@@ -6,6 +6,7 @@ mod about;
 mod carried;
 mod close;
 mod closed;
+mod example;
 mod fabric;
 mod faults;
 mod firsts;
@@ -30,6 +31,7 @@ mod take;
 mod values;
 
 pub use closed::Closed;
+pub use example::send_and_close;
 pub use fabric::Fabric;
 pub use hand::{Hand, PutOpen, SettleFault, StartFault, TakeSpan};
 pub use keeper::Keeper;
