@@ -1,10 +1,13 @@
 //! An item with one number, and each call of a burst once.
+mod calls;
 mod frame;
 mod marks;
 mod numbers;
+mod openings;
 mod plays;
 mod rings;
 mod rows;
+mod spans;
 mod stopped;
 mod stops;
 mod tries;
