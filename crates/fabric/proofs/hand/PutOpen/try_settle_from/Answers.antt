@@ -119,7 +119,7 @@ returns-in_default-clause-owned g c =
     let o = c.args.self in
     let tags = g.T.Tagged.numbers in
     let v = o.share.seat.me.0 in
-    let mine = c.may_put.ensures.mine c.if-not-may_put.false in
+    let mine = c.disown.ensures.mine c.if-not-disown.false in
     holds_less tags o.ring.index o.place.start o.place.count v c.publish.new.seat.me.0 c.args.items.now
     (c.in_default.ensures.done.0 ∙ ap (λ l. settled (span_of o.ring.index Put o.place.start o.place.count) l v) c.items.view_is)
     (put_owns tags v.pool v.party o.share.owned o.share.row c.args.items.now mine.1)
