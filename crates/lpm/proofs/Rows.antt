@@ -58,5 +58,6 @@ pub a_group : (group_of (entry_of 33 7) ≡ Some 7) × (is_group (entry_of 32 7)
 a_group = (refl, refl)
 
 -- the answers of a burst
-pub answers : (hop_in_word (word_of_hop (Some 0)) ≡ Some 0) × (hop_in_word (word_of_hop (Some 16777215)) ≡ Some 16777215) × (hop_in_word (word_of_hop None) ≡ None)
+pub answers : (hop_in_word (word_of_hop (Some 0)) ≡ Some 0) × (hop_in_word (word_of_hop (Some 16777215)) ≡ Some 16777215)
+    × (hop_in_word (word_of_hop None) ≡ None)
 answers = (refl, refl, refl)
