@@ -6,11 +6,11 @@
  *   run.yardstick forward ROUTES IN PREFIX   forwards it, with a buffer of 1 MiB to read and one of 256 KiB a port to write
  *   run.yardstick peak PROGRAM ..            runs a program, and prints the most memory that it had, in KiB
  */
-#include "captures.h"
 #include "lists.h"
 #include <fcntl.h>
+#include <stdint.h>
+#include <stdlib.h>
 
-#define PORTS 2
 #define ROOM 2048
 #define READ_ROOM (1 << 20)
 #define WRITE_ROOM (1 << 18)
@@ -54,23 +54,14 @@ static struct table make_table(unsigned count)
 	return table;
 }
 
-static inline uint32_t lookup(const struct table *table, uint32_t address)
+static inline uint32_t lookup(const void *routes, uint32_t address)
 {
+	const struct table *table = routes;
 	uint32_t entry = table->first[address >> 8];
 	return entry & GROUP ? table->groups[256 * (entry & ~GROUP) + (address & 255)] : entry;
 }
 
-/* Route i leaves at port i % PORTS, for the address that ends in i. */
-
-static inline void address_of_route(unsigned i, uint8_t *to)
-{
-	memcpy(to, (uint8_t[]){ 2, 0, 1, i >> 16, i >> 8, i }, 6);
-}
-
-static inline void address_of_port(unsigned port, uint8_t *from)
-{
-	memcpy(from, (uint8_t[]){ 2, 0, 0, 0, 0, 0x10 + port }, 6);
-}
+#include "forward.h"
 
 static void settings(const char *path, unsigned count)
 {
@@ -89,29 +80,6 @@ static void settings(const char *path, unsigned count)
 }
 
 /* Frames */
-
-static inline uint32_t word(const uint8_t *at)
-{
-	return (uint32_t)at[0] << 8 | at[1];
-}
-
-/* The one's complement sum of a header, in the byte order of the machine: both uses below hold in any. */
-static inline uint32_t sum_of(const uint8_t *at, unsigned length)
-{
-	uint64_t sum = 0;
-	for (unsigned i = 0; i < length; i += 4) sum += field(at + i);
-	sum = (sum & 0xffffffff) + (sum >> 32);
-	sum = (sum & 0xffffffff) + (sum >> 32);
-	sum = (sum & 0xffff) + (sum >> 16);
-	return (sum & 0xffff) + (sum >> 16);
-}
-
-static inline void write_checksum(uint8_t *packet, unsigned header)
-{
-	packet[10] = packet[11] = 0;
-	uint16_t sum = ~sum_of(packet, header);
-	memcpy(packet + 10, &sum, 2);
-}
 
 /* Of a hundred kinds of frames these aren't plain; only frames of 60 bytes are cut short. One frame of fifty has options. */
 enum { IS_SHORT, IS_ARP, HAS_BAD_HEADER, HAS_BAD_LENGTH, HAS_BAD_CHECKSUM, IS_EXPIRED, HAS_NO_ROUTE, HAS_TAG, KINDS = 100 };
@@ -158,39 +126,6 @@ static void make(const char *path, unsigned records, unsigned count)
 }
 
 /* The run */
-
-enum { SENT, SHORT, NOT_IPV4, BAD_HEADER, BAD_LENGTH, BAD_CHECKSUM, EXPIRED, NO_ROUTE, VERDICTS };
-
-static const char *const names[VERDICTS] = {
-	"tagged", "short", "not-ipv4", "bad-header", "bad-length", "bad-checksum", "expired", "no-route",
-};
-
-static inline unsigned judge(const uint8_t *frame, uint32_t captured, uint32_t wire, const struct table *table,
-	unsigned *at, uint32_t *hop)
-{
-	if (captured < 14) return SHORT;
-	*at = word(frame + 12) == 0x8100 ? 18 : 14;
-	if (captured < *at) return SHORT;
-	if (word(frame + *at - 2) != 0x0800) return NOT_IPV4;
-	if (captured < *at + 20) return SHORT;
-	const uint8_t *packet = frame + *at;
-	unsigned header = (packet[0] & 15) * 4, total = word(packet + 2);
-	if (packet[0] >> 4 != 4 || header < 20) return BAD_HEADER;
-	if (captured < *at + header) return SHORT;
-	if (total < header || total > wire - *at) return BAD_LENGTH;
-	if (sum_of(packet, header) != 0xffff) return BAD_CHECKSUM;
-	if (packet[8] < 2) return EXPIRED;
-	*hop = lookup(table, word(packet + 16) << 16 | word(packet + 18));
-	return *hop ? SENT : NO_ROUTE;
-}
-
-static inline void rewrite(uint8_t *frame, unsigned at, uint32_t hop)
-{
-	address_of_route(hop - 1, frame);
-	address_of_port((hop - 1) % PORTS, frame + 6);
-	frame[at + 8]--;
-	write_checksum(frame + at, (frame[at] & 15) * 4);
-}
 
 struct input { int file; size_t have, at; int ended; uint8_t bytes[READ_ROOM + MOST + 16]; };
 struct port { int file; size_t length; uint64_t records; uint8_t bytes[WRITE_ROOM]; };
