@@ -25,7 +25,8 @@ pub(crate) fn send<T: Tagged, const N: usize, R: Wait>(
     requires kept { Keeps T.numbers keeper cache.now }
     requires single { AreSingle T.numbers cache.now }
     ensures keeper { IsKeeperOf f.now result.0 × Keeps T.numbers result.0 cache.now }
-    ensures told { OnRing f.now ring (λ plan. Sends T.numbers N ring plan (Some keeper) (Some result.0) cache.now list.old result.1 list.new) }
+    ensures told { OnRing f.now ring
+        (λ plan. Sends T.numbers N ring plan (Some keeper) (Some result.0) cache.now list.old result.1 list.new) }
 {
     let mut keeper = keeper;
     if !keeper.may_put(f, ring, list) {

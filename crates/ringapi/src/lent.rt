@@ -101,8 +101,8 @@ pub fn put_burst_from<'f, T: Tagged, const N: usize, R: Wait>(
     put(rt, f, hand, ring, How::Burst, list)
 }
 
-/// `put_bulk_from` of items that are the hand's to put, as whoever got them from a pool knows: nothing is tested before
-/// the start. Asked: they are.
+/// `put_bulk_from` of items that are the hand's to put, as who got them from a pool knows: nothing is tested before the
+/// start. Asked: they are.
 ///
 /// Never answered: `NotYours`, `Open`, `Busy`, `Contended`. No memory; any number of steps on words.
 pub fn put_own_bulk_from<'f, T: Tagged, const N: usize, R: Wait>(
@@ -124,7 +124,7 @@ pub fn put_own_bulk_from<'f, T: Tagged, const N: usize, R: Wait>(
     put_own(rt, f, hand, ring, How::Bulk, list)
 }
 
-/// `put_burst_from` of items that are the hand's to put, as whoever got them from a pool knows: nothing is tested before
+/// `put_burst_from` of items that are the hand's to put, as who got them from a pool knows: nothing is tested before
 /// the start. Asked: they are.
 ///
 /// Never answered: `NotYours`, `Open`, `Busy`, `Contended`. No memory; any number of steps on words.

@@ -91,8 +91,8 @@ fn records_of_many_segments(rt: HostRuntime) -> Result<(), Fail> {
     Ok(())
 }
 
-/// A capture without records leaves the end marks of all workers side by side on the input ring: each worker takes one of
-/// them, whatever it saw at its peek, or the run wouldn't end.
+/// A capture without records leaves the end marks of all workers side by side on the input ring: each worker takes one
+/// of them, whatever it saw at its peek, or the run wouldn't end.
 #[test]
 fn one_record_and_none(rt: HostRuntime) -> Result<(), Fail> {
     let settings = Settings::read(rt.alloc(), TWO_PORTS.as_bytes())?;
