@@ -1,7 +1,7 @@
 //! Words that are numbers.
 
 ghost use Rattle.std.specs.Prelude.{◌≡◌, ◌≤◌, length, IsTrue};
-ghost use Rattle.lines.specs.Text.{number_of, is_digits, has_up_to, digits_value};
+ghost use Rattle.lines.specs.Text.{number_of, is_digit, is_digits, has_up_to, digits_value};
 
 /// How many digits a number has at most.
 const MAX_DIGITS: usize = 20;
@@ -13,11 +13,11 @@ const FEW_DIGITS: usize = 19;
 pub fn number_of(word: &[u8]) -> Option<u64>
     ensures { result ≡ number_of word.now }
 {
+    if word.len() <= FEW_DIGITS {
+        return short_number(word);
+    }
     if !is_digits(word) {
         return None;
-    }
-    if word.len() <= FEW_DIGITS {
-        return Some(short_value(word));
     }
     u64::try_from(value(word)).ok()
 }
@@ -27,7 +27,7 @@ fn is_digits(word: &[u8]) -> bool
     ensures { result ≡ is_digits word.now }
 {
     let sized = has_up_to(MAX_DIGITS, word);
-    let digits = word.iter().all(|b| matches!(*b, b'0'..=b'9'));
+    let digits = word.iter().all(|b| is_digit(*b));
     sized && digits
 }
 
@@ -50,15 +50,26 @@ fn value(digits: &[u8]) -> u128
     value
 }
 
-/// The value of so few digits that it fits a word.
-fn short_value(digits: &[u8]) -> u64
-    requires digits { IsTrue (is_digits digits.now) }
-    requires few { length digits.now ≤ 19 }
-    ensures { result ≡ digits_value digits.now }
+/// The number that a word of so few bytes is: each byte is tested and counted in one pass.
+fn short_number(word: &[u8]) -> Option<u64>
+    requires { length word.now ≤ 19 }
+    ensures { result ≡ number_of word.now }
 {
+    if word.is_empty() {
+        return None;
+    }
     let mut value = 0u64;
-    for digit in digits {
+    for digit in word {
+        if !is_digit(*digit) {
+            return None;
+        }
         value = value * 10 + u64::from(*digit - b'0');
     }
-    value
+    Some(value)
+}
+
+fn is_digit(byte: u8) -> bool
+    ensures { result ≡ is_digit byte }
+{
+    matches!(byte, b'0'..=b'9')
 }

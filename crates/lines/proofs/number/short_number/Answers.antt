@@ -1,6 +1,6 @@
 use Rattle.std.proofs.Common.{ℕ, ◌<◌, ◌≤◌, ◌^◌, arith}
 use Rattle.std.proofs.Math.Nat.{pow-le-pow_right}
-use Rattle.lines.proofs.number.short_value.Goals as goal
+use Rattle.lines.proofs.number.short_number.Goals as goal
 
 -- a value of fewer digits than 19
 below : (i value : ℕ) → i < 19 → value < 10 ^ i → value < 10 ^ 18
@@ -12,10 +12,10 @@ below i value few small =
 
 pub overflow_mul-value : goal.overflow_mul-value
 overflow_mul-value c =
-    let small = below c.loop-digit.digit-index c.loop-digit.value (omega (arith, c.requires.few, c.loop-digit-test.true)) c.loop-digit.invariant.1 in
+    let small = below c.loop-digit.digit-index c.loop-digit.value (omega (arith, c.requires, c.loop-digit-test.true)) c.loop-digit.invariant.2 in
     record { fits = omega (arith, small) }
 
 pub overflow_add-value : goal.overflow_add-value
 overflow_add-value c =
-    let small = below c.loop-digit.digit-index c.loop-digit.value (omega (arith, c.requires.few, c.loop-digit-test.true)) c.loop-digit.invariant.1 in
-    record { fits = omega (arith, small, c.from.ensures, (c.type_inv.digits c.loop-digit.digit-index).fits) }
+    let small = below c.loop-digit.digit-index c.loop-digit.value (omega (arith, c.requires, c.loop-digit-test.true)) c.loop-digit.invariant.2 in
+    record { fits = omega (arith, small, c.from.ensures, (c.type_inv.word c.loop-digit.digit-index).fits) }
