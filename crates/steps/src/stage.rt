@@ -1,7 +1,7 @@
 //! Where a steps file stands: what its plan lines named, and the world once there was a step line. So it is here that a
 //! line is found to stand where it may not.
 
-ghost use Rattle.std.specs.Prelude.{◌≡◌, ℕ, [], IfOk, OnOk, Err, Some, None, IsTrue};
+ghost use Rattle.std.specs.Prelude.{◌≡◌, ℕ, [], IfOk, IfSome, OnOk, Err, Some, None, IsTrue, is_some, true};
 ghost use Rattle.ringcore.specs.Histories.{AgreesWith, IsRight};
 ghost use Rattle.steps.specs.Plans.{named, opened, IsLawful};
 ghost use Rattle.steps.specs.Replies.{State, start, running, is_step};
@@ -96,15 +96,17 @@ impl Stage {
         ensures number { (n : ℕ) → result ≡ Err (TextFault.BadLine n) → n ≡ number }
         ensures plan { result ≡ Err TextFault.BadPlan → (s : State) → Keeps self.old s → PlanRefused s }
     {
-        let mut world = self.take_world(alloc)?;
+        self.open_world(alloc)?;
+        let Some(world) = &mut self.world else {
+            unreachable!()
+        };
         if !world.knows(actor, &step) {
             return Err(TextFault::BadLine(number));
         }
         let rings = self.draft.rings.as_slice();
-        if answer_step(&mut world, rings, actor, step, reply).is_err() {
+        if answer_step(world, rings, actor, step, reply).is_err() {
             return Err(TextFault::Memory);
         }
-        self.world = Some(world);
         Ok(())
     }
 
@@ -115,11 +117,13 @@ impl Stage {
         ensures never { (n : ℕ) → result ≡ Err (TextFault.BadLine n) → ⊥ }
         ensures plan { result ≡ Err TextFault.BadPlan → (s : State) → Keeps self.old s → PlanRefused s }
     {
-        let world = self.take_world(alloc)?;
-        if answer_place(&world, b, reply).is_err() {
+        self.open_world(alloc)?;
+        let Some(world) = &self.world else {
+            unreachable!()
+        };
+        if answer_place(world, b, reply).is_err() {
             return Err(TextFault::Memory);
         }
-        self.world = Some(world);
         Ok(())
     }
 
@@ -129,28 +133,27 @@ impl Stage {
         ensures never { (n : ℕ) → result ≡ Err (TextFault.BadLine n) → ⊥ }
         ensures plan { result ≡ Err TextFault.BadPlan → (s : State) → Keeps self.old s → PlanRefused s }
     {
-        let _world = self.take_world(alloc)?;
-        Ok(())
+        self.open_world(alloc)
     }
 
-    /// The world that the steps so far left, or the one that the plan opens. It is no longer kept then.
-    fn take_world(&mut self, alloc: Global) -> Result<World, TextFault>
-        ensures opened { IfOk result (λ world. (s : State) → Keeps self.old s → IsRunning s.plan world (running s)) }
+    /// Opens the world of the plan, unless a step line did. It stays where it is: a step moves no world.
+    fn open_world(&mut self, alloc: Global) -> Result<(), TextFault>
+        ensures there { OnOk result (is_some self.new.world ≡ true) }
+        ensures opened { OnOk result ((s : State) → Keeps self.old s
+            → IfSome self.new.world (λ world. IsRunning s.plan world (running s))) }
         ensures kept { self.new.draft ≡ self.old.draft }
         ensures never { (n : ℕ) → result ≡ Err (TextFault.BadLine n) → ⊥ }
         ensures plan { result ≡ Err TextFault.BadPlan → (s : State) → Keeps self.old s → PlanRefused s }
     {
-        match self.world.take() {
-            Some(world) => Ok(world),
-            None => {
-                let world = open(alloc, &self.draft)?;
-                Ok(world)
-            }
+        if self.world.is_none() {
+            self.world = Some(open(alloc, &self.draft)?);
         }
+        Ok(())
     }
 }
 
-/// Opens the world of a plan.
+/// Opens the world of a plan. Called once for a file: what a step calls stays small without it.
+#[inline(never)]
 fn open(alloc: Global, draft: &Draft) -> Result<World, TextFault>
     ensures lawful { OnOk result (IsLawful (named draft.now)) }
     ensures opened { IfOk result (λ world. AgreesWith world (opened (named draft.now))

@@ -1,6 +1,7 @@
-use Rattle.std.proofs.Common.{◌≡◌, ◌++◌, List, Result, Ok, Err, OnOk, true, false, sym, ap, ◌∙◌, codes, rules}
+use Rattle.std.proofs.Common.{◌≡◌, ◌++◌, List, Result, Ok, Err, OnOk, Option, Some, IfSome, true, false, sym, ap, ◌∙◌, codes, rules, subst}
 use Rattle.std.specs.Prelude.{is_err}
 use Rattle.geom.specs.declared.plan.RingPlan.{RingPlan}
+use Rattle.ringcore.specs.declared.world.World.{World}
 use Rattle.steps.specs.Plans.{Named, named}
 use Rattle.steps.specs.Replies.{running, reply_in, answer_text, mode_shown}
 use Rattle.steps.specs.Standing.{IsRunning}
@@ -20,9 +21,10 @@ returns-clause-ok c =
     let told = held c.answer_step.result well c.answer_step.ensures.reply in
     λ s keeps.
     let h = running s in
-    let runs : IsRunning s.plan c.in_ok-world.world h = c.in_ok-world.ensures.opened s keeps in
+    let runs : IsRunning s.plan c.in-Some.world h =
+    subst (λ (o : Option World). IfSome o (λ w. IsRunning s.plan w h)) c.in-Some.is (c.in_ok-open_world.ensures.opened s keeps) in
     let both = planned_is h c.args.actor c.args.step c.knows.result (c.knows.ensures.planned h runs.agrees) in
-    let plan : named c.take_world.new.self.draft ≡ s.plan = ap named c.take_world.ensures.kept ∙ keeps.plan in
+    let plan : named c.open_world.new.self.draft ≡ s.plan = ap named c.open_world.ensures.kept ∙ keeps.plan in
     let after = world h runs.agrees runs.right in
     let rings : c.as_slice-rings.result.now ≡ s.plan.rings =
     c.as_slice-rings.ensures.value ∙ ap (λ (p : Named). p.rings) plan in
