@@ -3,6 +3,7 @@
 ghost use Rattle.std.specs.Prelude.{◌≡◌, drop, IfOk};
 ghost use Rattle.std.specs.Vec.Iter.{into_iter_items};
 
+use crate::help;
 use clap::builder::ValueParser;
 use clap::error::ErrorKind;
 use clap::{Arg, ArgAction, ArgMatches, Command, Error};
@@ -72,7 +73,8 @@ fn run_files<'a>(run: &ArgMatches<'a>) -> Option<RunFiles<'a>> {
 
 /// The refusal of a run that isn't told each of its files.
 fn lacks_a_file(alloc: Global) -> Result<Error, Error> {
-    let error = run_command(alloc)?.error(
+    let mut run = run_command(alloc)?.bin_name("pktkit run")?;
+    let error = run.error(
         ErrorKind::MissingRequiredArgument,
         "a run needs settings, a capture and a prefix",
     )?;
@@ -81,18 +83,17 @@ fn lacks_a_file(alloc: Global) -> Result<Error, Error> {
 
 /// The command line of `pktkit`.
 fn pktkit<'a>(alloc: Global) -> Result<Command<'a>, Error> {
-    let ring = of_a_file(
-        alloc,
-        "ring",
-        "Prints the replies to a file of ring commands",
-    )?;
-    let steps = of_a_file(
-        alloc,
-        "steps",
-        "Prints the replies to a file of atomic steps",
-    )?;
+    let ring = of_a_file(alloc, "ring", "Ring commands, one a line")?
+        .about("Prints the replies to a file of ring commands")
+        .after_help(help::RING);
+    let steps = of_a_file(alloc, "steps", "A plan, and then atomic steps, one a line")?
+        .about("Prints the replies to a file of atomic steps on shared rings")
+        .after_help(help::STEPS);
     let command = Command::new(alloc, "pktkit")
+        .bin_name("pktkit")?
+        .version(help::VERSION)
         .about("Rings, packet buffers and routes, proved")
+        .after_help(help::PROGRAM)
         .no_binary_name(true)
         .subcommand_required(true)
         .subcommand(ring)?
@@ -112,13 +113,24 @@ fn run_command<'a>(alloc: Global) -> Result<Command<'a>, Error> {
         .help("How many threads judge packets, 0 to 16; with 0 one thread does all");
     let command = Command::new(alloc, "run")
         .about("Forwards a capture by routes, and prints a report")
-        .arg(path(alloc, "config", "FILE", "The settings, a TOML document"))?
-        .arg(path(alloc, "in", "FILE", "The capture, a pcap file"))?
+        .after_help(help::RUN)
+        .arg(path(
+            alloc,
+            "config",
+            "FILE",
+            "The settings, a TOML document; required",
+        ))?
+        .arg(path(
+            alloc,
+            "in",
+            "FILE",
+            "The capture, a classic pcap file; required",
+        ))?
         .arg(path(
             alloc,
             "out",
             "PREFIX",
-            "Port 0 is written to PREFIX.0.pcap, and so on",
+            "Port 0 is written to PREFIX.0.pcap, and so on; required",
         ))?
         .arg(workers)?;
     Ok(command)
@@ -135,11 +147,11 @@ fn path<'a>(alloc: Global, name: &'a str, value: &'a str, help: &'a str) -> Arg<
 }
 
 /// A subcommand that names a file.
-fn of_a_file<'a>(alloc: Global, name: &'a str, about: &'a str) -> Result<Command<'a>, Error> {
+fn of_a_file<'a>(alloc: Global, name: &'a str, help: &'a str) -> Result<Command<'a>, Error> {
     let file = Arg::new(alloc, "FILE")
         .required(true)
         .action(ArgAction::Set)
-        .help("A file of commands");
-    let command = Command::new(alloc, name).about(about).arg(file)?;
+        .help(help);
+    let command = Command::new(alloc, name).arg(file)?;
     Ok(command)
 }

@@ -4,6 +4,7 @@
 
 mod command_line;
 mod fault;
+mod help;
 mod program;
 mod ring_answer;
 mod ring_command;

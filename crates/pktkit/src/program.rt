@@ -19,9 +19,9 @@ use steps::steps_text;
 /// The name that stands for the input where no file is named.
 const INPUT: &str = "-";
 
-/// Runs the program and tells its status: 0 where all went well or help was asked for, 1 after a fault, which is
-/// told in one line on `err`, and 2 where the command line is refused. Where `out` fails, that is the one fault
-/// that is told; where `err` fails, the status stays.
+/// Runs the program and tells its status: 0 where all went well, or help or the version was asked for, 1 after a
+/// fault, which is told in one line on `err`, and 2 where the command line is refused. Where `out` fails, that is the
+/// one fault that is told; where `err` fails, the status stays.
 pub fn program<
     R: Files + AllocGlobal,
     T: Threads + Wait + Sync,

@@ -12,6 +12,7 @@ use std::thread::Threads;
 mod captures;
 mod faults;
 mod forms;
+mod help;
 mod no_memory;
 mod rows;
 mod run_faults;

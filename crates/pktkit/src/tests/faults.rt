@@ -1,6 +1,6 @@
-//! Files, devices that fail, and statuses of the command line.
+//! Files, and devices that fail.
 
-use super::{Ran, run};
+use super::run;
 use crate::program::program;
 use std::fs;
 use std::io::{self, ErrorKind, Read, Write};
@@ -125,42 +125,5 @@ fn an_error_stream_that_fails(rt: HostRuntime) -> Result<(), Fail> {
         program(&rt, &rt, &[], b"count\n".as_slice(), &mut out, &mut Broken),
         0
     );
-    Ok(())
-}
-
-#[test]
-fn refused_command_lines(rt: HostRuntime) -> Result<(), Fail> {
-    let lines: [&[&str]; 9] = [
-        &["ring"],
-        &["ring", "a", "b"],
-        &["rings", "a"],
-        &["steps"],
-        &["run"],
-        &["run", "--in", "a", "--out", "b"],
-        &["run", "--config", "a", "--out", "b"],
-        &["run", "--config", "a", "--in", "b"],
-        &["ring", "--loud", "a"],
-    ];
-    for words in lines {
-        let ran = run(&rt, words, b"count\n")?;
-        assert_eq!(rt; (ran.status, ran.out.len()), (2, 0));
-        assert!(rt; ran.err.len() > 0);
-    }
-    Ok(())
-}
-
-#[test]
-fn help(rt: HostRuntime) -> Result<(), Fail> {
-    let lines: [&[&str]; 4] = [
-        &["--help"],
-        &["-h"],
-        &["ring", "--help"],
-        &["run", "--help"],
-    ];
-    for words in lines {
-        let Ran { status, out, err } = run(&rt, words, b"count\n")?;
-        assert_eq!(rt; (status, err.len()), (0, 0));
-        assert!(rt; out.len() > 0);
-    }
     Ok(())
 }

@@ -1,5 +1,5 @@
-//! Worked steps files for lines of the protocol's table that another protocol, as plausible, would answer otherwise. What is
-//! expected was computed by hand from the table.
+//! Worked steps files for lines of the protocol's table that another protocol, as plausible, would answer otherwise.
+//! What is expected was computed by hand from the table.
 
 use super::expect_replies;
 use std::test::Fail;
@@ -9,8 +9,8 @@ type Row = (&'static str, &'static str);
 
 const HTS: &str = "ring exact 3 hts\nactors 2\n";
 
-/// A Busy look leaves no look, also where there was one before; and an HTS side shows its two numbers where a Reserve is
-/// contended, which ends the look as well.
+/// A Busy look leaves no look, also where there was one before; and an HTS side shows its two numbers where a Reserve
+/// is contended, which ends the look as well.
 const BUSY_AND_CONTENDED: [Row; 18] = [
     ("0 look 0 put", "seen 0+0"),
     ("0 room 0 put", "seen 0"),
@@ -61,8 +61,8 @@ const REFUSED_RESERVES: [Row; 21] = [
 
 const TWO_RINGS: &str = "ring power 4 multi\nring power 4 multi\nactors 2\ngive 0 0\ngive 1 1\n";
 
-/// BadCount, then NotYours, then NotYet; a cached buffer goes on no ring; a buffer is told at its own ring and position,
-/// however many items are in front of it.
+/// BadCount, then NotYours, then NotYet; a cached buffer goes on no ring; a buffer is told at its own ring and
+/// position, however many items are in front of it.
 const SETTLES_AND_PLACES: [Row; 26] = [
     ("0 look 1 put", "seen 0"),
     ("0 room 1 put", "seen 0"),
