@@ -10,6 +10,7 @@ use std::test::Fail;
 use std::thread::Threads;
 
 mod captures;
+mod examples;
 mod faults;
 mod forms;
 mod help;
