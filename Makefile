@@ -1,4 +1,4 @@
-# Thin targets over the kit's command `rt`, which has to be on the path.
+# Thin targets over the kit's command `rt`, which has to be on the path. `make help` lists them.
 
 CONFIG ?= examples/router.toml
 IN ?= examples/traffic.pcap
@@ -7,10 +7,26 @@ WORKERS ?= 2
 PREFIX ?= /usr/local
 NAME ?= run
 
-.PHONY: run compare test build install bench
+BIN = $(DESTDIR)$(PREFIX)/bin
+SHARE = $(DESTDIR)$(PREFIX)/share
 
-# Runs pktkit's main job on the examples by so many workers, built without proofs: the report is printed, the captures of
-# the ports are OUT.0.pcap, OUT.1.pcap and so on. What the build says is shown where the run fails.
+.PHONY: help run compare test build install uninstall bench
+
+# The first of all targets is what `make` alone does.
+help:
+	@echo 'make run        forwards $(IN) by $(CONFIG), by a pktkit without proofs: 2 minutes'
+	@echo 'make compare    the same by one thread, and that each port has the same bytes; after make run: 2 minutes'
+	@echo 'make build      proves pktkit and what it stands on, and builds it: 35 minutes, then what has changed'
+	@echo 'make install    make build; the program, its man page and completions go below PREFIX ($(PREFIX)): seconds'
+	@echo 'make uninstall  removes these again: at once'
+	@echo 'make test       the merge gate: every proof from nothing, must-fail edits, tests, programs: 170 minutes'
+	@echo 'make bench      measures one part beside its yardstick, NAME=$(NAME): minutes, on a quiet machine'
+	@echo
+	@echo 'Minutes are of one processor; several work side by side where there are several. What can be set, as in'
+	@echo 'make run WORKERS=0: CONFIG IN OUT WORKERS of run and compare, PREFIX DESTDIR of install, NAME of bench'
+
+# Runs pktkit's main job on the examples by so many workers, built without proofs: the report is printed, the captures
+# of the ports are OUT.0.pcap, OUT.1.pcap and so on. What the build says is shown where the run fails.
 run: WORDS = run --workers $(WORKERS) --config $(abspath $(CONFIG)) --in $(abspath $(IN)) --out $(abspath $(OUT))
 run: LOG = $(abspath $(OUT)).log
 run:
@@ -29,12 +45,23 @@ compare:
 test:
 	rt ci
 
-# Proves pktkit and what it stands on, and leaves the program in crates/pktkit/out.
+# Proves pktkit and what it stands on, and leaves the program in crates/pktkit/out. The program names the toolchain that
+# proved its source, so another one has to be written there first.
 build:
 	cd crates/pktkit && rt run < /dev/null > /dev/null
+	@crates/pktkit/out/pktkit --version | grep -qF "$$(rt version)" || { \
+	  echo "make build: VERSION in crates/pktkit/src/help.rt doesn't name this toolchain, $$(rt version)" >&2; exit 1; }
 
 install: build
-	install -D -m 755 crates/pktkit/out/pktkit $(DESTDIR)$(PREFIX)/bin/pktkit
+	install -D -m 755 crates/pktkit/out/pktkit $(BIN)/pktkit
+	install -D -m 644 man/pktkit.1 $(SHARE)/man/man1/pktkit.1
+	install -D -m 644 completions/pktkit.bash $(SHARE)/bash-completion/completions/pktkit
+	install -D -m 644 completions/_pktkit $(SHARE)/zsh/site-functions/_pktkit
+	install -D -m 644 completions/pktkit.fish $(SHARE)/fish/vendor_completions.d/pktkit.fish
+
+uninstall:
+	rm -f $(BIN)/pktkit $(SHARE)/man/man1/pktkit.1 $(SHARE)/bash-completion/completions/pktkit
+	rm -f $(SHARE)/zsh/site-functions/_pktkit $(SHARE)/fish/vendor_completions.d/pktkit.fish
 
 # Measures one part beside its yardstick: make bench NAME=run
 bench:
