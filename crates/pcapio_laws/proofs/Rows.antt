@@ -1,5 +1,5 @@
 -- The worked rows.
-use Rattle.std.proofs.Common.{◌≡◌, ℕ, ◌<◌, List, [], ◌∷◌, length, take, drop, get_or, true, false, refl, ap, arith, inl, inr}
+use Rattle.std.proofs.Common.{◌≡◌, ◌≢◌, ℕ, ◌<◌, List, [], ◌∷◌, length, take, drop, get_or, true, false, refl, ap, arith, inl, inr}
 use Rattle.std.proofs.lemmas.List.{length-take}
 use Rattle.pcapio_laws.specs.declared.fault.CapFault.TheVariants.{NotPcap, BadVersion, BadLink, BadRecord}
 use Rattle.pcapio_laws.specs.declared.format.ByteOrder.TheVariants.{Little, Big}
@@ -34,16 +34,24 @@ ignored_high =
     let len : length (with_byte 22 4 (with_byte 23 5 header_alone)) ≡ 24 = refl in
     record { header = record { whole = omega arith; magic = refl; version = (refl, refl); link = refl }; records = refl }
 
--- bytes that begin with 213, as no magic does
-no_magic : (rest : List ℕ) → HasNoMagic (213 ∷ 195 ∷ 178 ∷ 161 ∷ rest)
-no_magic rest Little Micro m = let n : ◌≡◌ {A = ℕ} 213 212 = ap (λ (l : List ℕ). get_or l 0 0) m in absurd (omega arith)
-no_magic rest Little Nano m = let n : ◌≡◌ {A = ℕ} 213 77 = ap (λ (l : List ℕ). get_or l 0 0) m in absurd (omega arith)
-no_magic rest Big Micro m = let n : ◌≡◌ {A = ℕ} 213 161 = ap (λ (l : List ℕ). get_or l 0 0) m in absurd (omega arith)
-no_magic rest Big Nano m = let n : ◌≡◌ {A = ℕ} 213 161 = ap (λ (l : List ℕ). get_or l 0 0) m in absurd (omega arith)
+-- bytes that begin as no magic does
+no_magic : (first : ℕ) (rest : List ℕ) → first ≢ 212 → first ≢ 77 → first ≢ 161 → HasNoMagic (first ∷ rest)
+no_magic first rest micro nano big Little Micro m = absurd (micro (ap (λ (l : List ℕ). get_or l 0 0) m))
+no_magic first rest micro nano big Little Nano m = absurd (nano (ap (λ (l : List ℕ). get_or l 0 0) m))
+no_magic first rest micro nano big Big Micro m = absurd (big (ap (λ (l : List ℕ). get_or l 0 0) m))
+no_magic first rest micro nano big Big Nano m = absurd (big (ap (λ (l : List ℕ). get_or l 0 0) m))
 
 -- no magic, and a bad version too
 pub not_pcap : IsCase (with_byte 0 213 (with_byte 4 3 header_alone)) (Refused NotPcap)
-not_pcap = Other (no_magic (drop 4 (with_byte 4 3 header_alone)))
+not_pcap = Other (no_magic 213 (drop 1 (with_byte 4 3 header_alone)) (λ e. omega arith) (λ e. omega arith) (λ e. omega arith))
+
+-- the magic of captures with longer record headers, and the one that begins a pcapng file
+pub modified : IsCase (with_byte 0 52 (with_byte 1 205 header_alone)) (Refused NotPcap)
+modified = Other (no_magic 52 (drop 1 (with_byte 1 205 header_alone)) (λ e. omega arith) (λ e. omega arith) (λ e. omega arith))
+
+pub next_format : IsCase (with_byte 0 10 (with_byte 1 13 (with_byte 2 13 (with_byte 3 10 header_alone)))) (Refused NotPcap)
+next_format =
+    Other (no_magic 10 (drop 1 (with_byte 1 13 (with_byte 2 13 (with_byte 3 10 header_alone)))) (λ e. omega arith) (λ e. omega arith) (λ e. omega arith))
 
 -- major version 3, and another link type too
 pub bad_major : IsCase (with_byte 4 3 (with_byte 20 2 header_alone)) (Refused BadVersion)
@@ -78,6 +86,54 @@ bad_link =
       magic = refl;
       version = (refl, refl);
       link = λ l. (let n : ◌≡◌ {A = ℕ} 2 1 = l in omega arith);
+    }
+
+-- versions before 2.4
+pub old_major : IsCase (with_byte 4 1 header_alone) (Refused BadVersion)
+old_major =
+    let len : length (with_byte 4 1 header_alone) ≡ 24 = refl in
+    record {
+      order = Little;
+      resolution = Micro;
+      whole = omega arith;
+      magic = refl;
+      version = λ v. (let n : ◌≡◌ {A = ℕ} 1 2 = v.0 in omega arith);
+    }
+
+pub old_minor : IsCase (with_byte 6 3 header_alone) (Refused BadVersion)
+old_minor =
+    let len : length (with_byte 6 3 header_alone) ≡ 24 = refl in
+    record {
+      order = Little;
+      resolution = Micro;
+      whole = omega arith;
+      magic = refl;
+      version = λ v. (let n : ◌≡◌ {A = ℕ} 3 4 = v.1 in omega arith);
+    }
+
+-- the link type before that of Ethernet, and one whose lowest byte alone is Ethernet's
+pub no_link : IsCase (with_byte 20 0 header_alone) (Refused BadLink)
+no_link =
+    let len : length (with_byte 20 0 header_alone) ≡ 24 = refl in
+    record {
+      order = Little;
+      resolution = Micro;
+      whole = omega arith;
+      magic = refl;
+      version = (refl, refl);
+      link = λ l. (let n : ◌≡◌ {A = ℕ} 0 1 = l in omega arith);
+    }
+
+pub high_link : IsCase (with_byte 21 1 header_alone) (Refused BadLink)
+high_link =
+    let len : length (with_byte 21 1 header_alone) ≡ 24 = refl in
+    record {
+      order = Little;
+      resolution = Micro;
+      whole = omega arith;
+      magic = refl;
+      version = (refl, refl);
+      link = λ l. (let n : ◌≡◌ {A = ℕ} 257 1 = l in omega arith);
     }
 
 header_of : (rest : List ℕ) → HasHeader (behind_header rest) Little Micro
@@ -136,6 +192,12 @@ one_of_none =
 pub short : IsCase (take 23 header_alone) (Refused NotPcap)
 short =
     let len : length (take 23 header_alone) ≡ 23 = refl in
+    Short (omega arith)
+
+-- a header that isn't whole, and has a bad version and another link type
+pub short_first : IsCase (take 23 (with_byte 4 3 (with_byte 20 2 header_alone))) (Refused NotPcap)
+short_first =
+    let len : length (take 23 (with_byte 4 3 (with_byte 20 2 header_alone))) ≡ 23 = refl in
     Short (omega arith)
 
 pub short_file : (n : ℕ) → n < 24 → IsCase (take n torn_file) (Refused NotPcap)

@@ -30,7 +30,8 @@ pub fn one_case()
     ensures one { (bytes : List ℕ) (a b : Case) → IsCase bytes a → IsCase bytes b → a ≡ b }
 {}
 
-/// Headers: each magic, what is ignored, and each refusal in the order of the tests.
+/// Headers: each magic and two that are none, what is ignored, versions and link types on both sides of the right one,
+/// and each refusal in the order of the tests.
 pub fn worked_headers()
     ensures alone { IsCase header_alone (empty_file Little Micro) }
     ensures little_nano { IsCase (with_byte 0 77 (with_byte 1 60 header_alone)) (empty_file Little Nano) }
@@ -40,6 +41,14 @@ pub fn worked_headers()
     ensures ignored { IsCase (with_byte 8 1 (with_byte 12 2 (with_byte 16 3 header_alone))) (empty_file Little Micro) }
     ensures short { IsCase (take 23 header_alone) (Refused NotPcap) }
     ensures not_pcap { IsCase (with_byte 0 213 (with_byte 4 3 header_alone)) (Refused NotPcap) }
+    ensures short_first { IsCase (take 23 (with_byte 4 3 (with_byte 20 2 header_alone))) (Refused NotPcap) }
+    ensures modified { IsCase (with_byte 0 52 (with_byte 1 205 header_alone)) (Refused NotPcap) }
+    ensures next_format { IsCase (with_byte 0 10 (with_byte 1 13 (with_byte 2 13 (with_byte 3 10 header_alone))))
+        (Refused NotPcap) }
+    ensures old_major { IsCase (with_byte 4 1 header_alone) (Refused BadVersion) }
+    ensures old_minor { IsCase (with_byte 6 3 header_alone) (Refused BadVersion) }
+    ensures no_link { IsCase (with_byte 20 0 header_alone) (Refused BadLink) }
+    ensures high_link { IsCase (with_byte 21 1 header_alone) (Refused BadLink) }
     ensures bad_major { IsCase (with_byte 4 3 (with_byte 20 2 header_alone)) (Refused BadVersion) }
     ensures bad_minor { IsCase (with_byte 6 5 header_alone) (Refused BadVersion) }
     ensures bad_link { IsCase (with_byte 20 2 header_alone) (Refused BadLink) }
