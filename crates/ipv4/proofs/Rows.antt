@@ -1,11 +1,15 @@
 -- Worked frames, computed by the definitions: each row of the table of drops, each two tests of which both hold, and what is sent.
-use Rattle.std.proofs.Common.{◌≡◌, ℕ, List, [], ◌∷◌, ◌++◌, true, false, take, Option, Some, None, refl, ap}
+use Rattle.std.proofs.Common.{◌≡◌, ℕ, List, [], ◌∷◌, ◌++◌, true, false, take, replicate, Option, Some, None, slice_get, refl, ap}
+use Rattle.std.specs.Option.{option_map, option_and_then}
 use Rattle.lpm.specs.Prefixes.{Members}
+use Rattle.ipv4.specs.declared.ports.Hop.{Hop}
 use Rattle.ipv4.specs.declared.ports.Ports.{Ports}
 use Rattle.ipv4.specs.declared.ports.Way.{Way}
 use Rattle.ipv4.specs.declared.verdicts.Reason.{Reason}
 use Rattle.ipv4.specs.declared.verdicts.Verdict.{Verdict}
 use Rattle.ipv4.specs.Checksum.{ones_complement_sum, complement}
+use Rattle.ipv4.specs.Fields.{destination_of}
+use Rattle.ipv4.specs.Ports.{way_of, leaving}
 use Rattle.ipv4.specs.Forwarding.{drops, first_reason, way_from, way_or, judged, outcome_of, forwarded, renewed, rewritten}
 
 -- a header from 10.0.0.1 to 10.1.2.3 with protocol 17: its first byte, total length, time to live and checksum
@@ -94,6 +98,49 @@ others : (reason_of (tagged right) 38 ≡ None)
 unfolding ones_complement_sum header numbered right plain tagged optional reason_of
 others = (refl, refl, refl, refl, refl, refl, refl, refl)
 
+-- types are told by both of their bytes: ARP, a type that ends as that of IPv4, one that begins as that of a tag, and the tags of 802.1ad and before it are others
+before : ℕ → ℕ → List ℕ
+before high low = typed high low (0x00 ∷ 0x05 ∷ 0x08 ∷ 0x00 ∷ right)
+
+other_types : (reason_of (typed 0x08 0x06 right) 34 ≡ Some Reason.NotIpv4)
+    × (reason_of (typed 0x86 0x00 right) 34 ≡ Some Reason.NotIpv4)
+    × (reason_of (before 0x81 0x37) 38 ≡ Some Reason.NotIpv4)
+    × (reason_of (before 0x88 0xa8) 38 ≡ Some Reason.NotIpv4)
+    × (reason_of (before 0x91 0x00) 38 ≡ Some Reason.NotIpv4)
+unfolding ones_complement_sum header right plain typed before reason_of
+other_types = (refl, refl, refl, refl, refl)
+
+-- the version before and the one behind, and the least and the greatest time to live that are sent
+beside : (reason_of (plain (header 0x35 0x14 0x40 0x74 0xd5)) 34 ≡ Some Reason.BadHeader)
+    × (reason_of (plain (header 0x55 0x14 0x40 0x54 0xd5)) 34 ≡ Some Reason.BadHeader)
+    × (reason_of (plain (header 0x45 0x14 0x02 0xa2 0xd5)) 34 ≡ None)
+    × (reason_of (plain (header 0x45 0x14 0xff 0xa5 0xd4)) 34 ≡ None)
+unfolding ones_complement_sum header plain reason_of
+beside = (refl, refl, refl, refl)
+
+-- a header whose other fields all are others: a service, an identification, a fragment in the middle with more behind it, TCP, and addresses of a private net and of a group
+foreign : ℕ → ℕ → ℕ → List ℕ
+foreign time high low =
+    0x45 ∷ 0xb8 ∷ 0 ∷ 0x14 ∷ 0x12 ∷ 0x34 ∷ 0x20 ∷ 0xb9 ∷ time ∷ 0x06 ∷ high ∷ low ∷ 0xc0 ∷ 0xa8 ∷ 0x07 ∷ 0x09 ∷ 0xe0 ∷ 0 ∷ 0 ∷ 0xfb ∷ []
+
+-- a header of 60 bytes
+longest : List ℕ
+longest = header 0x4f 0x3c 0x40 0x46 0x99 ++ replicate 40 1
+
+-- a header whose packet has 1500 bytes
+cut : List ℕ
+cut = 0x45 ∷ 0 ∷ 0x05 ∷ 0xdc ∷ 0 ∷ 0 ∷ 0 ∷ 0 ∷ 0x40 ∷ 0x11 ∷ 0x5f ∷ 0x0d ∷ 0x0a ∷ 0 ∷ 0 ∷ 0x01 ∷ 0x0a ∷ 0x01 ∷ 0x02 ∷ 0x03 ∷ []
+
+-- the fields of the table alone decide, and lengths are told by both of their bytes: of 1500 bytes of a packet 46 were captured
+other_fields : (reason_of (plain (foreign 0x40 0x9e 0x92)) 34 ≡ None)
+    × (renewed (foreign 0x40 0x9e 0x92) ≡ foreign 0x3f 0x9f 0x92)
+    × (reason_of (plain longest) 74 ≡ None)
+    × (reason_of (plain (cut ++ replicate 26 0)) 1514 ≡ None)
+    × (reason_of (plain (cut ++ replicate 26 0)) 1513 ≡ Some Reason.BadLength)
+    × (destination_of right ≡ 0x0a010203)
+unfolding ones_complement_sum renewed header right plain foreign longest reason_of cut
+other_fields = (refl, refl, refl, refl, refl, refl)
+
 -- what is written over a right checksum: also where it was 0xFFFF for 0, and where it becomes 0
 renewals : (renewed right ≡ header 0x45 0x14 0x3f 0x65 0xd5) × (renewed (optional 0x61 0xd0) ≡ header 0x46 0x18 0x3f 0x62 0xd0 ++ (1 ∷ 1 ∷ 1 ∷ 0 ∷ []))
     × (renewed (numbered 0x64 0xd5 0x40 0xff 0xff) ≡ numbered 0x64 0xd5 0x3f 0x01 0x00)
@@ -104,6 +151,17 @@ renewals = (refl, refl, refl, refl)
 -- the way by port 7, and the frame as it leaves there
 way : Way
 way = record { port = 7; to = to; from = from }
+
+-- a hop number leads by its own entry's port, with the address of that port; it leads nowhere without an entry, or where its port has none
+ways : (ports : Ports) → ports.hops.items ≡ record { port = 1; to = to } ∷ record { port = 0; to = from } ∷ record { port = 2; to = to } ∷ []
+    → ports.sources.items ≡ from ∷ to ∷ []
+    → (way_of ports 0 ≡ Some (record { port = 1; to = to; from = to })) × (way_of ports 1 ≡ Some (record { port = 0; to = from; from = from }))
+    × (way_of ports 2 ≡ None) × (way_of ports 3 ≡ None)
+ways ports hops sources = (led 0, led 1, led 2, led 3)
+  where
+    led : (hop : ℕ) → way_of ports hop ≡ option_and_then (λ (entry : Hop). option_map (leaving entry) (slice_get (from ∷ to ∷ []) entry.port))
+        (slice_get (record { port = 1; to = to } ∷ record { port = 0; to = from } ∷ record { port = 2; to = to } ∷ []) hop)
+    led hop k = option_and_then (λ (entry : Hop). option_map (leaving entry) (slice_get (sources k) entry.port)) (slice_get (hops k) hop)
 
 left : List ℕ → List ℕ → List ℕ
 left between packet = to ++ from ++ between ++ packet
