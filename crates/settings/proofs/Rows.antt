@@ -56,36 +56,47 @@ pub prefixes : map prefix_in (
     ∷ codes "10.0.0.0 /8"
     ∷ codes "10.0.0.+1/8"
     ∷ codes "10.0.0.1000/8"
+    ∷ codes "10.0.0.:/8"
+    ∷ codes "10.0.0.0/:"
     ∷ [])
-    ≡ Some (167772160, 8) ∷ Some (167838211, 32) ∷ Some (4294967295, 1) ∷ Some (0, 10) ∷ None ∷ None ∷ None ∷ None ∷ None ∷ None ∷ None ∷ None ∷ None ∷ None ∷ None ∷ None ∷ None ∷ None ∷ None ∷ []
+    ≡ Some (167772160, 8) ∷ Some (167838211, 32) ∷ Some (4294967295, 1) ∷ Some (0, 10) ∷ None ∷ None ∷ None ∷ None ∷ None ∷ None ∷ None ∷ None ∷ None ∷ None ∷ None ∷ None ∷ None ∷ None ∷ None ∷ None ∷ None ∷ []
 prefixes = refl
 
--- the table of numbers: the least and the greatest value and what is beside them, and what is taken where the key is missing
-abbrev numbers_at : Key → List ℕ → List Bool
-numbers_at key ns = map (λ n. is_ok (number_by key (Some (integer (pos n))))) ns
+-- the table of numbers: the least and the greatest value, what is beside them on both sides, and an odd one between, each taken as it is written; and what is taken
+-- where the key is missing
+abbrev numbers_at : Key → List ℕ → List (Result ℕ SettingsFault)
+numbers_at key ns = map (λ n. number_by key (Some (integer (pos n)))) ns
 
-pub buffers_row : numbers_at Buffers (0 ∷ 1 ∷ 65536 ∷ 65537 ∷ []) ≡ false ∷ true ∷ true ∷ false ∷ []
+pub buffers_row : numbers_at Buffers (0 ∷ 1 ∷ 3 ∷ 65535 ∷ 65536 ∷ 65537 ∷ [])
+    ≡ Err (BadValue Buffers) ∷ Ok 1 ∷ Ok 3 ∷ Ok 65535 ∷ Ok 65536 ∷ Err (BadValue Buffers) ∷ []
 buffers_row = refl
 
-pub headroom_row : numbers_at Headroom (0 ∷ 1024 ∷ 1025 ∷ []) ≡ true ∷ true ∷ false ∷ []
+pub headroom_row : numbers_at Headroom (0 ∷ 1 ∷ 1023 ∷ 1024 ∷ 1025 ∷ [])
+    ≡ Ok 0 ∷ Ok 1 ∷ Ok 1023 ∷ Ok 1024 ∷ Err (BadValue Headroom) ∷ []
 headroom_row = refl
 
-pub room_row : numbers_at Room (63 ∷ 64 ∷ 65536 ∷ 65537 ∷ []) ≡ false ∷ true ∷ true ∷ false ∷ []
+pub room_row : numbers_at Room (63 ∷ 64 ∷ 65 ∷ 65535 ∷ 65536 ∷ 65537 ∷ [])
+    ≡ Err (BadValue Room) ∷ Ok 64 ∷ Ok 65 ∷ Ok 65535 ∷ Ok 65536 ∷ Err (BadValue Room) ∷ []
 room_row = refl
 
-pub cache_row : numbers_at Cache (0 ∷ 128 ∷ 129 ∷ []) ≡ true ∷ true ∷ false ∷ []
+pub cache_row : numbers_at Cache (0 ∷ 1 ∷ 127 ∷ 128 ∷ 129 ∷ [])
+    ≡ Ok 0 ∷ Ok 1 ∷ Ok 127 ∷ Ok 128 ∷ Err (BadValue Cache) ∷ []
 cache_row = refl
 
-pub burst_row : numbers_at Burst (0 ∷ 1 ∷ 64 ∷ 65 ∷ []) ≡ false ∷ true ∷ true ∷ false ∷ []
+pub burst_row : numbers_at Burst (0 ∷ 1 ∷ 3 ∷ 63 ∷ 64 ∷ 65 ∷ [])
+    ≡ Err (BadValue Burst) ∷ Ok 1 ∷ Ok 3 ∷ Ok 63 ∷ Ok 64 ∷ Err (BadValue Burst) ∷ []
 burst_row = refl
 
-pub ring_row : numbers_at Ring (0 ∷ 1 ∷ 65536 ∷ 65537 ∷ []) ≡ false ∷ true ∷ true ∷ false ∷ []
+pub ring_row : numbers_at Ring (0 ∷ 1 ∷ 3 ∷ 65535 ∷ 65536 ∷ 65537 ∷ [])
+    ≡ Err (BadValue Ring) ∷ Ok 1 ∷ Ok 3 ∷ Ok 65535 ∷ Ok 65536 ∷ Err (BadValue Ring) ∷ []
 ring_row = refl
 
-pub bits_row : numbers_at Bits (15 ∷ 16 ∷ 17 ∷ 23 ∷ 24 ∷ 25 ∷ []) ≡ false ∷ true ∷ false ∷ false ∷ true ∷ false ∷ []
+pub bits_row : numbers_at Bits (15 ∷ 16 ∷ 17 ∷ 23 ∷ 24 ∷ 25 ∷ [])
+    ≡ Err (BadValue Bits) ∷ Ok 16 ∷ Err (BadValue Bits) ∷ Err (BadValue Bits) ∷ Ok 24 ∷ Err (BadValue Bits) ∷ []
 bits_row = refl
 
-pub groups_row : numbers_at Groups (0 ∷ 65536 ∷ 65537 ∷ []) ≡ true ∷ true ∷ false ∷ []
+pub groups_row : numbers_at Groups (0 ∷ 1 ∷ 3 ∷ 65535 ∷ 65536 ∷ 65537 ∷ [])
+    ≡ Ok 0 ∷ Ok 1 ∷ Ok 3 ∷ Ok 65535 ∷ Ok 65536 ∷ Err (BadValue Groups) ∷ []
 groups_row = refl
 
 pub missing_row : map (λ key. number_by key None) (Buffers ∷ Headroom ∷ Room ∷ Cache ∷ Burst ∷ Ring ∷ Bits ∷ Groups ∷ [])
@@ -164,6 +175,11 @@ pub routes_in_order : map (λ text. settings_in (with_port text)) (
     ∷ Err TooFewBuffers ∷ Err TooFewBuffers ∷ []
 unfolding toml_on_literals settings_of numbers_of sources_of routes_of
 routes_in_order = refl
+
+-- keys that no table names are ignored, in the document, in a port and in a table of another name
+pub other_keys : settings_in (codes "name = 1\nbuffers = 1\nport = [{name = 1, mac = \"02:00:00:00:00:10\"}]\n[other]\nroute = 1\n") ≡ Err TooFewBuffers
+unfolding toml_on_literals settings_of numbers_of sources_of routes_of
+other_keys = refl
 
 -- the fewest buffers
 abbrev by_cache : ℕ → ℕ → Result Content SettingsFault
