@@ -1,6 +1,6 @@
 //! The replies of a steps file, as text.
 
-ghost use Rattle.std.specs.Prelude.{◌≡◌, ◌∷◌, ◌++◌, OnOk, decimal};
+ghost use Rattle.std.specs.Prelude.{◌≡◌, ◌++◌, OnOk, decimal};
 ghost use Rattle.geom.specs.declared.plan.Mode.TheVariants.{Multi};
 ghost use Rattle.steps.specs.Replies.{value_text, buffers_text, item_text, items_text, answer_text, place_text, mode_shown, mode_on};
 
@@ -86,22 +86,23 @@ fn list(text: &mut Vec<u8>, items: &[Item]) -> Result<(), AllocError>
     ensures { OnOk result (text.new.items ≡ text.old.items ++ items_text items.now) }
 {
     for item in items {
-        spaced_item(text, item)?;
+        text.push(b' ')?;
+        item_text(text, item)?;
     }
     Ok(())
 }
 
-/// Writes a space and an item.
-fn spaced_item(text: &mut Vec<u8>, item: &Item) -> Result<(), AllocError>
-    ensures { OnOk result (text.new.items ≡ text.old.items ++ (32 ∷ item_text item.now)) }
+/// Writes an item.
+fn item_text(text: &mut Vec<u8>, item: &Item) -> Result<(), AllocError>
+    ensures { OnOk result (text.new.items ≡ text.old.items ++ item_text item.now) }
 {
     match item {
         Item::Word(n) => {
-            text.extend_from_slice(b" x")?;
+            text.push(b'x')?;
             write_number(text, *n)
         }
         Item::Buffers(numbers) => {
-            text.extend_from_slice(b" b")?;
+            text.push(b'b')?;
             buffers_text(text, numbers.as_slice())
         }
     }

@@ -145,15 +145,29 @@ impl Stage {
         ensures never { (n : ℕ) → result ≡ Err (TextFault.BadLine n) → ⊥ }
         ensures plan { result ≡ Err TextFault.BadPlan → (s : State) → Keeps self.old s → PlanRefused s }
     {
-        if self.world.is_none() {
-            self.world = Some(open(alloc, &self.draft)?);
+        if self.world.is_some() {
+            return Ok(());
         }
+        self.open_first(alloc)
+    }
+
+    /// Opens the world of the plan. Called once for a file: what a step calls stays small without it.
+    #[inline(never)]
+    fn open_first(&mut self, alloc: Global) -> Result<(), TextFault>
+        requires { self.old.world ≡ None }
+        ensures there { OnOk result (is_some self.new.world ≡ true) }
+        ensures opened { OnOk result ((s : State) → Keeps self.old s
+            → IfSome self.new.world (λ world. IsRunning s.plan world (running s))) }
+        ensures kept { self.new.draft ≡ self.old.draft }
+        ensures never { (n : ℕ) → result ≡ Err (TextFault.BadLine n) → ⊥ }
+        ensures plan { result ≡ Err TextFault.BadPlan → (s : State) → Keeps self.old s → PlanRefused s }
+    {
+        self.world = Some(open(alloc, &self.draft)?);
         Ok(())
     }
 }
 
-/// Opens the world of a plan. Called once for a file: what a step calls stays small without it.
-#[inline(never)]
+/// Opens the world of a plan.
 fn open(alloc: Global, draft: &Draft) -> Result<World, TextFault>
     ensures lawful { OnOk result (IsLawful (named draft.now)) }
     ensures opened { IfOk result (λ world. AgreesWith world (opened (named draft.now))

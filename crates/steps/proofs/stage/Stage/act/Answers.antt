@@ -1,4 +1,4 @@
-use Rattle.std.proofs.Common.{◌≡◌, ◌++◌, List, Result, Ok, Err, OnOk, Option, Some, IfSome, true, false, sym, ap, ◌∙◌, codes, rules, subst}
+use Rattle.std.proofs.Common.{◌≡◌, ◌++◌, List, Result, Ok, Err, OnOk, Option, IfSome, true, false, sym, ap, ◌∙◌, codes, rules, subst}
 use Rattle.std.specs.Prelude.{is_err}
 use Rattle.geom.specs.declared.plan.RingPlan.{RingPlan}
 use Rattle.ringcore.specs.declared.world.World.{World}
