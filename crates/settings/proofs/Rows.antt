@@ -1,5 +1,5 @@
 -- Worked texts and documents, computed by the definitions: each line of the tables, and each order of two tests.
-use Rattle.std.proofs.Common.{◌≡◌, ℕ, pos, negsuc, codes, Bool, true, false, List, [], ◌∷◌, ◌++◌, map, Some, None, Result, Ok, Err, refl, is_ok}
+use Rattle.std.proofs.Common.{◌≡◌, ℕ, pos, negsuc, codes, true, false, List, [], ◌∷◌, ◌++◌, map, Some, None, Result, Ok, Err, refl, is_ok}
 use Rattle.std.specs.FinMap as fin_map
 use Rattle.toml.specs.Data.{Members, member, no_members, string, integer, boolean, array, table, item, no_items}
 use Rattle.toml.proofs.OnLiterals.{toml_on_literals}
@@ -245,6 +245,17 @@ second_route = first_route 24 1 (route_to 167838211 32) (λ fitted. value_or (Ba
 -- a route no deeper than the first level needs no group
 pub shallow_route : routed_by 24 0 1 no_routes (route_table (codes "10.1.2.0/24") ∷ no_members ∷ []) ≡ Err (BadRoute 1)
 shallow_route = first_route 24 0 (route_to 167838208 24) (λ fitted. value_or (BadRoute 0) fitted >>= (λ next. routed_by 24 0 1 next (no_members ∷ [])))
+
+-- a key of a route that no table names is ignored
+pub other_key : routed_by 24 0 1 no_routes (
+    member (codes "port") (integer (pos 0)) (
+    member (codes "prefix") (string (codes "10.1.2.0/24")) (
+    member (codes "to") (string (codes "02:00:00:00:00:20")) (
+    member (codes "via") (integer (pos 1)) no_members)))
+    ∷ no_members
+    ∷ [])
+    ≡ Err (BadRoute 1)
+other_key = first_route 24 0 (route_to 167838208 24) (λ fitted. value_or (BadRoute 0) fitted >>= (λ next. routed_by 24 0 1 next (no_members ∷ [])))
 
 -- a route to the same addresses takes the place of the one before
 pub replaced : (with_one (with_one no_routes (route_to 167838211 16)) (route_to 167837696 16)).members
