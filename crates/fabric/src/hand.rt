@@ -72,19 +72,19 @@ pub struct TakeSpan<'f, T: Tagged, const N: usize> {
 #[derive(Drop, Clone, Copy, Debug, PartialEq, Eq, Error)]
 pub enum StartFault {
     /// Another hand's span of that head/tail-sync side is open: the word found.
-    #[error("another span of this side is open: word {0}")]
+    #[error("Busy {0}")]
     Busy(u64),
     /// The exchange lost against another hand: the word found.
-    #[error("another hand was first: word {0}")]
+    #[error("Contended {0}")]
     Contended(u64),
     /// There is too little room, or too few items: so much.
-    #[error("too little room, or too few items: {0}")]
+    #[error("NoRoom {0}")]
     NoRoom(u64),
     /// The positions of the ring are used up.
-    #[error("the ring is worn")]
+    #[error("Worn")]
     Worn,
     /// A count of 0, of more than `N`, or on a free ring of more than the hand's buffers.
-    #[error("no such count")]
+    #[error("BadCount")]
     BadCount,
 }
 
@@ -92,13 +92,13 @@ pub enum StartFault {
 #[derive(Drop, Clone, Copy, Debug, PartialEq, Eq, Error)]
 pub enum SettleFault {
     /// A multi span is settled whole, an HTS span with at most as many items as it has positions.
-    #[error("no such count")]
+    #[error("BadCount")]
     BadCount,
     /// An earlier span of the side isn't settled yet: the tail found.
-    #[error("an earlier span isn't settled yet: tail {0}")]
+    #[error("NotYet {0}")]
     NotYet(u64),
     /// An item carries a buffer that isn't the hand's own, or that another item carries too, or the ring is a free ring
     /// and the item doesn't carry exactly one.
-    #[error("not this hand's buffers")]
+    #[error("NotYours")]
     NotYours,
 }

@@ -17,10 +17,10 @@ use thiserror::Error;
 #[derive(Drop, Clone, Copy, Debug, PartialEq, Eq, Error)]
 pub enum SplitFault {
     /// There was no memory for the row of the second hand's buffers.
-    #[error("out of memory")]
+    #[error("Memory")]
     Memory,
     /// The hand has one part only: too many splits lie between it and the first hand.
-    #[error("a hand with one part")]
+    #[error("TooMany")]
     TooMany,
 }
 
