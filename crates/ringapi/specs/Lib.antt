@@ -1,3 +1,5 @@
 pub mod Views
 pub mod Puts
 pub mod Takes
+pub mod Truths
+pub mod Faults

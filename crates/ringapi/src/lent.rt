@@ -3,6 +3,7 @@
 ghost use Rattle.std.specs.Prelude.{◌≡◌, ◌<◌, [], length};
 ghost use Rattle.fabric.specs.Hands.{IsHandOf, OnRing, rings_of, view};
 ghost use Rattle.fabric.specs.Settles.{AreYours};
+ghost use Rattle.ringapi.specs.Truths.{IsTruePut, IsTrueTake};
 ghost use Rattle.ringapi.specs.Puts.{IsPutOf, IsUnfinishedPut, PutHasTold, PutSettles, PutTells};
 ghost use Rattle.ringapi.specs.Views.{by_bulk, by_burst};
 ghost use Rattle.ringapi.specs.Takes.{IsTakeOf, IsUnfinishedTake, TakeHasTold, TakeSettles, TakeTells};
@@ -31,6 +32,7 @@ pub fn try_put_bulk_from<'f, T: Tagged, const N: usize>(
     ensures told { OnRing f.now ring
         (λ plan. PutTells T.numbers by_bulk ring plan (view hand) list.old [] [] result list.new) }
     ensures settled { PutSettles ring (view hand) list.old result }
+    ensures so { OnRing f.now ring (λ plan. IsTruePut T.numbers ring plan result) }
 {
     try_put(f, hand, ring, How::Bulk, list)
 }
@@ -52,6 +54,7 @@ pub fn try_put_burst_from<'f, T: Tagged, const N: usize>(
     ensures told { OnRing f.now ring
         (λ plan. PutTells T.numbers by_burst ring plan (view hand) list.old [] [] result list.new) }
     ensures settled { PutSettles ring (view hand) list.old result }
+    ensures so { OnRing f.now ring (λ plan. IsTruePut T.numbers ring plan result) }
 {
     try_put(f, hand, ring, How::Burst, list)
 }
@@ -73,6 +76,7 @@ pub fn put_bulk_from<'f, T: Tagged, const N: usize, R: Wait>(
     ensures told { OnRing f.now ring
         (λ plan. PutHasTold T.numbers by_bulk ring plan (view hand) list.old result list.new) }
     ensures settled { PutSettles ring (view hand) list.old result }
+    ensures so { OnRing f.now ring (λ plan. IsTruePut T.numbers ring plan result) }
     ensures finished { IsUnfinishedPut result → ⊥ }
 {
     put(rt, f, hand, ring, How::Bulk, list)
@@ -96,6 +100,7 @@ pub fn put_burst_from<'f, T: Tagged, const N: usize, R: Wait>(
     ensures told { OnRing f.now ring
         (λ plan. PutHasTold T.numbers by_burst ring plan (view hand) list.old result list.new) }
     ensures settled { PutSettles ring (view hand) list.old result }
+    ensures so { OnRing f.now ring (λ plan. IsTruePut T.numbers ring plan result) }
     ensures finished { IsUnfinishedPut result → ⊥ }
 {
     put(rt, f, hand, ring, How::Burst, list)
@@ -119,6 +124,7 @@ pub fn put_own_bulk_from<'f, T: Tagged, const N: usize, R: Wait>(
     ensures told { OnRing f.now ring
         (λ plan. PutHasTold T.numbers by_bulk ring plan (view hand) list.old result list.new) }
     ensures settled { PutSettles ring (view hand) list.old result }
+    ensures so { OnRing f.now ring (λ plan. IsTruePut T.numbers ring plan result) }
     ensures finished { IsUnfinishedPut result → ⊥ }
 {
     put_own(rt, f, hand, ring, How::Bulk, list)
@@ -142,6 +148,7 @@ pub fn put_own_burst_from<'f, T: Tagged, const N: usize, R: Wait>(
     ensures told { OnRing f.now ring
         (λ plan. PutHasTold T.numbers by_burst ring plan (view hand) list.old result list.new) }
     ensures settled { PutSettles ring (view hand) list.old result }
+    ensures so { OnRing f.now ring (λ plan. IsTruePut T.numbers ring plan result) }
     ensures finished { IsUnfinishedPut result → ⊥ }
 {
     put_own(rt, f, hand, ring, How::Burst, list)
@@ -165,6 +172,7 @@ pub fn try_take_bulk_into<'f, T: Tagged, const N: usize>(
     ensures told { OnRing f.now ring
         (λ plan. TakeTells T.numbers by_bulk n ring plan (view hand) [] [] result into.new) }
     ensures settled { TakeSettles ring (view hand) result into.new }
+    ensures so { OnRing f.now ring (λ plan. IsTrueTake T.numbers ring plan result) }
 {
     try_take(f, hand, ring, n, How::Bulk, into)
 }
@@ -187,6 +195,7 @@ pub fn try_take_burst_into<'f, T: Tagged, const N: usize>(
     ensures told { OnRing f.now ring
         (λ plan. TakeTells T.numbers by_burst n ring plan (view hand) [] [] result into.new) }
     ensures settled { TakeSettles ring (view hand) result into.new }
+    ensures so { OnRing f.now ring (λ plan. IsTrueTake T.numbers ring plan result) }
 {
     try_take(f, hand, ring, n, How::Burst, into)
 }
@@ -210,6 +219,7 @@ pub fn take_bulk_into<'f, T: Tagged, const N: usize, R: Wait>(
     ensures told { OnRing f.now ring
         (λ plan. TakeHasTold T.numbers by_bulk n ring plan (view hand) result into.new) }
     ensures settled { TakeSettles ring (view hand) result into.new }
+    ensures so { OnRing f.now ring (λ plan. IsTrueTake T.numbers ring plan result) }
     ensures finished { IsUnfinishedTake result → ⊥ }
 {
     take(rt, f, hand, ring, n, How::Bulk, into)
@@ -235,6 +245,7 @@ pub fn take_burst_into<'f, T: Tagged, const N: usize, R: Wait>(
     ensures told { OnRing f.now ring
         (λ plan. TakeHasTold T.numbers by_burst n ring plan (view hand) result into.new) }
     ensures settled { TakeSettles ring (view hand) result into.new }
+    ensures so { OnRing f.now ring (λ plan. IsTrueTake T.numbers ring plan result) }
     ensures finished { IsUnfinishedTake result → ⊥ }
 {
     take(rt, f, hand, ring, n, How::Burst, into)

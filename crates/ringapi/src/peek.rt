@@ -8,6 +8,7 @@ ghost use Rattle.fabric.specs.Hands.{HasPut, HasTaken, IsHandOf, OnRing, Refuses
 ghost use Rattle.fabric.specs.Hands.{put_fabric, put_left, put_span, put_view, rings_of, view};
 ghost use Rattle.fabric.specs.Hands.{take_fabric, take_left, take_span, take_view};
 ghost use Rattle.fabric.specs.Starts.{RefusesCount, RefusesStart, Starts};
+ghost use Rattle.fabric.specs.Truths.{IsTrueRefusal};
 ghost use Rattle.fabric.specs.declared.hand.SettleFault.TheVariants.{BadCount, NotYet};
 
 use burst::{Burst, Tagged};
@@ -56,6 +57,8 @@ pub fn peek_put<'f, T: Tagged, const N: usize>(
     ensures refused { IfErr result (λ e. IsHandOf f.now e.0
         × OnRing f.now ring (λ plan. RefusesStart T.numbers N how n ring Put plan (view hand) (view e.0) e.1
         × RefusesCount T.numbers N n Put plan (view hand) e.1)) }
+    ensures so { IfErr result (λ e. OnRing f.now ring
+        (λ plan. IsTrueRefusal T.numbers ring Put plan (view hand) (view e.0) e.1)) }
 {
     match f.try_start_put(hand, ring, n, how) {
         Ok(span) => Ok(PeekPut { span }),
@@ -85,6 +88,8 @@ pub fn peek_take_into<'f, T: Tagged, const N: usize>(
     ensures refused { IfErr result (λ e. IsHandOf f.now e.0 × (into.new ≡ [])
         × OnRing f.now ring (λ plan. RefusesStart T.numbers N how n ring Take plan (view hand) (view e.0) e.1
         × RefusesCount T.numbers N n Take plan (view hand) e.1)) }
+    ensures so { IfErr result (λ e. OnRing f.now ring
+        (λ plan. IsTrueRefusal T.numbers ring Take plan (view hand) (view e.0) e.1)) }
 {
     match f.try_start_take_into(hand, ring, n, how, into) {
         Ok(span) => Ok(PeekSpan { span }),
@@ -110,6 +115,8 @@ pub fn peek_take<'f, T: Tagged, const N: usize>(
     ensures refused { IfErr result (λ e. IsHandOf f.now e.0
         × OnRing f.now ring (λ plan. RefusesStart T.numbers N how n ring Take plan (view hand) (view e.0) e.1
         × RefusesCount T.numbers N n Take plan (view hand) e.1)) }
+    ensures so { IfErr result (λ e. OnRing f.now ring
+        (λ plan. IsTrueRefusal T.numbers ring Take plan (view hand) (view e.0) e.1)) }
 {
     let mut items = Burst::new();
     match peek_take_into(f, hand, ring, n, how, &mut items) {

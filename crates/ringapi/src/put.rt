@@ -1,10 +1,12 @@
 //! Whole puts.
 ghost use Rattle.std.specs.Prelude.{◌≡◌, ◌<◌, ◌≤◌, [], length, take, drop};
 ghost use Rattle.std.specs.Prelude.{ℕ, List};
+ghost use Rattle.geom.specs.declared.plan.RingPlan.{RingPlan};
 ghost use Rattle.fabric_laws.specs.declared.view.View.{View};
 ghost use Rattle.fabric.specs.Hands.{IsHandOf, OnRing, put_fabric, put_span, put_view, rings_of, view};
 ghost use Rattle.fabric.specs.Settles.{AreYours};
 ghost use Rattle.ringapi.specs.Puts.{IsPutOf, IsUnfinishedPut, PutHasTold, PutSettles, PutTells, SettlesPut};
+ghost use Rattle.ringapi.specs.Truths.{IsTruePut};
 
 use crate::answers::{Moved, PutAnswer, Refusal};
 use burst::{Burst, Tagged};
@@ -21,6 +23,7 @@ fn settle<'f, T: Tagged, const N: usize>(
     requires fits { (put_span span).count ≤ length list.old }
     requires yours { AreYours T.numbers span.ring.shape.plan (put_view span) (take (put_span span).count list.old) }
     ensures settled { SettlesPut span.entry list.old result list.new }
+    ensures so { (ring : ℕ) (plan : RingPlan) → IsTruePut T.numbers ring plan result }
 {
     let moved = Moved {
         count: span.count(),
@@ -49,6 +52,7 @@ fn attempt<'f, T: Tagged, const N: usize>(
     ensures made { IsPutOf f.now ring result }
     ensures told { OnRing f.now ring
         (λ plan. PutTells T.numbers how ring plan (view hand) list.old [] [] result list.new) }
+    ensures so { OnRing f.now ring (λ plan. IsTruePut T.numbers ring plan result) }
 {
     match f.try_start_put(hand, ring, list.len(), how) {
         Ok(span) => settle(span, list),
@@ -70,6 +74,7 @@ pub(crate) fn try_put<'f, T: Tagged, const N: usize>(
     ensures told { OnRing f.now ring
         (λ plan. PutTells T.numbers how ring plan (view hand) list.old [] [] result list.new) }
     ensures settled { PutSettles ring (view hand) list.old result }
+    ensures so { OnRing f.now ring (λ plan. IsTruePut T.numbers ring plan result) }
 {
     let mut hand = hand;
     if !hand.may_put(f, ring, list) {
@@ -95,6 +100,7 @@ fn again<'f, T: Tagged, const N: usize>(
     ensures told { OnRing f.now ring (λ plan. (v : View T) (items : List T)
         → PutHasTold T.numbers how ring plan v items answer.entry list.old
         → PutHasTold T.numbers how ring plan v items result list.new) }
+    ensures so { OnRing f.now ring (λ plan. IsTruePut T.numbers ring plan result) }
 {
     match answer {
         PutAnswer::Done(_, _) => unreachable!(),
@@ -119,6 +125,7 @@ pub(crate) fn put_own<'f, T: Tagged, const N: usize, R: Wait>(
     ensures told { OnRing f.now ring
         (λ plan. PutHasTold T.numbers how ring plan (view hand) list.old result list.new) }
     ensures settled { PutSettles ring (view hand) list.old result }
+    ensures so { OnRing f.now ring (λ plan. IsTruePut T.numbers ring plan result) }
     ensures finished { IsUnfinishedPut result → ⊥ }
 {
     let backoff = Backoff::new();
@@ -148,6 +155,7 @@ pub(crate) fn put<'f, T: Tagged, const N: usize, R: Wait>(
     ensures told { OnRing f.now ring
         (λ plan. PutHasTold T.numbers how ring plan (view hand) list.old result list.new) }
     ensures settled { PutSettles ring (view hand) list.old result }
+    ensures so { OnRing f.now ring (λ plan. IsTruePut T.numbers ring plan result) }
     ensures finished { IsUnfinishedPut result → ⊥ }
 {
     let mut hand = hand;

@@ -1,8 +1,10 @@
 //! Whole takes.
 ghost use Rattle.std.specs.Prelude.{◌≡◌, ◌<◌, [], ℕ, length};
+ghost use Rattle.geom.specs.declared.plan.RingPlan.{RingPlan};
 ghost use Rattle.fabric_laws.specs.declared.view.View.{View};
 ghost use Rattle.fabric.specs.Hands.{IsHandOf, OnRing, rings_of, take_view, view};
 ghost use Rattle.ringapi.specs.Takes.{IsTakeOf, IsUnfinishedTake, SettlesTake, TakeHasTold, TakeSettles, TakeTells};
+ghost use Rattle.ringapi.specs.Truths.{IsTrueTake};
 
 use crate::answers::{Moved, TakeAnswer};
 use burst::{Burst, Tagged};
@@ -18,6 +20,7 @@ fn settle<'f, T: Tagged, const N: usize>(
 ) -> TakeAnswer<'f, T, N>
     requires shows { items.old ≡ (take_view span).shown }
     ensures settled { SettlesTake T.numbers span.entry items.old result items.new }
+    ensures so { (ring : ℕ) (plan : RingPlan) → IsTrueTake T.numbers ring plan result }
 {
     let moved = Moved {
         count: span.count(),
@@ -47,6 +50,7 @@ pub(crate) fn try_take<'f, T: Tagged, const N: usize>(
     ensures made { IsTakeOf f.now ring result }
     ensures told { OnRing f.now ring (λ plan. TakeTells T.numbers how n ring plan (view hand) [] [] result into.new) }
     ensures settled { TakeSettles ring (view hand) result into.new }
+    ensures so { OnRing f.now ring (λ plan. IsTrueTake T.numbers ring plan result) }
 {
     match f.try_start_take_into(hand, ring, n, how, into) {
         Ok(span) => settle(span, into),
@@ -71,6 +75,7 @@ fn again<'f, T: Tagged, const N: usize>(
     ensures told { OnRing f.now ring (λ plan. (v : View T)
         → TakeHasTold T.numbers how n ring plan v answer.entry into.old
         → TakeHasTold T.numbers how n ring plan v result into.new) }
+    ensures so { OnRing f.now ring (λ plan. IsTrueTake T.numbers ring plan result) }
 {
     match answer {
         TakeAnswer::Done(_, _) => unreachable!(),
@@ -95,6 +100,7 @@ pub(crate) fn take<'f, T: Tagged, const N: usize, R: Wait>(
     ensures made { IsTakeOf f.now ring result }
     ensures told { OnRing f.now ring (λ plan. TakeHasTold T.numbers how n ring plan (view hand) result into.new) }
     ensures settled { TakeSettles ring (view hand) result into.new }
+    ensures so { OnRing f.now ring (λ plan. IsTrueTake T.numbers ring plan result) }
     ensures finished { IsUnfinishedTake result → ⊥ }
 {
     let backoff = Backoff::new();

@@ -1,6 +1,7 @@
 //! Whole calls with a list by value: each moves all `N` places of it, which the calls that are lent a list don't.
 ghost use Rattle.std.specs.Prelude.{◌≡◌, ◌<◌, [], length};
 ghost use Rattle.fabric.specs.Hands.{IsHandOf, OnRing, rings_of, view};
+ghost use Rattle.ringapi.specs.Truths.{IsTruePut, IsTrueTake};
 ghost use Rattle.ringapi.specs.Puts.{IsPutOf, IsUnfinishedPut, PutHasTold, PutSettles, PutTells};
 ghost use Rattle.ringapi.specs.Views.{by_bulk, by_burst};
 ghost use Rattle.ringapi.specs.Takes.{IsTakeOf, IsUnfinishedTake, TakeHasTold, TakeSettles, TakeTells};
@@ -27,6 +28,7 @@ pub fn try_put_bulk<'f, T: Tagged, const N: usize>(
     ensures told { OnRing f.now ring
         (λ plan. PutTells T.numbers by_bulk ring plan (view hand) items [] [] result.0 result.1) }
     ensures settled { PutSettles ring (view hand) items result.0 }
+    ensures so { OnRing f.now ring (λ plan. IsTruePut T.numbers ring plan result.0) }
 {
     let mut list = items;
     let answer = try_put_bulk_from(f, hand, ring, &mut list);
@@ -46,6 +48,7 @@ pub fn try_put_burst<'f, T: Tagged, const N: usize>(
     ensures told { OnRing f.now ring
         (λ plan. PutTells T.numbers by_burst ring plan (view hand) items [] [] result.0 result.1) }
     ensures settled { PutSettles ring (view hand) items result.0 }
+    ensures so { OnRing f.now ring (λ plan. IsTruePut T.numbers ring plan result.0) }
 {
     let mut list = items;
     let answer = try_put_burst_from(f, hand, ring, &mut list);
@@ -66,6 +69,7 @@ pub fn put_bulk<'f, T: Tagged, const N: usize, R: Wait>(
     ensures told { OnRing f.now ring
         (λ plan. PutHasTold T.numbers by_bulk ring plan (view hand) items result.0 result.1) }
     ensures settled { PutSettles ring (view hand) items result.0 }
+    ensures so { OnRing f.now ring (λ plan. IsTruePut T.numbers ring plan result.0) }
     ensures finished { IsUnfinishedPut result.0 → ⊥ }
 {
     let mut list = items;
@@ -87,6 +91,7 @@ pub fn put_burst<'f, T: Tagged, const N: usize, R: Wait>(
     ensures told { OnRing f.now ring
         (λ plan. PutHasTold T.numbers by_burst ring plan (view hand) items result.0 result.1) }
     ensures settled { PutSettles ring (view hand) items result.0 }
+    ensures so { OnRing f.now ring (λ plan. IsTruePut T.numbers ring plan result.0) }
     ensures finished { IsUnfinishedPut result.0 → ⊥ }
 {
     let mut list = items;
@@ -107,6 +112,7 @@ pub fn try_take_bulk<'f, T: Tagged, const N: usize>(
     ensures told { OnRing f.now ring
         (λ plan. TakeTells T.numbers by_bulk n ring plan (view hand) [] [] result.0 result.1) }
     ensures settled { TakeSettles ring (view hand) result.0 result.1 }
+    ensures so { OnRing f.now ring (λ plan. IsTrueTake T.numbers ring plan result.0) }
 {
     let mut items = Burst::new();
     let answer = try_take_bulk_into(f, hand, ring, n, &mut items);
@@ -126,6 +132,7 @@ pub fn try_take_burst<'f, T: Tagged, const N: usize>(
     ensures told { OnRing f.now ring
         (λ plan. TakeTells T.numbers by_burst n ring plan (view hand) [] [] result.0 result.1) }
     ensures settled { TakeSettles ring (view hand) result.0 result.1 }
+    ensures so { OnRing f.now ring (λ plan. IsTrueTake T.numbers ring plan result.0) }
 {
     let mut items = Burst::new();
     let answer = try_take_burst_into(f, hand, ring, n, &mut items);
@@ -146,6 +153,7 @@ pub fn take_bulk<'f, T: Tagged, const N: usize, R: Wait>(
     ensures told { OnRing f.now ring
         (λ plan. TakeHasTold T.numbers by_bulk n ring plan (view hand) result.0 result.1) }
     ensures settled { TakeSettles ring (view hand) result.0 result.1 }
+    ensures so { OnRing f.now ring (λ plan. IsTrueTake T.numbers ring plan result.0) }
     ensures finished { IsUnfinishedTake result.0 → ⊥ }
 {
     let mut items = Burst::new();
@@ -167,6 +175,7 @@ pub fn take_burst<'f, T: Tagged, const N: usize, R: Wait>(
     ensures told { OnRing f.now ring
         (λ plan. TakeHasTold T.numbers by_burst n ring plan (view hand) result.0 result.1) }
     ensures settled { TakeSettles ring (view hand) result.0 result.1 }
+    ensures so { OnRing f.now ring (λ plan. IsTrueTake T.numbers ring plan result.0) }
     ensures finished { IsUnfinishedTake result.0 → ⊥ }
 {
     let mut items = Burst::new();

@@ -67,3 +67,6 @@ returns-in-Open-clause-told g c plan there v items told =
     let at = plan_of o c.args.f.now c.args.ring made.0 made.1 in
     settle_more g.row.N tags c.args.how c.args.ring plan v items o c.in-Open.field-1 had c.settle.new.list c.settle.result made.1 (same_plan (sym at ∙ there))
     (subst (λ a. PutHasTold tags c.args.how c.args.ring plan v items a had) is told) c.settle.ensures.settled
+
+pub returns-in-Open-clause-so : goal.returns-in-Open-clause-so
+returns-in-Open-clause-so g c plan there = c.settle.ensures.so c.args.ring plan

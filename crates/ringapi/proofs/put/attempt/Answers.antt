@@ -70,3 +70,9 @@ returns-in-Err-clause-told g c plan there =
       subst (λ n. RefusesStart tags g.row.N c.args.how n c.args.ring Put plan v (view c.in-Err.hand) c.in-Err.fault) long (r.refused.1 plan there),
       subst (λ n. RefusesCount tags g.row.N n Put plan v c.in-Err.fault) long (r.asked plan there).1,
     )
+
+pub returns-in-Ok-clause-so : goal.returns-in-Ok-clause-so
+returns-in-Ok-clause-so g c plan there = c.settle.ensures.so c.args.ring plan
+
+pub returns-in-Err-clause-so : goal.returns-in-Err-clause-so
+returns-in-Err-clause-so g c plan there = (view c.args.hand, c.in-Err.ensures.kept, c.in-Err.ensures.so plan there)

@@ -9,6 +9,7 @@ loop-init g c = record {
   iterator = (tt, tt);
   made = c.attempt-answer.ensures.made;
   told = λ plan there. ([], [], c.attempt-answer.ensures.told plan there);
+  so = c.attempt-answer.ensures.so;
 }
 
 pub returns-then-not-is_unfinished-clause-settled : goal.returns-then-not-is_unfinished-clause-settled

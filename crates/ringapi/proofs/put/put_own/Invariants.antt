@@ -1,5 +1,6 @@
 use Rattle.fabric.specs.Hands.{OnRing, view}
 use Rattle.ringapi.specs.Puts.{IsPutOf, PutHasTold}
+use Rattle.ringapi.specs.Truths.{IsTruePut}
 use Rattle.ringapi.proofs.put.put_own.Given as goal
 
 abbrev pub invariant-loop : goal.invariant-loop
@@ -7,4 +8,5 @@ invariant-loop g l = record {
   iterator : (goal.iterator-loop g).can_next l.iterator' × (goal.iterator-loop g).is_finite l.iterator';
   made : IsPutOf l.f l.ring l.answer;
   told : OnRing l.f l.ring (λ plan. PutHasTold g.T.Tagged.numbers l.how l.ring plan (view l.fn.hand) l.fn.list l.answer l.list);
+  so : OnRing l.f l.ring (λ plan. IsTruePut g.T.Tagged.numbers l.ring plan l.answer);
 }

@@ -9,6 +9,7 @@ loop-init g c = record {
   iterator = (tt, tt);
   made = c.try_take-answer.ensures.made;
   told = λ plan there. ([], [], c.try_take-answer.ensures.told plan there);
+  so = c.try_take-answer.ensures.so;
 }
 
 pub returns-then-not-is_unfinished-clause-settled : goal.returns-then-not-is_unfinished-clause-settled

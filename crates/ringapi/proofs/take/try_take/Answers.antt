@@ -33,3 +33,9 @@ pub returns-in-Err-clause-told : goal.returns-in-Err-clause-told
 returns-in-Err-clause-told g c plan there =
     let r = c.in-Err.ensures in
     (r.refused.1, view c.args.hand, refl, r.refused.2 plan there, (r.asked plan there).1)
+
+pub returns-in-Ok-clause-so : goal.returns-in-Ok-clause-so
+returns-in-Ok-clause-so g c plan there = c.settle.ensures.so c.args.ring plan
+
+pub returns-in-Err-clause-so : goal.returns-in-Err-clause-so
+returns-in-Err-clause-so g c plan there = (view c.args.hand, c.in-Err.ensures.kept, c.in-Err.ensures.so plan there)
