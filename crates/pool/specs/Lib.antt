@@ -4,3 +4,4 @@ pub mod Asks
 pub mod Beside
 pub mod Calls
 pub mod Locals
+pub mod Faults

@@ -12,8 +12,6 @@ mod local;
 mod moves;
 mod opening;
 mod rings;
-#[cfg(test)]
-mod tests;
 mod values;
 
 pub use faults::PoolFault;

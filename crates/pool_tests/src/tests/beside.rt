@@ -4,10 +4,10 @@ ghost use Rattle.fabric.specs.Hands.{IsHandOf, rings_of};
 ghost use Rattle.pool.specs.Locals.{IsLocalOf};
 
 use super::{MOST, Ticket, Wrong, begun, has, listed, parted};
-use crate::local::Local;
 use burst::Burst;
 use fabric::{Fabric, Opened, StartFault};
 use geom::{Geometry, Mode, RingPlan};
+use pool::Local;
 use ringapi::Refusal;
 use std::alloc::Global;
 use std::sync::Wait;

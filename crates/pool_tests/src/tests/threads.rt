@@ -4,10 +4,9 @@ ghost use Rattle.fabric.specs.Hands.{IsHandOf, rings_of};
 ghost use Rattle.pool.specs.Locals.{IsLocalOf};
 
 use super::{MOST, RING, Ticket, begun, opened, parted, run_of, stocked};
-use crate::faults::PoolFault;
-use crate::local::Local;
 use burst::Burst;
 use fabric::{Fabric, Hand, Opened};
+use pool::{Local, PoolFault};
 use ringapi::TakeAnswer;
 use std::alloc::Global;
 use std::sync::Wait;
