@@ -4,7 +4,8 @@
  *   1 item: the same protocol in plain C, where each access to a word is sequentially consistent, as the project's are.
  *     rte_ring reserves by an exchange too, but its tails are release stores, at half the price for one item.
  *   32 and 256 items: rte_ring, by rte_ring_enqueue_bulk and rte_ring_dequeue_bulk.
- * In C nothing depends on the most that a call may have. What the other ring of the two takes is printed as
+ * In C nothing depends on the most that a call may have, and nothing looks at an item, so what stands beside items with
+ * numbers on a free ring (free-multi-32-n32) is the same. What the other ring of the two takes is printed as
  * multi-1-rte, multi-32-plain and so on. NAME TURNS behind the options of EAL and `--` measures one name alone, in so
  * many turns: to count instructions. */
 #include "bench.h"
@@ -111,15 +112,24 @@ TURNS_OF(turns_rte, struct rte_ring *ring, rte_ring_enqueue_bulk(ring, table, n,
 static const char *only;
 static unsigned long only_turns;
 
-/* Measures TURNS(RING, table, n, ..) under a name, or under two where a second is given. */
-#define MEASURE(TURNS, RING, N, NAME, SECOND) do { \
-	if (only && strcmp(only, NAME) && strcmp(only, SECOND)) break; \
+/* Whether one of the names is asked for. */
+static int is_asked(const char *const *names, unsigned count)
+{
+	for (unsigned i = 0; only && i < count; i++)
+		if (!strcmp(only, names[i])) return 1;
+	return !only;
+}
+
+/* Measures TURNS(RING, table, n, ..) once, under one name or several. */
+#define MEASURE(TURNS, RING, N, ...) do { \
+	static const char *const names[] = { __VA_ARGS__ }; \
+	unsigned count = sizeof names / sizeof *names; \
+	if (!is_asked(names, count)) break; \
 	double ns = 0; \
 	TURNS(RING, table, N, WARM); \
 	if (only) TURNS(RING, table, N, only_turns); \
 	else TIMED(ns, CHUNK * (N), TURNS(RING, table, N, CHUNK);); \
-	report(NAME, ns, "ns/item"); \
-	if (*SECOND) report(SECOND, ns, "ns/item"); \
+	for (unsigned i = 0; i < count; i++) report(names[i], ns, "ns/item"); \
 } while (0)
 
 static struct plain *new_plain(void)
@@ -153,18 +163,18 @@ int main(int argc, char **argv)
 	struct plain *plain = new_plain(), *plain_hts = new_plain();
 	struct rte_ring *rte = new_rte("multi", 0);
 	struct rte_ring *rte_hts = new_rte("hts", RING_F_MP_HTS_ENQ | RING_F_MC_HTS_DEQ);
-	MEASURE(turns_multi, plain, 1, "multi-1-n32", "multi-1-n256");
-	MEASURE(turns_rte, rte, 32, "multi-32-n32", "multi-32-n256");
-	MEASURE(turns_rte, rte, 256, "multi-256-n256", "");
-	MEASURE(turns_hts, plain_hts, 1, "hts-1-n32", "hts-1-n256");
-	MEASURE(turns_rte, rte_hts, 32, "hts-32-n32", "hts-32-n256");
-	MEASURE(turns_rte, rte_hts, 256, "hts-256-n256", "");
-	MEASURE(turns_rte, rte, 1, "multi-1-rte", "");
-	MEASURE(turns_multi, plain, 32, "multi-32-plain", "");
-	MEASURE(turns_multi, plain, 256, "multi-256-plain", "");
-	MEASURE(turns_rte, rte_hts, 1, "hts-1-rte", "");
-	MEASURE(turns_hts, plain_hts, 32, "hts-32-plain", "");
-	MEASURE(turns_hts, plain_hts, 256, "hts-256-plain", "");
+	MEASURE(turns_multi, plain, 1, "multi-1-n32", "multi-1-n256", "free-multi-1-n32");
+	MEASURE(turns_rte, rte, 32, "multi-32-n32", "multi-32-n256", "free-multi-32-n32");
+	MEASURE(turns_rte, rte, 256, "multi-256-n256", "free-multi-256-n256");
+	MEASURE(turns_hts, plain_hts, 1, "hts-1-n32", "hts-1-n256", "free-hts-1-n32");
+	MEASURE(turns_rte, rte_hts, 32, "hts-32-n32", "hts-32-n256", "free-hts-32-n32");
+	MEASURE(turns_rte, rte_hts, 256, "hts-256-n256", "free-hts-256-n256");
+	MEASURE(turns_rte, rte, 1, "multi-1-rte");
+	MEASURE(turns_multi, plain, 32, "multi-32-plain");
+	MEASURE(turns_multi, plain, 256, "multi-256-plain");
+	MEASURE(turns_rte, rte_hts, 1, "hts-1-rte");
+	MEASURE(turns_hts, plain_hts, 32, "hts-32-plain");
+	MEASURE(turns_hts, plain_hts, 256, "hts-256-plain");
 	rte_eal_cleanup();
 	return 0;
 }

@@ -1,0 +1,47 @@
+"""Producers and consumers in threads of their own, by whole calls that wait, beside rte_ring's."""
+import os
+import statistics
+import subprocess
+import sys
+import time
+
+# How many calls of so many items a thread makes, so that a run takes some tenths of a second.
+CALLS = {1: 500_000, 8: 300_000, 32: 200_000, 128: 100_000}
+
+
+def rate(command, threads=0):
+    """The rate that one run prints. So many threads are put on processors of their own as soon as they are there."""
+    cpus = sorted(os.sched_getaffinity(0))
+    process = subprocess.Popen(command, stdout=subprocess.PIPE, text=True)
+    while threads and process.poll() is None:
+        try:
+            tasks = sorted(int(task) for task in os.listdir(f"/proc/{process.pid}/task"))
+            if len(tasks) == threads:
+                for task, cpu in zip(tasks, cpus):
+                    os.sched_setaffinity(task, {cpu})
+                break
+        except OSError:
+            break
+        time.sleep(0.0002)
+    words = process.communicate()[0].split()
+    if process.returncode != 0 or len(words) != 3:
+        sys.exit(f"bench/run: {command} told {words}, status {process.returncode}")
+    return float(words[1])
+
+
+def together(ours, theirs, rounds):
+    """Threads on processors of their own."""
+    print(f"{'threads, Mitem/s':<24} {'calls':>8} {'rte_ring':>9} {'ratio':>7}")
+    for mode in ["multi", "hts"]:
+        for pairs in [1, 2]:
+            if 2 * pairs > len(os.sched_getaffinity(0)):
+                continue
+            for n, calls in CALLS.items():
+                words = ["threads", mode, str(pairs), str(n), str(calls)]
+                runs = ([], [])
+                for _ in range(rounds):
+                    runs[0].append(rate([ours, *words], 2 * pairs))
+                    runs[1].append(rate([theirs, *words]))
+                here, there = statistics.median(runs[0]), statistics.median(runs[1])
+                print(f"{f'{mode}, {pairs} and {pairs}, {n}':<24} {here:>8.4g} {there:>9.4g} {here / there:>7.2f}",
+                      flush=True)
