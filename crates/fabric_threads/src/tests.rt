@@ -8,6 +8,7 @@ mod plays;
 mod rings;
 mod rows;
 mod spans;
+mod starved;
 mod stopped;
 mod stops;
 mod tries;

@@ -1,5 +1,5 @@
 -- Worked texts and documents, computed by the definitions: each line of the tables, and each order of two tests.
-use Rattle.std.proofs.Common.{◌≡◌, ℕ, pos, negsuc, codes, true, false, List, [], ◌∷◌, ◌++◌, map, Some, None, Result, Ok, Err, refl, is_ok}
+use Rattle.std.proofs.Common.{◌≡◌, ℕ, pos, negsuc, codes, true, List, [], ◌∷◌, ◌++◌, map, Some, None, Result, Ok, Err, refl, is_ok}
 use Rattle.std.specs.FinMap as fin_map
 use Rattle.toml.specs.Data.{Members, member, no_members, string, integer, boolean, array, table, item, no_items}
 use Rattle.toml.proofs.OnLiterals.{toml_on_literals}

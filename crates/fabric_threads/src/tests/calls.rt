@@ -274,7 +274,7 @@ fn acts<R: Wait>(
 }
 
 /// All memory that there is.
-fn taken(alloc: Global) -> Result<Vec<Vec<u8>>, Wrong> {
+pub(super) fn taken(alloc: Global) -> Result<Vec<Vec<u8>>, Wrong> {
     match take_all(alloc) {
         Ok(Some(held)) => Ok(held),
         _ => Err(Wrong("memory can't be used up in this build")),

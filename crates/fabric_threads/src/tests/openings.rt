@@ -12,7 +12,7 @@ use std::alloc::Global;
 use std::test::Fail;
 
 /// So many rings, each for so many items; the second is a free ring.
-fn plans(alloc: Global, capacity: u64, count: usize) -> Option<Vec<RingPlan>> {
+pub(super) fn plans(alloc: Global, capacity: u64, count: usize) -> Option<Vec<RingPlan>> {
     let geometry = Geometry::exact(capacity).ok()?;
     let mut rings = Vec::new(alloc);
     for i in 0..count {
@@ -29,7 +29,7 @@ fn plans(alloc: Global, capacity: u64, count: usize) -> Option<Vec<RingPlan>> {
 }
 
 /// Tickets of these numbers.
-fn tickets(alloc: Global, numbers: &[u32]) -> Option<Vec<Ticket>> {
+pub(super) fn tickets(alloc: Global, numbers: &[u32]) -> Option<Vec<Ticket>> {
     let mut made = Vec::new(alloc);
     for number in numbers {
         made.push(Ticket::new(alloc, *number).ok()?).ok()?;
@@ -58,7 +58,7 @@ fn refusal<const N: usize>(
 }
 
 /// Whether tickets have these numbers, in order.
-fn are(tickets: &[Ticket], numbers: &[u32]) -> bool {
+pub(super) fn are(tickets: &[Ticket], numbers: &[u32]) -> bool {
     if tickets.len() != numbers.len() {
         return false;
     }

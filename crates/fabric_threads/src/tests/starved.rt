@@ -1,0 +1,162 @@
+//! Want of memory at each request alone. `new` makes seven requests and `split` one. All memory is taken, but for
+//! pieces of just the sizes of these requests; the first of them are given back, so that the request behind these is
+//! refused.
+ghost use Rattle.std.specs.Prelude.{◌≡◌, ◌<◌, length, IfOk};
+ghost use Rattle.fabric.specs.Hands.{IsHandOf, rings_of};
+
+use super::Ticket;
+use super::calls::taken;
+use super::openings::{are, plans, tickets};
+use super::rings::{Layout, Rings, Wrong, opened, split};
+use fabric::{Fabric, Hand, OpenFault, Opened, SplitFault};
+use geom::Mode;
+use std::alloc::{AllocError, Global};
+use std::test::Fail;
+
+/// A fabric of two rings, each with room for as many items as there are buffers, and the pieces that `new` needs for
+/// it, in the order of its requests: flags to cross numbers off, what it keeps of the rings, the words to begin with,
+/// the first hand's flags, the slots to begin with, the table's words, and its slots. The first flags are given back
+/// before the next request, so their piece serves a later request of that size.
+struct Case {
+    buffers: u32,
+    pieces: &'static [usize],
+}
+
+/// What a ring takes: 32 bytes to keep, and 64 words of 8 bytes. A slot has 24 bytes, and a ring a power of two of
+/// them. The hand's flags have the piece of the first ones.
+const SMALL: Case = Case {
+    buffers: 3,
+    pieces: &[3, 2 * 32, 2 * 512, 2 * 4 * 24, 2 * 512, 2 * 4 * 24],
+};
+
+/// As many flags as the rings take bytes to keep, so that these have the piece of the first flags, and the hand's flags
+/// need one of their own.
+const EVEN: Case = Case {
+    buffers: 64,
+    pieces: &[64, 2 * 512, 64, 2 * 128 * 24, 2 * 512, 2 * 128 * 24],
+};
+
+/// Memory of these sizes, the last first.
+fn set_aside(alloc: Global, sizes: &[usize]) -> Result<Vec<Vec<u8>>, AllocError> {
+    let mut pieces = Vec::with_capacity(alloc, sizes.len())?;
+    for size in sizes {
+        let piece = Vec::with_capacity(alloc, *size)?;
+        if pieces.push(piece).is_err() {
+            return Err(AllocError);
+        }
+    }
+    pieces.reverse();
+    Ok(pieces)
+}
+
+/// The numbers of all buffers, the last first.
+fn numbers(alloc: Global, buffers: u32) -> Result<Vec<u32>, AllocError> {
+    let mut all = Vec::new(alloc);
+    for number in 0..buffers {
+        if all.push(number).is_err() {
+            return Err(AllocError);
+        }
+    }
+    all.reverse();
+    Ok(all)
+}
+
+/// Whether `new` tells want of memory where there are just so many of its pieces. Its items come back then, in order,
+/// and a fabric is made of them once there is memory.
+fn is_refused(alloc: Global, case: &Case, served: usize) -> Result<bool, Wrong> {
+    let wrong = Wrong("no memory before it is taken");
+    let all = numbers(alloc, case.buffers).or(Err(wrong))?;
+    let items = tickets(alloc, &all).ok_or(wrong)?;
+    let room = u64::from(case.buffers);
+    let rings = plans(alloc, room, 2).ok_or(wrong)?;
+    let again = plans(alloc, room, 2).ok_or(wrong)?;
+    let mut pieces = set_aside(alloc, case.pieces).or(Err(wrong))?;
+    let held = taken(alloc)?;
+    for _ in 0..served {
+        pieces.pop();
+    }
+    let first = Fabric::<Ticket, 4>::new(alloc, rings, case.buffers, items);
+    drop(held);
+    let Err(refused) = first else {
+        return Ok(false);
+    };
+    let OpenFault::Memory(items) = refused else {
+        return Err(Wrong("a fabric is refused for another reason"));
+    };
+    if !are(&items, &all) {
+        return Err(Wrong("other items come back"));
+    }
+    let Ok(opened) = Fabric::<Ticket, 4>::new(alloc, again, case.buffers, items) else {
+        return Err(Wrong("a fabric isn't made where there is memory"));
+    };
+    if !are(&opened.items, &all) {
+        return Err(Wrong("a fabric has other items"));
+    }
+    Ok(true)
+}
+
+/// Refuses each request in turn; with all pieces a fabric is made.
+fn refuse_each(alloc: Global, case: &Case) -> Result<(), Fail> {
+    for served in 0..case.pieces.len() + 1 {
+        match is_refused(alloc, case, served) {
+            Ok(refused) if refused == (served < case.pieces.len()) => (),
+            Ok(_) => return Err("a piece of memory isn't needed, or isn't enough".into()),
+            Err(Wrong(text)) => return Err(text.into()),
+        }
+    }
+    Ok(())
+}
+
+#[test]
+fn each_request_of_new_is_refused(rt: HostRuntime) -> Result<(), Fail> {
+    refuse_each(rt.alloc(), &SMALL)?;
+    refuse_each(rt.alloc(), &EVEN)
+}
+
+/// Splits a hand that has all buffers while there is no memory: it comes back as it was, and is split once there is.
+fn split_twice(f: &Rings, alloc: Global, hand: Hand<Ticket>, buffers: u32) -> Result<(), Wrong>
+    requires hand { IsHandOf f.now hand }
+{
+    let held = taken(alloc)?;
+    let answer = hand.split(alloc, f);
+    drop(held);
+    let Err((hand, SplitFault::Memory)) = answer else {
+        return Err(Wrong("a split without memory"));
+    };
+    if !hand.whole() || !owns_all(&hand, buffers) {
+        return Err(Wrong("a hand that wasn't split has lost something"));
+    }
+    let (first, second) = split(f, alloc, hand)?;
+    if first.whole() || second.owns(0) || !owns_all(&first, buffers) {
+        return Err(Wrong("a split gives other buffers"));
+    }
+    if !first.join(f, second).whole() {
+        return Err(Wrong("a hand is missing"));
+    }
+    Ok(())
+}
+
+/// Whether a hand has all of so many buffers, and no other.
+fn owns_all(hand: &Hand<Ticket>, buffers: u32) -> bool {
+    for number in 0..buffers {
+        if !hand.owns(number) {
+            return false;
+        }
+    }
+    !hand.owns(buffers)
+}
+
+#[test]
+fn the_one_request_of_split_is_refused(rt: HostRuntime) -> Result<(), Fail> {
+    let alloc = rt.alloc();
+    let layout = Layout {
+        buffers: 3,
+        capacity: 3,
+        modes: (Mode::Multi, Mode::Hts),
+    };
+    let Opened { fabric, hand, .. } = opened(alloc, layout)?;
+    match split_twice(&fabric, alloc, hand, layout.buffers) {
+        Ok(()) => Ok(()),
+        Err(Wrong(text)) => Err(text.into()),
+    }
+}
