@@ -1,6 +1,6 @@
 -- Lists of options whose entries are all there.
-use Rattle.std.proofs.Common.{◌≡◌, ◌<◌, List, [], ◌∷◌, ◌++◌, map, length, sym, refl, ap, ◌∙◌, Option, Some, None, IsSome, IfNone, arith, ◌↔◌, rules}
-use Rattle.std.specs.Prelude.{reverse}
+use Rattle.std.proofs.Common.{◌≡◌, ◌<◌, ℕ, zero, suc, take, drop, get_or, List, [], ◌∷◌, ◌++◌, map, length, sym, refl, ap, ◌∙◌, Option, Some, None, IsSome, IfNone, arith, ◌↔◌, rules}
+use Rattle.std.specs.Prelude.{reverse, slice_get}
 use Rattle.std.specs.Option.{option_to_list}
 use Rattle.std.proofs.lemmas.List.{length-map, map-append, length-append, reverse-append, reverse-reverse}
 use Rattle.burst.specs.Items.{somes}
@@ -30,6 +30,10 @@ module _ {T : Type 0} where
       → Holds later (xs ++ x ∷ [])
   pushed cells xs x later h e = record { cells_are = e ∙ ap (λ (l : List (Option T)). l ++ Some x ∷ []) h.cells_are ∙ sym (map-append Some xs (x ∷ [])) }
 
+  pub appended : (cells more : List (Option T)) (xs ys : List T) (later : List (Option T)) → Holds cells xs → Holds more ys → later ≡ cells ++ more
+      → Holds later (xs ++ ys)
+  appended cells more xs ys later h i e = record { cells_are = e ∙ ((λ k. h.cells_are k ++ i.cells_are k) ∙ sym (map-append Some xs ys)) }
+
   map_reverse : (xs : List T) → ◌≡◌ {A = List (Option T)} (reverse (map Some xs)) (map Some (reverse xs))
   map_reverse [] = refl
   map_reverse (x ∷ xs) =
@@ -38,6 +42,38 @@ module _ {T : Type 0} where
 
   pub turned : (cells : List (Option T)) (xs : List T) (later : List (Option T)) → Holds cells xs → later ≡ reverse cells → Holds later (reverse xs)
   turned cells xs later h e = record { cells_are = e ∙ ap reverse h.cells_are ∙ map_reverse xs }
+
+  map_take : (k : ℕ) (xs : List T) → ◌≡◌ {A = List (Option T)} (take k (map Some xs)) (map Some (take k xs))
+  map_take zero xs = refl
+  map_take (suc k) [] = refl
+  map_take (suc k) (x ∷ xs) = ap (λ (l : List (Option T)). Some x ∷ l) (map_take k xs)
+
+  map_drop : (k : ℕ) (xs : List T) → ◌≡◌ {A = List (Option T)} (drop k (map Some xs)) (map Some (drop k xs))
+  map_drop zero xs = refl
+  map_drop (suc k) [] = refl
+  map_drop (suc k) (x ∷ xs) = map_drop k xs
+
+  -- the first items, and the others
+  pub first : (k : ℕ) (cells : List (Option T)) (xs : List T) (later : List (Option T)) → Holds cells xs → later ≡ take k cells → Holds later (take k xs)
+  first k cells xs later h e = record { cells_are = e ∙ (ap (take k) h.cells_are ∙ map_take k xs) }
+
+  behind : (k : ℕ) (cells : List (Option T)) (xs : List T) → Holds cells xs → Holds (drop k cells) (drop k xs)
+  behind k cells xs h = record { cells_are = ap (drop k) h.cells_are ∙ map_drop k xs }
+
+  pub poured : (k : ℕ) (cells more : List (Option T)) (xs ys : List T) (later : List (Option T)) → Holds cells xs → Holds more ys
+      → later ≡ more ++ reverse (drop k cells) → Holds later (ys ++ reverse (drop k xs))
+  poured k cells more xs ys later h i e =
+      appended more (reverse (drop k cells)) ys (reverse (drop k xs)) later i (turned (drop k cells) (drop k xs) (reverse (drop k cells)) (behind k cells xs h) refl) e
+
+  -- the item in a cell
+  pub in_cell : (cells : List (Option T)) (xs : List T) (i : ℕ) (cell : Option T) → Holds cells xs → i < length xs → cell ≡ get_or cells i cell
+      → slice_get xs i ≡ cell
+  in_cell cells xs i cell h lt e = go xs i lt (e ∙ ap (λ l. get_or l i cell) h.cells_are)
+    where
+      go : (xs : List T) (i : ℕ) → i < length xs → ◌≡◌ {A = Option T} cell (get_or (map Some xs) i cell) → slice_get xs i ≡ cell
+      go [] i lt e = absurd (omega arith)
+      go (x ∷ xs) zero lt e = sym e
+      go (x ∷ xs) (suc i) lt e = go xs i (omega arith) e
 
   -- what a list of items is before and after its last one went
   pub record Pops (xs : List T) (cells : List (Option T)) (cell : Option T) : Type 0 where

@@ -1,5 +1,5 @@
 -- Lists of the numbers of buffers.
-use Rattle.std.specs.Prelude.{ℕ, ◌≤◌, ◌==◌, List}
+use Rattle.std.specs.Prelude.{ℕ, ◌≤◌, ◌==◌, List, [], ◌∷◌, Option, None, Some}
 use Rattle.std.specs.List.{count_by}
 
 -- how often a buffer stands in a list of numbers
@@ -9,3 +9,9 @@ times b numbers = count_by (λ n. n == b) numbers
 -- no number stands in the list twice
 abbrev pub AreDistinct : List ℕ → Type 0
 AreDistinct numbers = (b : ℕ) → times b numbers ≤ 1
+
+-- the number of a list that has just one
+abbrev pub only : List ℕ → Option ℕ
+only [] = None
+only (b ∷ []) = Some b
+only (b ∷ c ∷ more) = None

@@ -1,6 +1,6 @@
 //! A short list of items that takes no memory of its own: what goes to a ring, or comes from one, in one call.
-ghost use Rattle.std.specs.Prelude.{◌≡◌, ◌+◌, ◌<◌, ◌≤◌, ◌==◌, ◌↔◌, List, [], ◌∷◌, ◌++◌, length, reverse, slice_get};
-ghost use Rattle.std.specs.Prelude.{IsSome, IfNone};
+ghost use Rattle.std.specs.Prelude.{◌≡◌, ◌+◌, ◌-◌, ◌<◌, ◌≤◌, ◌==◌, ◌↔◌, List, [], ◌∷◌, ◌++◌, length, reverse, take, drop};
+ghost use Rattle.std.specs.Prelude.{slice_get, IsSome, IfNone};
 ghost use Rattle.std.specs.Option.{option_copied, option_to_list};
 
 use crate::cells::Cells;
@@ -72,6 +72,15 @@ impl<T: Drop, const N: usize> Burst<T, N> {
         }
     }
 
+    /// `get` of a place that the list is known to have: without a look at its length.
+    #[inline]
+    pub fn get_known(&self, i: usize) -> Option<&T>
+        requires { i < length self.now }
+        ensures { option_copied result ≡ slice_get self.now i }
+    {
+        self.cells.as_slice()[i].as_ref()
+    }
+
     /// Appends an item. Asked: the list isn't full.
     #[inline]
     pub fn push(&mut self, item: T)
@@ -102,6 +111,28 @@ impl<T: Drop, const N: usize> Burst<T, N> {
         let item = self.pop();
         self.reverse();
         item
+    }
+
+    /// Moves all items of another list behind these, in order. Asked: there is room for them.
+    #[inline]
+    pub fn append(&mut self, other: &mut Burst<T, N>)
+        requires room { length self.old + length other.old ≤ N }
+        ensures moved { self.new ≡ self.old ++ other.old }
+        ensures left { other.new ≡ [] }
+    {
+        self.cells.append(&mut other.cells);
+    }
+
+    /// Moves the items behind the first `k` behind those of another list, the last of them first. Asked: there are so
+    /// many, and there is room.
+    #[inline]
+    pub fn pour(&mut self, k: usize, to: &mut Burst<T, N>)
+        requires fits { k ≤ length self.old }
+        requires room { length to.old + (length self.old - k) ≤ N }
+        ensures left { self.new ≡ take k self.old }
+        ensures moved { to.new ≡ to.old ++ reverse (drop k self.old) }
+    {
+        self.cells.pour(k, &mut to.cells);
     }
 
     /// Turns the order of the items round.

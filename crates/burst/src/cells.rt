@@ -127,6 +127,44 @@ impl<T: Drop, const N: usize> Cells<T, N> {
         Some(replace(&mut self.row, last, None))
     }
 
+    /// Moves all cells of another list behind these, in order. Asked: there is room for them.
+    #[inline]
+    pub fn append(&mut self, other: &mut Cells<T, N>)
+        requires room { length self.old + length other.old ≤ N }
+        ensures moved { self.new ≡ self.old ++ other.old }
+        ensures left { other.new ≡ [] }
+    {
+        let before = self.len();
+        let many = other.len();
+        self.lengthen(many);
+        for i in 0..many {
+            let cell = other.replace(i, None);
+            // the cell held nothing, so that nothing is to be dropped
+            let _nothing = ManuallyDrop::new(self.replace(before + i, cell));
+        }
+        other.shorten(0);
+    }
+
+    /// Moves the cells behind the first `k` behind those of another list, the last of them first. Asked: there are so
+    /// many, and there is room.
+    #[inline]
+    pub fn pour(&mut self, k: usize, to: &mut Cells<T, N>)
+        requires fits { k ≤ length self.old }
+        requires room { length to.old + (length self.old - k) ≤ N }
+        ensures left { self.new ≡ take k self.old }
+        ensures moved { to.new ≡ to.old ++ reverse (drop k self.old) }
+    {
+        let before = to.len();
+        let all = self.len();
+        to.lengthen(all - k);
+        for i in 0..all - k {
+            let cell = self.replace(all - 1 - i, None);
+            // the cell held nothing, so that nothing is to be dropped
+            let _nothing = ManuallyDrop::new(to.replace(before + i, cell));
+        }
+        self.shorten(k);
+    }
+
     /// Turns the order of the cells round.
     pub fn reverse(&mut self)
         ensures { self.new ≡ reverse self.old }

@@ -1,7 +1,7 @@
 //! Items that carry buffers. A ring of buffers can be trusted to hold each of them once only if an item can't hide
 //! one, nor name one twice: this trait is where an item says what it carries.
 ghost use Rattle.std.specs.Prelude.{◌≡◌, ℕ, List, []};
-ghost use Rattle.burst.specs.Numbers.{AreDistinct};
+ghost use Rattle.burst.specs.Numbers.{AreDistinct, only};
 
 use arrayvec::ArrayVec;
 
@@ -19,4 +19,15 @@ pub trait Tagged: Drop {
         ensures told { out.new.items ≡ numbers self.now }
         // no item carries a buffer twice: each `impl` shows it, and a generic caller learns it of any item that it asks
         ensures distinct { AreDistinct (numbers self.now) };
+
+    /// The number of the item's buffer, where it carries exactly one, as most items do. What is asked of each item on
+    /// its way; an `impl` whose `tags` is long has a shorter way to tell it.
+    #[inline]
+    fn only_tag(&self) -> Option<u32>
+        ensures { result ≡ only (numbers self.now) }
+    {
+        let mut out = ArrayVec::new();
+        self.tags(&mut out);
+        if out.len() == 1 { out.pop() } else { None }
+    }
 }

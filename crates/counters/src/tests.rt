@@ -12,6 +12,8 @@ use ipv4::{Reason, Verdict};
 use std::alloc::Global;
 use std::test::Fail;
 
+const MANY: u64 = 123_456;
+
 /// A caller: the counts are those of the verdicts, by the contracts alone.
 fn two_verdicts() -> Counts
     ensures { result ≡ counts_of 2 1 (Send 1 true ∷ Drop Expired ∷ []) }
@@ -56,6 +58,28 @@ fn sixteen_ports(rt: HostRuntime) -> Result<(), Fail> {
             "port 15 1\nshort 0\nnot-ipv4 0\nbad-header 0\nbad-length 0\nbad-checksum 0\n\
         expired 0\nno-route 0\ntagged 0\ntorn yes\n"
         )
+    );
+    Ok(())
+}
+
+/// Counts of more records than any small constant allows for.
+fn many() -> Counts {
+    let mut counts = Counts::new(1);
+    for _ in 0..MANY {
+        if counts.records() < MANY {
+            counts.add_oversize();
+        }
+    }
+    counts
+}
+
+#[test]
+fn great_numbers(rt: HostRuntime) -> Result<(), Fail> {
+    let mut text = Vec::new(rt.alloc());
+    many().report(rt.alloc(), false, &mut text)?;
+    assert!(rt;
+        text.as_slice()
+            .starts_with(b"records 123456\noversize 123456\nport 0 0\nshort 0\n")
     );
     Ok(())
 }

@@ -14,22 +14,6 @@ use crate::hand::{Hand, PutOpen, SettleFault, Share};
 use burst::{Burst, Tagged};
 use geom::Side;
 
-/// Moves the items behind the first `k` of one list behind those of another, the last of them first. Asked: there is
-/// room for them.
-fn pour<T: Tagged, const N: usize>(from: &mut Burst<T, N>, k: usize, to: &mut Burst<T, N>)
-    requires fits { k ≤ length from.old }
-    requires room { length to.old + (length from.old - k) ≤ N }
-    ensures left { from.new ≡ take k from.old }
-    ensures moved { to.new ≡ to.old ++ reverse (drop k from.old) }
-{
-    for _i in k..from.len() {
-        let Some(item) = from.pop() else {
-            unreachable!();
-        };
-        to.push(item);
-    }
-}
-
 impl<T: Tagged> Hand<T> {
     /// Whether items may be put on a ring: they carry buffers that are the hand's own, none twice, and on a free ring
     /// exactly one each. A settle there is then not refused as `NotYours`. No step on a word.
@@ -76,9 +60,9 @@ impl<'f, T: Tagged, const N: usize> PutOpen<'f, T, N> {
             return self.try_settle_from(items);
         }
         let mut others = Burst::new();
-        pour(items, k, &mut others);
+        items.pour(k, &mut others);
         let answer = self.try_settle_from(items);
-        pour(&mut others, 0, items);
+        others.pour(0, items);
         answer
     }
 

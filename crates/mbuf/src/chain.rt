@@ -112,4 +112,13 @@ impl Tagged for Chain {
     fn tags(&self, out: &mut ArrayVec<u32, 64>) {
         self.first.tags(out);
     }
+
+    #[inline]
+    fn only_tag(&self) -> Option<u32> {
+        if self.segments == 1 {
+            Some(self.first.number())
+        } else {
+            None
+        }
+    }
 }

@@ -48,6 +48,14 @@ impl Link {
         }
     }
 
+    /// The number of the first segment.
+    #[inline]
+    pub fn number(&self) -> u32
+        ensures { result ≡ self.now.0.number }
+    {
+        self.segment.number()
+    }
+
     /// The headroom of the first segment.
     #[inline]
     pub fn headroom(&self) -> usize

@@ -253,6 +253,18 @@ fn passes_large_pieces(rt: HostRuntime) -> Result<(), Fail> {
     read_three(&rt, rt.alloc(), &mut reader)
 }
 
+/// A record of as many bytes as one may have captured.
+#[test]
+fn reads_the_longest_record(rt: HostRuntime) -> Result<(), Fail> {
+    let mut file = Vec::from_slice(rt.alloc(), &lengths(262_144, 262_144))?;
+    file.resize(40 + 262_144, 7)?;
+    let mut reader = open(rt.alloc(), file.as_slice())?;
+    let record = reader.next(rt.alloc())?.ok_or("no record")?;
+    assert_eq!(rt; (record.wire, record.bytes.len()), (262_144, 262_144));
+    assert!(rt; record.bytes.iter().all(|b| *b == 7));
+    Ok(())
+}
+
 /// A record of the capture of many: its number, its size and its bytes.
 fn is_nth(rt: &impl Abort, number: u32, record: &Record) {
     let (size, byte) = (size_of(number), (number % 251) as u8);

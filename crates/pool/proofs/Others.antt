@@ -1,5 +1,5 @@
 -- What a hand has after a put or a take on another ring, beside the buffers that it keeps back
-use Rattle.std.proofs.Common.{◌≡◌, ℕ, ◌+◌, ◌-◌, ◌++◌, inl, inr, List, [], Some, Err, length, refl, take, ap, ◌∙◌, subst, sym, arith}
+use Rattle.std.proofs.Common.{◌≡◌, ℕ, ◌+◌, ◌-◌, ◌++◌, inl, inr, List, [], Some, Err, length, refl, take, ap, ◌∙◌, arith}
 use Rattle.geom.specs.declared.plan.RingPlan.{RingPlan}
 use Rattle.geom.specs.declared.plan.Side.TheVariants.{Put, Take}
 use Rattle.ringcore_laws.specs.FreeRings.{AreSingle}
@@ -11,7 +11,7 @@ use Rattle.fabric.specs.declared.hand.Hand.{Hand}
 use Rattle.fabric.specs.declared.hand.StartFault.{StartFault}
 use Rattle.fabric.specs.declared.keeper.Keeper.{Keeper}
 use Rattle.fabric.specs.Hands.{view}
-use Rattle.fabric.specs.Keepers.{AreNotSpare, AreSpare, IsKeeperFor, Keeps, SameKeeper, SparesTheSame, view_of_keeper}
+use Rattle.fabric.specs.Keepers.{AreNotSpare, AreSpare, Keeps, SameKeeper, SparesTheSame, view_of_keeper}
 use Rattle.fabric.specs.Settles.{AreNotYours, AreOwnBuffers, AreYours}
 use Rattle.fabric.proofs.Holding.{holds_put, holds_take}
 use Rattle.fabric.proofs.Told.{refused_kept}

@@ -7,7 +7,7 @@ ghost use Rattle.pool.specs.Asks.{Fetches, Flushes, HasLess, HasMore, Refills, S
 ghost use Rattle.pool.specs.Hands.{IsFreeOf};
 
 use crate::faults::PoolFault;
-use crate::moves::{pour, serve};
+use crate::moves::serve;
 use burst::{Burst, Tagged};
 use fabric::{Fabric, Hand, StartFault};
 use ringapi::{PutAnswer, TakeAnswer, put_own_bulk_from, take_bulk_into};
@@ -142,14 +142,14 @@ pub(crate) fn spill<T: Tagged, const N: usize, R: Wait>(
     ensures back { IfErr result (λ _. cache.new ≡ cache.old) }
     ensures left { others.new ≡ [] }
 {
-    pour(cache, spare, others);
+    cache.pour(spare, others);
     match place(rt, f, hand, ring, cache) {
         Ok(hand) => {
-            pour(others, 0, cache);
+            others.pour(0, cache);
             Ok(hand)
         }
         Err(hand) => {
-            pour(others, 0, cache);
+            others.pour(0, cache);
             Err(hand)
         }
     }
@@ -182,14 +182,14 @@ pub(crate) fn fetch<T: Tagged, const N: usize, R: Wait>(
     ensures party { IfErr result (λ e. (view e.0).party ≡ (view hand).party) }
 {
     let missing = n - cache.len();
-    pour(cache, 0, into);
+    cache.pour(0, into);
     match refill(rt, f, hand, ring, missing, size, cache) {
         Ok(hand) => {
             serve(cache, missing, into);
             Ok(hand)
         }
         Err(refused) => {
-            pour(into, 0, cache);
+            into.pour(0, cache);
             Err(refused)
         }
     }

@@ -6,7 +6,6 @@ ghost use Rattle.pool.specs.Locals.{HasSameHand, SameRing, cache_of, size_of, vi
 
 use crate::faults::PoolFault;
 use crate::local::Local;
-use crate::moves::{append, pour};
 use burst::{Burst, Tagged};
 
 impl<T: Tagged, const N: usize> Local<T, N> {
@@ -22,7 +21,7 @@ impl<T: Tagged, const N: usize> Local<T, N> {
         if cached < n {
             return Err(PoolFault::Short);
         }
-        pour(&mut self.cache, cached - n, into);
+        self.cache.pour(cached - n, into);
         match &mut self.hand {
             Some(keeper) => keeper.release(into),
             None => unreachable!(),
@@ -50,7 +49,7 @@ impl<T: Tagged, const N: usize> Local<T, N> {
             keeper.release(list);
             return Err(PoolFault::CacheFull);
         }
-        append(list, &mut self.cache);
+        self.cache.append(list);
         Ok(())
     }
 }

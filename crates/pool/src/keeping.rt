@@ -8,7 +8,7 @@ ghost use Rattle.pool.specs.Asks.{Sheds};
 ghost use Rattle.pool.specs.Hands.{IsFreeOf};
 
 use crate::asks::spill;
-use crate::moves::{append, part};
+use crate::moves::part;
 use burst::{Burst, Tagged};
 use fabric::{Fabric, Hand, Keeper};
 use std::sync::Wait;
@@ -46,7 +46,7 @@ pub(crate) fn admit<T: Tagged, const N: usize>(
 {
     let may = keeper.keep(list);
     if may {
-        append(list, cache);
+        cache.append(list);
     }
     may
 }

@@ -1,5 +1,8 @@
 //! Worked documents, the texts of faults, and what is left where memory is refused.
 
+ghost use Rattle.std.specs.Prelude.{◌≡◌, Err, IsUtf8, OnOk};
+ghost use Rattle.settings.specs.declared.fault.SettingsFault.TheVariants.{NotToml};
+
 use exhaust::take_all;
 use settings::{Key, Settings, SettingsFault};
 use std::alloc::{AllocError, Global};
@@ -23,7 +26,10 @@ pub const ROUTE: &str = "[[route]]\nport = 0\nto = \"02:00:00:00:00:20\"\n";
 const MAX_PORTS: u32 = 16;
 
 /// Reads a text, once more where memory was refused.
-fn read(alloc: Global, text: &[u8]) -> Result<Settings, SettingsFault> {
+fn read(alloc: Global, text: &[u8]) -> Result<Settings, SettingsFault>
+    ensures well { OnOk result (IsUtf8 text.now) }
+    ensures bytes { (¬ IsUtf8 text.now) → result ≡ Err NotToml }
+{
     match Settings::read(alloc, text) {
         Err(SettingsFault::Memory) => Settings::read(alloc, text),
         answer => answer,
@@ -291,6 +297,19 @@ fn arrays_of_routes(rt: HostRuntime) -> Result<(), Fail> {
         ),
     ];
     all_refused(&rt, &rows)
+}
+
+/// The example among keys and tables that mean nothing here.
+const AMONG_OTHERS: &str =
+    "name = \"a\"\nbuffers = 256\n[[port]]\nname = 1\nmac = \"02:00:00:00:00:10\"\n\
+    [[route]]\nvia = 1\nprefix = \"10.0.0.0/8\"\nport = 0\nto = \"02:00:00:00:00:20\"\n\
+    [ports]\nbuffers = 0\n[[routes]]\nport = 1\n";
+
+#[test]
+fn other_keys_are_ignored(rt: HostRuntime) -> Result<(), Fail> {
+    let settings = well(&rt, &[AMONG_OTHERS])?;
+    are_the_examples(&rt, &settings);
+    Ok(())
 }
 
 #[test]

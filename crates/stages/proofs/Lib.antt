@@ -22,3 +22,4 @@ pub mod Marks
 pub mod Rounds
 pub mod Ended
 pub mod Alike
+mod Rows

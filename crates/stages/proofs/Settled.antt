@@ -1,17 +1,12 @@
 -- What whole puts and takes change of the view of a hand: the items that it settled, and those that are its own.
-use Rattle.std.proofs.Common.{◌≡◌, ℕ, ◌-◌, ◌<◌, ◌≤◌, List, [], ◌∷◌, ◌++◌, length, take, drop, Bool, true, false, refl, sym, ap, ◌∙◌, subst, arith, append-nil, append_assoc}
+use Rattle.std.proofs.Common.{◌≡◌, ℕ, ◌-◌, ◌<◌, ◌≤◌, List, [], ◌∷◌, ◌++◌, length, take, Bool, true, false, refl, sym, ap, ◌∙◌, subst, arith, append-nil, append_assoc}
 use Rattle.std.specs.Prelude.{◌==◌, ◌&&◌, if◌then◌else◌}
-use Rattle.std.specs.List.{list_all}
 use Rattle.std.proofs.lemmas.Bool.Decides.{nat_tests}
-use Rattle.std.proofs.lemmas.List.{take-append-drop}
-use Rattle.std.proofs.lemmas.List.Folds.{list_all-append}
 use Rattle.geom.specs.declared.plan.How.{How}
 use Rattle.geom.specs.declared.plan.RingPlan.{RingPlan}
-use Rattle.geom.specs.declared.plan.Side.{Side}
 use Rattle.geom.specs.declared.plan.Side.TheVariants.{Put, Take}
 use Rattle.ringcore_laws.specs.declared.party.Party.{Party}
 use Rattle.ringcore_laws.specs.declared.party.Settled.{Settled}
-use Rattle.ringcore_laws.specs.FreeRings.{AreSingle, buffers_had}
 use Rattle.ringcore_laws.specs.Party.{with_settled}
 use Rattle.ringcore_laws.specs.Sound.{holds, occurrences_in}
 use Rattle.burst.specs.declared.tagged.Tagged.{Ghosts}
@@ -19,7 +14,6 @@ use Rattle.fabric_laws.specs.declared.view.View.{View}
 use Rattle.fabric_laws.specs.Changes.{settled}
 use Rattle.fabric_laws.specs.Kinds.{IsHeldOnce}
 use Rattle.fabric.specs.declared.hand.Hand.{Hand}
-use Rattle.fabric.specs.declared.hand.StartFault.{StartFault}
 use Rattle.fabric.specs.declared.hand.StartFault.TheVariants.{Busy, Contended, NoRoom, Worn, BadCount}
 use Rattle.fabric.specs.Hands.{view}
 use Rattle.fabric.specs.Settles.{AreYours}
@@ -37,8 +31,8 @@ use Rattle.ringapi.specs.declared.answers.PutAnswer.TheVariants.{Done, Refused}
 use Rattle.ringapi.specs.declared.answers.Refusal.{Refusal}
 use Rattle.ringapi.specs.declared.answers.Refusal.TheVariants.{Start, NotYours}
 use Rattle.ringapi.specs.Puts.{IsUnfinishedPut, PutHasTold, PutSettles}
-use Rattle.ringapi.specs.Views.{HasSettled, IsMoved, RefusedStarts, settled_span}
-use Rattle.ringapi.proofs.Tries.{reserved_party, starts_kept}
+use Rattle.ringapi.specs.Views.{HasSettled, settled_span}
+use Rattle.ringapi.proofs.Tries.{starts_kept}
 use Rattle.ringapi.proofs.Yours.{kept_yours, not_both}
 use Rattle.stages.specs.Passing.{Passes, Puts, settled_on}
 

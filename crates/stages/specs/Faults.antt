@@ -1,5 +1,5 @@
 -- The numbers of the faults of a run.
-use Rattle.std.specs.Prelude.{ℕ}
+use Rattle.std.specs.Prelude.{ℕ, nat_lt, if◌then◌else◌}
 use Rattle.pcapio_laws.specs.declared.fault.CapFault.{CapFault}
 use Rattle.stages.specs.declared.fault.RingFault.{RingFault}
 use Rattle.stages.specs.declared.fault.RingFault.TheVariants as ring
@@ -21,6 +21,10 @@ lowest_of port Memory = Memory
 lowest_of port Thread = Thread
 lowest_of port Read = Read
 lowest_of port fault = Write port
+
+-- of two faults the one with the lower number; of two with one number the first
+abbrev pub lower_of : RunFault → RunFault → RunFault
+lower_of a b = if nat_lt (number_of b) (number_of a) then b else a
 
 -- the fault of a run whose input has this fault
 abbrev pub fault_of_input : CapFault → RunFault

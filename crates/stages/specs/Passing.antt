@@ -1,6 +1,7 @@
 -- What a hand settled on the rings of a run between two moments.
-use Rattle.std.specs.Prelude.{◌≡◌, ℕ, false, if◌then◌else◌, List, [], ◌∷◌, ◌++◌, length, slice_get, Some}
-use Rattle.geom.specs.declared.plan.Mode.TheVariants.{Hts}
+use Rattle.std.specs.Prelude.{◌≡◌, ℕ, Bool, true, false, if◌then◌else◌, map, List, [], ◌∷◌, ◌++◌, length, slice_get, Some}
+use Rattle.geom.specs.declared.plan.Mode.{Mode}
+use Rattle.geom.specs.declared.plan.Mode.TheVariants.{Hts, Multi}
 use Rattle.geom.specs.declared.plan.RingPlan.{RingPlan}
 use Rattle.geom.specs.declared.plan.Side.{Side}
 use Rattle.geom.specs.declared.plan.Side.TheVariants.{Put, Take}
@@ -15,6 +16,15 @@ pub record AreRings (plans : List RingPlan) : Type 0 where
   pub free : IsFreeRing plans 0
   pub peeked : (plan : RingPlan) → slice_get plans 1 ≡ Some plan → plan.take ≡ Hts
   pub mixed : (plan : RingPlan) → slice_get plans 2 ≡ Some plan → plan.free ≡ false
+
+-- what is asked of a ring: its capacity, the modes of its sides, and whether it holds free segments
+abbrev pub asked_of : RingPlan → ℕ × (Mode × (Mode × Bool))
+asked_of plan = (plan.geometry.capacity, (plan.put, (plan.take, plan.free)))
+
+-- one for all segments, and two of the same capacity
+abbrev pub AreAsked : ℕ → ℕ → List RingPlan → Type 0
+AreAsked buffers ring plans = map asked_of plans
+    ≡ (buffers, (Multi, (Multi, true))) ∷ (ring, (Multi, (Hts, false))) ∷ (ring, (Multi, (Multi, false))) ∷ []
 
 module _ {T : Type 0} where
   -- The items that a hand settled on a side of a ring, in the order in which it did so: its settled spans stand newest

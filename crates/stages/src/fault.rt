@@ -1,6 +1,6 @@
 //! Why a run has no answer.
 ghost use Rattle.std.specs.Prelude.{◌≡◌, ◌⊎◌};
-ghost use Rattle.stages.specs.Faults.{number_of, fault_of_ring};
+ghost use Rattle.stages.specs.Faults.{number_of, lower_of, fault_of_ring};
 
 use pcapio::CapFault;
 
@@ -63,7 +63,8 @@ impl RingFault {
 
 /// Of two faults the one with the lower number; of two with one number the first.
 pub(crate) fn lower(a: RunFault, b: RunFault) -> RunFault
-    ensures { (result ≡ a) ⊎ (result ≡ b) }
+    ensures value { result ≡ lower_of a b }
+    ensures either { (result ≡ a) ⊎ (result ≡ b) }
 {
     if b.number() < a.number() { b } else { a }
 }

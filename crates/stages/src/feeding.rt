@@ -1,5 +1,5 @@
 //! The reader of a run in threads: it reads each record into free segments, and gives it to the workers.
-ghost use Rattle.std.specs.Prelude.{◌≡◌, ◌≤◌, ◌<◌, ◌*◌, length, IfOk, IfErr, OnOk};
+ghost use Rattle.std.specs.Prelude.{◌≡◌, ◌≤◌, ◌<◌, ◌⊎◌, ◌*◌, ◌-◌, max, length, IfOk, IfErr, OnOk};
 ghost use Rattle.fabric.specs.Hands.{IsHandOf, rings_of};
 ghost use Rattle.mbuf.specs.Chain.{space_of};
 ghost use Rattle.pcapio.specs.Counted.{failures_of};
@@ -36,6 +36,8 @@ fn segments_of(captured: usize, room: usize) -> usize
     requires fits { captured ≤ 64 * room }
     ensures some { 0 < result }
     ensures few { result ≤ 64 }
+    ensures enough { captured ≤ result * room }
+    ensures least { (result ≡ 1) ⊎ ((result - 1) * room < captured) }
 {
     if captured == 0 {
         return 1;
@@ -93,6 +95,7 @@ fn enqueue<J: Run, T: Wait>(
     packet: Packet<J>,
 ) -> Result<(), RingFault>
     requires few { burst ≤ 64 }
+    ensures { IfOk result (λ _. length batch.new ≤ max 1 burst) }
 {
     if batch.len() >= burst {
         station.send(rt, INPUT, batch)?;

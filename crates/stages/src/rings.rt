@@ -1,7 +1,7 @@
 //! The rings of a run in threads, and the segments that stand on them.
 ghost use Rattle.std.specs.Prelude.{◌≡◌, ◌<◌, [], IfOk, IfSome, length};
 ghost use Rattle.fabric.specs.Hands.{IsHandOf, rings_of};
-ghost use Rattle.stages.specs.Passing.{AreRings};
+ghost use Rattle.stages.specs.Passing.{AreRings, AreAsked};
 
 use crate::fault::RingFault;
 use crate::free::as_free;
@@ -31,7 +31,8 @@ pub(crate) const OUTPUT: usize = 2;
 /// The rings: free segments; packets before their verdict, at which workers peek; packets after it. None for want of
 /// memory.
 fn plans(alloc: Global, settings: &Settings) -> Option<Vec<RingPlan>>
-    ensures { IfSome result (λ rings. AreRings rings.items) }
+    ensures rings { IfSome result (λ rings. AreRings rings.items) }
+    ensures asked { IfSome result (λ rings. AreAsked settings.now.buffers settings.now.ring rings.items) }
 {
     let free = Geometry::exact(settings.buffers as u64).ok()?;
     let geometry = Geometry::exact(settings.ring as u64).ok()?;

@@ -17,4 +17,14 @@ impl<J: Run> Tagged for Packet<J> {
             Packet::Mark => (),
         }
     }
+
+    #[inline]
+    fn only_tag(&self) -> Option<u32> {
+        match self {
+            Packet::Free(segment) => segment.chain.only_tag(),
+            Packet::Before(packet) => packet.chain.only_tag(),
+            Packet::After(packet) => packet.chain.only_tag(),
+            Packet::Mark => None,
+        }
+    }
 }

@@ -98,6 +98,7 @@ fn fetch<J: Run, R: Wait>(
     requires empty { into.old ≡ [] }
     ensures hand { IfOk result (IsHandOf f.now) }
     ensures settled { IfOk result (λ h. HasSettled 1 Take into.new (view hand) (view h)) }
+    ensures few { IfOk result (λ _. length into.new ≤ burst) }
     ensures part { IfOk result (λ _. until_mark into.new ≡ into.new) }
     ensures more { IfOk result (λ h. HasMore packet_numbers (view hand).party into.new (view h).party) }
     ensures worn { IfErr result (λ h. IsHandOf f.now h × IsWornAt 256 (view h)) }

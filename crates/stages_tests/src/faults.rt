@@ -91,6 +91,20 @@ fn of_two<R: Abort + AllocGlobal + Threads + Wait + Sync>(
 }
 
 #[test]
+fn faults_have_numbers(rt: HostRuntime) {
+    let faults = [
+        RunFault::Memory,
+        RunFault::Thread,
+        RunFault::Read,
+        RunFault::Write(9),
+        RunFault::Capture(CapFault::NotPcap),
+        RunFault::Window,
+        RunFault::Worn,
+    ];
+    assert_eq!(rt; faults.map(|fault| fault.number()), [1, 2, 3, 4, 5, 6, 7]);
+}
+
+#[test]
 fn of_two_faults_the_lower_is_told(rt: HostRuntime) -> Result<(), Fail> {
     let settings = Settings::read(rt.alloc(), TWO_PORTS.as_bytes())?;
     let case = three_records(rt.alloc(), b"")?;

@@ -25,20 +25,21 @@ fn a_thousand(alloc: Global) -> Result<Case, AllocError> {
     let mut case = Case::new(alloc, 2)?;
     for record in 0..1000usize {
         match (record % 10) as u8 {
-            0 | 4 | 8 => case.send((record % 4 / 2) as u8, &LONG[..record])?,
-            reason => case.waste(if reason > 7 { 7 } else { reason })?,
+            0 | 8 => case.send((record % 4 / 2) as u8, &LONG[..record])?,
+            9 => case.send(1, &LONG[..record])?,
+            reason => case.waste(reason)?,
         }
     }
     Ok(case)
 }
 
-/// Runs by 0, 1, 2 and 16 workers: each port is told all, and the report is that of one thread.
+/// Runs by 0, 1, 2 and 16 workers: each port is told all, and the report is that of one thread, which is given.
 fn alike<R: Abort + AllocGlobal + Threads + Wait + Sync>(
     rt: &R,
     settings: &Settings,
     case: &Case,
     records: u64,
-) -> Result<(), Fail> {
+) -> Result<Vec<u8>, Fail> {
     let one = run(rt, settings, case, 100_000, SOUND, 0)?;
     is_whole(rt, &one, records, false);
     let wanted = report_of(rt.alloc(), &one)?;
@@ -48,8 +49,14 @@ fn alike<R: Abort + AllocGlobal + Threads + Wait + Sync>(
         let report = report_of(rt.alloc(), &left)?;
         assert!(rt; report.as_slice() == wanted.as_slice());
     }
-    Ok(())
+    Ok(wanted)
 }
+
+/// The report of the thousand records: of each ten one is dropped for each reason, one is sent by port 1, and two by
+/// one port and the other in turn.
+const OF_A_THOUSAND: &str =
+    "records 1000\noversize 0\nport 0 100\nport 1 200\nshort 100\nnot-ipv4 100\n\
+    bad-header 100\nbad-length 100\nbad-checksum 100\nexpired 100\nno-route 100\ntagged 0\ntorn no\n";
 
 /// Settings of two ports with these first lines.
 fn two_ports(alloc: Global, lines: &str) -> Result<Settings, Fail> {
@@ -69,7 +76,35 @@ fn a_thousand_records_by_so_many_workers(rt: HostRuntime) -> Result<(), Fail> {
         "burst = 1\nring = 1\ncache = 0\n",
     ] {
         let settings = two_ports(rt.alloc(), lines)?;
-        alike(&rt, &settings, &case, 1000)?;
+        let report = alike(&rt, &settings, &case, 1000)?;
+        assert!(rt; report.as_slice() == OF_A_THOUSAND.as_bytes());
+    }
+    Ok(())
+}
+
+/// Settings of two ports with these lines in place of the first.
+fn other_buffers(alloc: Global, lines: &str) -> Result<Settings, Fail> {
+    let text = TWO_PORTS.replacen(alloc, "buffers = 112\n", lines, 1)?;
+    let settings = Settings::read(alloc, text.as_bytes())?;
+    Ok(settings)
+}
+
+/// As many segments, rings as long, and segments as large as there may be.
+#[test]
+fn great_settings(rt: HostRuntime) -> Result<(), Fail> {
+    let mut case = Case::new(rt.alloc(), 2)?;
+    for record in 0..20usize {
+        case.send((record % 2) as u8, &LONG[..record * 200])?;
+    }
+    for lines in [
+        "buffers = 65536\nroom = 64\nring = 65536\ncache = 128\nburst = 64\n",
+        "buffers = 256\nroom = 65536\nheadroom = 1024\nring = 3\n",
+    ] {
+        let settings = other_buffers(rt.alloc(), lines)?;
+        for workers in [0, 2] {
+            let left = run(&rt, &settings, &case, 100_000, SOUND, workers)?;
+            is_whole(&rt, &left, 20, false);
+        }
     }
     Ok(())
 }
@@ -86,7 +121,7 @@ fn records_of_many_segments(rt: HostRuntime) -> Result<(), Fail> {
         "room = 64\ncache = 32\nburst = 64\n",
     ] {
         let settings = two_ports(rt.alloc(), lines)?;
-        alike(&rt, &settings, &case, 100)?;
+        let _report = alike(&rt, &settings, &case, 100)?;
     }
     Ok(())
 }
@@ -97,9 +132,10 @@ fn records_of_many_segments(rt: HostRuntime) -> Result<(), Fail> {
 fn one_record_and_none(rt: HostRuntime) -> Result<(), Fail> {
     let settings = Settings::read(rt.alloc(), TWO_PORTS.as_bytes())?;
     let mut case = Case::new(rt.alloc(), 2)?;
-    alike(&rt, &settings, &case, 0)?;
+    let _none = alike(&rt, &settings, &case, 0)?;
     case.send(1, b"one")?;
-    alike(&rt, &settings, &case, 1)
+    let _one = alike(&rt, &settings, &case, 1)?;
+    Ok(())
 }
 
 #[test]
@@ -120,9 +156,11 @@ fn many_records_to_sixteen_ports(rt: HostRuntime) -> Result<(), Fail> {
         case.send((record % 16) as u8, &LONG[..100])?;
     }
     let settings = Settings::read(rt.alloc(), text.as_bytes())?;
-    let left = run(&rt, &settings, &case, 100_000, SOUND, 0)?;
-    is_whole(&rt, &left, 2000, false);
-    let told = left.answer.ok().ok_or("no answer")?;
-    assert_eq!(rt; told.counts.sent(), [125; 16].as_slice());
+    for workers in [0, 2] {
+        let left = run(&rt, &settings, &case, 100_000, SOUND, workers)?;
+        is_whole(&rt, &left, 2000, false);
+        let told = left.answer.ok().ok_or("no answer")?;
+        assert_eq!(rt; told.counts.sent(), [125; 16].as_slice());
+    }
     Ok(())
 }

@@ -1,5 +1,7 @@
 //! Runs over devices in memory.
-ghost use Rattle.std.specs.Prelude.{◌≡◌, ◌≤◌, vec_len};
+ghost use Rattle.std.specs.Prelude.{◌≡◌, ◌≤◌, vec_len, IfOk, IfSome};
+ghost use Rattle.pcapio.specs.Counted.{to_come};
+ghost use Rattle.stages.specs.Whole.{IsRun};
 
 use crate::cases::Case;
 use crate::devices::{Input, Port};
@@ -61,13 +63,14 @@ pub fn forward<
 )
     requires workers { workers ≤ 16 }
     requires ports { vec_len ports ≡ vec_len settings.now.ports.sources }
+    ensures run { IfOk result.2 (λ summary. IfSome (to_come I.remaining input) (λ bytes.
+        IsRun W.contents settings.now bytes ports.items result.1.items summary)) }
 {
     if workers == 0 {
         let (input, ports, answer) = run_one(rt.alloc(), input, ports, settings);
-        (Some(input), ports, answer)
-    } else {
-        run_threads(rt, rt.alloc(), gate, workers, input, ports, settings)
+        return (Some(input), ports, answer);
     }
+    run_threads(rt, rt.alloc(), gate, workers, input, ports, settings)
 }
 
 /// Runs over a case by devices that take and give at most so many bytes a call.

@@ -1,4 +1,4 @@
-use Rattle.std.proofs.Common.{◌≡◌, ℕ, ◌-◌, ◌≤◌, ◌<◌, ◌++◌, Ok, Err, List, [], length, take, drop, reverse, ap, sym, subst, ◌∙◌, arith}
+use Rattle.std.proofs.Common.{◌≡◌, ℕ, ◌-◌, ◌<◌, ◌++◌, Ok, Err, List, [], length, take, drop, reverse, ap, sym, subst, ◌∙◌, arith}
 use Rattle.ringcore_laws.specs.FreeRings.{AreSingle}
 use Rattle.ringcore_laws.specs.Sound.{occurrences_in}
 use Rattle.fabric.specs.Hands.{view}

@@ -1,9 +1,10 @@
-use Rattle.std.proofs.Common.{◌≡◌, ◌<◌, length, take, sym, ap, ◌∙◌, subst, arith}
+use Rattle.std.proofs.Common.{◌≡◌, ◌<◌, ◌≤◌, length, take, sym, ap, ◌∙◌, subst, arith}
+use Rattle.std.proofs.lemmas.List.{length-take}
 use Rattle.geom.specs.declared.plan.Side.TheVariants.{Take}
 use Rattle.fabric_laws.specs.Changes.{settled}
 use Rattle.fabric.specs.Hands.{rings_of, take_left, take_view, view}
 use Rattle.fabric.specs.Views.{span_of}
-use Rattle.fabric.proofs.Told.{refused_kept, ring_at, worn_at}
+use Rattle.fabric.proofs.Told.{granted_few, refused_kept, ring_at, worn_at}
 use Rattle.pool.specs.Asks.{HasMore}
 use Rattle.ringapi.specs.Views.{by_burst}
 use Rattle.stages.specs.Judging.{until_mark}
@@ -11,6 +12,20 @@ use Rattle.stages.specs.Numbers.{packet_numbers}
 use Rattle.stages.proofs.Marks.{cut_twice}
 use Rattle.stages.proofs.Settled.{took_first}
 use Rattle.stages.proofs.working.fetch.Goals as goal
+
+pub returns-in-Ok-finish_into-clause-few : goal.returns-in-Ok-finish_into-clause-few
+returns-in-Ok-finish_into-clause-few g c =
+    let low : 1 < length (rings_of c.args.f.now) = omega (arith, c.requires.rings.many) in
+    let known = ring_at (rings_of c.args.f.now) 1 low in
+    let span = c.in-Ok.peek.span in
+    let started = c.in-Ok.ensures.started in
+    let shown = c.peek_take_into.new.into in
+    let k = c.first_part-k.result in
+    let granted : span.place.count ≤ c.args.burst =
+    subst (λ m. m ≤ c.args.burst) (sym (started.3 known.0 known.1).granted) (granted_few by_burst c.args.burst _) in
+    let all : length shown ≡ span.place.count = ap length started.2 ∙ span.many in
+    let some : length (take k shown) ≤ c.args.burst = omega (arith, granted, all, length-take k shown) in
+    subst (λ items. length items ≤ c.args.burst) (sym c.in-Ok-finish_into.ensures.done.1) some
 
 pub returns-in-Ok-finish_into-clause-part : goal.returns-in-Ok-finish_into-clause-part
 returns-in-Ok-finish_into-clause-part g c =

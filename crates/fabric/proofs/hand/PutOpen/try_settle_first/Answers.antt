@@ -27,7 +27,7 @@ returns-then-k-len-clause-refused g c =
 pub pour-requires-2 : goal.pour-requires-2
 pour-requires-2 g c =
     let items = c.args.items.now in
-    let few = few_back _ _ _ c.try_settle_from-answer.result c.pour.new.from c.try_settle_from-answer.new.items c.try_settle_from-answer.ensures.done
+    let few = few_back _ _ _ c.try_settle_from-answer.result c.pour.new.self c.try_settle_from-answer.new.items c.try_settle_from-answer.ensures.done
     c.try_settle_from-answer.ensures.refused in (
       search rules,
       (

@@ -8,14 +8,14 @@ loop-i-preserved c =
     let numbers = c.args.numbers.now in
     let at = number_at numbers i c.loop-i-test.true in
     record {
-      row = clear_step c.args.self.now c.loop-i.self c.clear.new.self numbers i (get_or numbers i 0) c.loop-i.invariant.row at c.clear.ensures;
+      row = clear_step c.args.self.now c.loop-i.self c.clear_marked.new.self numbers i (get_or numbers i 0) c.loop-i.invariant.row at (c.clear_marked.ensures.cleared c.if-not-clear_marked.false);
       there = there_step c.args.self.now c.loop-i.self numbers i (get_or numbers i 0) c.loop-i.invariant.row c.loop-i.invariant.there at
-          (sym c.has.ensures ∙ c.if-not-has.false);
+          (sym c.clear_marked.ensures.value ∙ c.if-not-clear_marked.false);
     }
 
-pub returns-then-not-has-clause-stopped : goal.returns-then-not-has-clause-stopped
-returns-then-not-has-clause-stopped c _ =
+pub returns-then-not-clear_marked-clause-stopped : goal.returns-then-not-clear_marked-clause-stopped
+returns-then-not-clear_marked-clause-stopped c _ =
     let i = c.loop-i.i in
     let numbers = c.args.numbers.now in
     there_stops c.args.self.now c.loop-i.self numbers i (get_or numbers i 0) c.loop-i.invariant.row (number_at numbers i c.loop-i-test.true)
-    (sym c.has.ensures ∙ c.if-not-has.true)
+    (sym c.clear_marked.ensures.value ∙ c.if-not-clear_marked.true)

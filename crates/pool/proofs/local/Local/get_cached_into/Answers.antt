@@ -31,7 +31,7 @@ invariant_of-self g c =
       small = l.small;
       room = l.room;
       within = search rules;
-      kept = less_kept tags c.in-Some.keeper c.release.new.self k l.cache c.pour.new.to c.pour.new.from c.release.ensures.same keeps given c.pour.ensures.left
+      kept = less_kept tags c.in-Some.keeper c.release.new.self k l.cache c.pour.new.to c.pour.new.self c.release.ensures.same keeps given c.pour.ensures.left
           c.release.ensures.back;
       single = subst (AreSingle tags) (sym c.pour.ensures.left) (single_take tags k l.cache l.single);
     }
@@ -43,5 +43,5 @@ returns-clause-own g c =
     let keeps : Keeps tags c.in-Some.keeper l.cache = subst (λ o. KeepsIn tags o l.cache) c.in-Some.is l.kept in
     let k = c.len-cached.result - c.args.n in
     let given : c.pour.new.to ≡ reverse (drop k l.cache) = c.pour.ensures.moved ∙ ap (λ x. x ++ reverse (drop k l.cache)) c.requires.empty in
-    subst (λ v. AreOwnBuffers tags v (c.pour.new.to ++ c.pour.new.from)) (sym (same_view tags c.in-Some.keeper c.release.new.self c.release.ensures.same))
-    (hit_own tags (view_of_keeper c.in-Some.keeper) k l.cache c.pour.new.to c.pour.new.from given c.pour.ensures.left (own_kept tags c.in-Some.keeper l.cache keeps l.single))
+    subst (λ v. AreOwnBuffers tags v (c.pour.new.to ++ c.pour.new.self)) (sym (same_view tags c.in-Some.keeper c.release.new.self c.release.ensures.same))
+    (hit_own tags (view_of_keeper c.in-Some.keeper) k l.cache c.pour.new.to c.pour.new.self given c.pour.ensures.left (own_kept tags c.in-Some.keeper l.cache keeps l.single))

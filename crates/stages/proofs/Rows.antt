@@ -1,0 +1,64 @@
+-- Worked rows of what a run answers and of its rings, computed by the definitions.
+use Rattle.std.proofs.Common.{◌≡◌, ℕ, true, false, List, [], ◌∷◌, map, ap, sym, refl, arith}
+use Rattle.std.proofs.lemmas.Option.{same_Some}
+use Rattle.geom.specs.declared.plan.Mode.TheVariants.{Hts, Multi}
+use Rattle.geom.specs.declared.plan.RingPlan.{RingPlan}
+use Rattle.geom.specs.declared.plan.Side.TheVariants.{Put, Take}
+use Rattle.pcapio_laws.specs.declared.fault.CapFault.{CapFault}
+use Rattle.ringcore_laws.specs.declared.party.Settled.{Settled}
+use Rattle.stages_laws.specs.declared.run.Run.{Ghosts}
+use Rattle.stages.specs.declared.fault.RingFault.TheVariants as ring
+use Rattle.stages.specs.declared.fault.RunFault.TheVariants.{Memory, Thread, Read, Write, Capture, Window, Worn}
+use Rattle.stages.specs.declared.packet.Packet.TheVariants.{Free, Mark}
+use Rattle.stages.specs.declared.packet.Segment.{Segment}
+use Rattle.stages.specs.Faults.{number_of, lowest_of, lower_of, fault_of_input, fault_of_ring}
+use Rattle.stages.specs.Judging.{until_mark, has_mark}
+use Rattle.stages.specs.Passing.{AreRings, settled_on}
+
+numbers : map number_of (Memory ∷ Thread ∷ Read ∷ Write 9 ∷ Capture CapFault.NotPcap ∷ Window ∷ Worn ∷ []) ≡ 1 ∷ 2 ∷ 3 ∷ 4 ∷ 5 ∷ 6 ∷ 7 ∷ []
+numbers = refl
+
+-- beside the fault of port 9
+beside_a_port : map (lowest_of 9) (Memory ∷ Thread ∷ Read ∷ Capture CapFault.BadRecord ∷ Window ∷ Worn ∷ [])
+    ≡ Memory ∷ Thread ∷ Read ∷ Write 9 ∷ Write 9 ∷ Write 9 ∷ []
+beside_a_port = refl
+
+lower_ones : (lower_of Worn Window ≡ Window) × (lower_of Window Worn ≡ Window) × (lower_of (Capture CapFault.BadLink) Window ≡ Capture CapFault.BadLink)
+    × (lower_of Worn Read ≡ Read) × (lower_of Memory Thread ≡ Memory) × (lower_of (Write 1) (Write 0) ≡ Write 1)
+lower_ones = (refl, refl, refl, refl, refl, refl)
+
+of_inputs : map fault_of_input (CapFault.NotPcap ∷ CapFault.BadVersion ∷ CapFault.BadLink ∷ CapFault.BadRecord ∷ CapFault.Read ∷ CapFault.Memory ∷ [])
+    ≡ Capture CapFault.NotPcap ∷ Capture CapFault.BadVersion ∷ Capture CapFault.BadLink ∷ Capture CapFault.BadRecord ∷ Read ∷ Memory ∷ []
+of_inputs = refl
+
+of_rings : (fault_of_ring ring.Window ≡ Window) × (fault_of_ring ring.Worn ≡ Worn)
+of_rings = (refl, refl)
+
+-- the rings: of free segments, of packets at which workers peek, and of packets after their verdict
+rings : AreRings (
+    record { geometry = record { size = 128; capacity = 112 }; put = Multi; take = Multi; free = true }
+    ∷ record { geometry = record { size = 1024; capacity = 512 }; put = Multi; take = Hts; free = false }
+    ∷ record { geometry = record { size = 1024; capacity = 512 }; put = Multi; take = Multi; free = false }
+    ∷ [])
+rings = record {
+  many = refl;
+  free = (omega arith, λ plan there. ap (λ (p : RingPlan). p.free) (sym (same_Some _ plan there)));
+  peeked = λ plan there. ap (λ (p : RingPlan). p.take) (sym (same_Some _ plan there));
+  mixed = λ plan there. ap (λ (p : RingPlan). p.free) (sym (same_Some _ plan there));
+}
+
+-- spans of a hand, newest first: what it took of the input ring, and what it put on the output ring, oldest first
+spans : List (Settled ℕ)
+spans =
+    record { ring = 2; side = Put; start = 4; items = 5 ∷ 6 ∷ [] } ∷ record { ring = 1; side = Take; start = 9; items = 3 ∷ 4 ∷ [] }
+    ∷ record { ring = 2; side = Put; start = 1; items = 7 ∷ [] } ∷ record { ring = 1; side = Put; start = 2; items = 8 ∷ [] }
+    ∷ record { ring = 1; side = Take; start = 7; items = 1 ∷ 2 ∷ [] } ∷ []
+
+in_order : (settled_on 1 Take spans ≡ 1 ∷ 2 ∷ 3 ∷ 4 ∷ []) × (settled_on 2 Put spans ≡ 7 ∷ 5 ∷ 6 ∷ []) × (settled_on 2 Take spans ≡ [])
+unfolding spans
+in_order = (refl, refl, refl)
+
+-- up to the first end mark, with it
+first_marks : {J : Type 0} {G : Ghosts J} (x y : Segment J G) → (until_mark (Free x ∷ Mark ∷ Free y ∷ Mark ∷ []) ≡ Free x ∷ Mark ∷ [])
+    × (until_mark (Free x ∷ Free y ∷ []) ≡ Free x ∷ Free y ∷ []) × (has_mark (Free x ∷ Mark ∷ Free y ∷ []) ≡ true) × (has_mark (Free x ∷ Free y ∷ []) ≡ false)
+first_marks x y = (refl, refl, refl, refl)
