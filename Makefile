@@ -14,8 +14,8 @@ SHARE = $(DESTDIR)$(PREFIX)/share
 
 # The first of all targets is what `make` alone does.
 help:
-	@echo 'make run        forwards $(IN) by $(CONFIG), by a pktkit without proofs: 2 minutes'
-	@echo 'make compare    the same by one thread, and that each port has the same bytes; after make run: 2 minutes'
+	@echo 'make run        forwards $(IN) by $(CONFIG), by a pktkit without proofs: 1 to 2 minutes'
+	@echo 'make compare    the same by one thread, and that each port has the same bytes; after make run: 1 to 2 minutes'
 	@echo 'make build      proves pktkit and what it stands on, and builds it: 35 minutes, then what has changed'
 	@echo 'make install    make build; the program, its man page and completions go below PREFIX ($(PREFIX)): seconds'
 	@echo 'make uninstall  removes these again: at once'

@@ -35,3 +35,9 @@ pub all_lines : report_of (record { oversize = 2; sent = 3 ∷ 40 ∷ []; droppe
     ≡ codes "records 101\noversize 2\nport 0 3\nport 1 40\nshort 5\nnot-ipv4 6\nbad-header 7\nbad-length 8\nbad-checksum 9\nexpired 10\nno-route 11\ntagged 12\ntorn no\n"
 unfolding report_lines digits
 all_lines = refl
+
+-- numbers of more than 32 bits
+pub great_lines : report_of (record { oversize = 4294967296; sent = 4294967297 ∷ []; dropped = 4294967298 ∷ 0 ∷ 0 ∷ 0 ∷ 0 ∷ 0 ∷ 0 ∷ []; tagged = 4294967297 }) false
+    ≡ codes "records 12884901891\noversize 4294967296\nport 0 4294967297\nshort 4294967298\nnot-ipv4 0\nbad-header 0\nbad-length 0\nbad-checksum 0\nexpired 0\nno-route 0\ntagged 4294967297\ntorn no\n"
+unfolding report_lines digits
+great_lines = refl

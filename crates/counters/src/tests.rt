@@ -84,6 +84,18 @@ fn great_numbers(rt: HostRuntime) -> Result<(), Fail> {
     Ok(())
 }
 
+/// A report stands behind what was there before, however long that is.
+#[test]
+fn a_report_behind_a_long_text(rt: HostRuntime) -> Result<(), Fail> {
+    let mut text = Vec::new(rt.alloc());
+    for _ in 0..1000 {
+        two_verdicts().report(rt.alloc(), false, &mut text)?;
+    }
+    assert!(rt; text.as_slice().starts_with(b"records 3\noversize 1\n"));
+    assert!(rt; text.as_slice().ends_with(b"tagged 1\ntorn no\n"));
+    Ok(())
+}
+
 #[test]
 fn gathered_counts(rt: HostRuntime) {
     let parts = [two_verdicts(), two_verdicts(), two_verdicts()];

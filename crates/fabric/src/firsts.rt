@@ -59,6 +59,25 @@ impl<'f, T: Tagged, const N: usize> PutOpen<'f, T, N> {
         if k == items.len() {
             return self.try_settle_from(items);
         }
+        self.settle_front(k, items)
+    }
+
+    /// The same where items may be left: out of the way of those that settle all.
+    #[inline(never)]
+    fn settle_front(
+        self,
+        k: usize,
+        items: &mut Burst<T, N>,
+    ) -> Result<Hand<T>, (PutOpen<'f, T, N>, SettleFault)>
+        requires fits { k ≤ length items.old }
+        requires few { length items.old ≤ N }
+        ensures done { IfOk result (λ h. HasPut self.entry (take k items.old) h × (items.new ≡ drop k items.old)) }
+        ensures refused { IfErr result (λ e. SamePut self.entry e.0 × (items.new ≡ items.old)
+            × RefusesPut T.numbers self.entry (take k items.old) e.0 e.1) }
+        ensures kept { IfErr result (λ e. IsKept (put_view self.entry) (put_view e.0)) }
+        ensures so { IfErr result (λ e. IsTrueTooEarly T.numbers (put_span self.entry) (put_view self.entry) e.1) }
+        ensures owned { IfOk result (λ h. HoldsLess T.numbers (put_view self.entry) (take k items.old) (view h)) }
+    {
         let mut others = Burst::new();
         items.pour(k, &mut others);
         let answer = self.try_settle_from(items);

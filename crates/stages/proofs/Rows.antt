@@ -13,7 +13,7 @@ use Rattle.stages.specs.declared.packet.Packet.TheVariants.{Free, Mark}
 use Rattle.stages.specs.declared.packet.Segment.{Segment}
 use Rattle.stages.specs.Faults.{number_of, lowest_of, lower_of, fault_of_input, fault_of_ring}
 use Rattle.stages.specs.Judging.{until_mark, has_mark}
-use Rattle.stages.specs.Passing.{AreRings, settled_on}
+use Rattle.stages.specs.Passing.{AreAsked, AreRings, settled_on}
 
 numbers : map number_of (Memory ∷ Thread ∷ Read ∷ Write 9 ∷ Capture CapFault.NotPcap ∷ Window ∷ Worn ∷ []) ≡ 1 ∷ 2 ∷ 3 ∷ 4 ∷ 5 ∷ 6 ∷ 7 ∷ []
 numbers = refl
@@ -46,6 +46,14 @@ rings = record {
   peeked = λ plan there. ap (λ (p : RingPlan). p.take) (sym (same_Some _ plan there));
   mixed = λ plan there. ap (λ (p : RingPlan). p.free) (sym (same_Some _ plan there));
 }
+
+-- and as they are asked for, with 112 segments and room for 512 packets on each of the others
+asked : AreAsked 112 512 (
+    record { geometry = record { size = 128; capacity = 112 }; put = Multi; take = Multi; free = true }
+    ∷ record { geometry = record { size = 1024; capacity = 512 }; put = Multi; take = Hts; free = false }
+    ∷ record { geometry = record { size = 1024; capacity = 512 }; put = Multi; take = Multi; free = false }
+    ∷ [])
+asked = refl
 
 -- spans of a hand, newest first: what it took of the input ring, and what it put on the output ring, oldest first
 spans : List (Settled ℕ)

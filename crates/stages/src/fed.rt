@@ -3,6 +3,9 @@ ghost use Rattle.std.specs.Prelude.{◌≡◌, ◌≢◌, ◌⊎◌, Some, None,
 ghost use Rattle.pcapio.specs.Reader.{Fails, source_of};
 ghost use Rattle.pcapio.specs.Counted.{failures_of};
 ghost use Rattle.stages.specs.Feeding.{ReadFailed, ReadIsHere, IsNoCapture, WroteNothing};
+ghost use Rattle.stages.specs.Faults.{fault_of_ring, lower_of};
+ghost use Rattle.stages.specs.declared.fault.RingFault.{RingFault};
+ghost use Rattle.stages.specs.declared.fault.RunFault.{RunFault};
 ghost use Rattle.stages.specs.declared.fault.RunFault.TheVariants.{Memory, Thread};
 
 use crate::fault::{RingFault, RunFault, lower};
@@ -33,7 +36,10 @@ impl<J: Run, R> Fed<J, R> {
     }
 
     /// The same, where the sink couldn't go on.
-    pub(crate) fn with(self, drained: Result<(), RingFault>) -> Fed<J, R> {
+    pub(crate) fn with(self, drained: Result<(), RingFault>) -> Fed<J, R>
+        ensures told { (ring : RingFault) (fault : RunFault) → drained ≡ Err ring → self.answer ≡ Err fault
+            → result.answer ≡ Err (lower_of fault (fault_of_ring ring)) }
+    {
         let Fed { device, answer, .. } = self;
         match drained {
             Ok(()) => Fed { device, answer },

@@ -1,0 +1,16 @@
+//! A caller, by the contracts alone.
+ghost use Rattle.std.specs.Prelude.{◌≡◌, [], ◌∷◌};
+
+use crate::burst::Burst;
+
+/// Two numbers go into a list, and behind those of another one, the last of them first.
+pub(crate) fn last_first(first: u32, second: u32) -> Burst<u32, 4>
+    ensures { result ≡ second ∷ first ∷ [] }
+{
+    let mut items = Burst::<u32, 4>::new();
+    items.push(first);
+    items.push(second);
+    let mut turned = Burst::<u32, 4>::new();
+    items.pour(0, &mut turned);
+    turned
+}
