@@ -19,7 +19,7 @@ help:
 	@echo 'make build      proves pktkit and what it stands on, and builds it: 35 minutes, then what has changed'
 	@echo 'make install    make build; the program, its man page and completions go below PREFIX ($(PREFIX)): seconds'
 	@echo 'make uninstall  removes these again: at once'
-	@echo 'make test       the merge gate: every proof from nothing, must-fail edits, tests, programs: 170 minutes'
+	@echo 'make test       the merge gate: every proof from nothing, must-fail edits, tests, programs, documents: 160 minutes'
 	@echo 'make bench      measures one part beside its yardstick, NAME=$(NAME): minutes, on a quiet machine'
 	@echo
 	@echo 'Minutes are of one processor; several work side by side where there are several. What can be set, as in'
@@ -41,9 +41,11 @@ compare:
 	@for port in $(OUT).alone.*.pcap; do cmp $$port $(OUT)$${port#$(OUT).alone} || exit 1; done
 	@echo "compare: by one thread the same bytes at each port"
 
-# The merge gate: every proof from nothing, the must-fail edits, the tests and the programs.
+# The merge gate: every proof from nothing, the must-fail edits, the tests and the programs; and then the commands of
+# the documents, with the program that was proved there.
 test:
 	rt ci
+	PKTKIT=$(CURDIR)/crates/pktkit/out/pktkit tools/try-docs
 
 # Proves pktkit and what it stands on, and leaves the program in crates/pktkit/out. The program names the toolchain that
 # proved its source, so another one has to be written there first.

@@ -106,6 +106,32 @@ fn gathered_counts(rt: HostRuntime) {
     assert_eq!(rt; sums.dropped(), [0, 0, 0, 0, 0, 3, 0].as_slice());
 }
 
+/// The sums of both counts, where they have as many ports and 64 bits hold all records.
+fn both(parts: &[Counts; 2]) -> Option<Counts> {
+    let [first, second] = parts;
+    first.records().checked_add(second.records())?;
+    if first.sent().len() != second.sent().len() {
+        return None;
+    }
+    Some(Counts::gather(parts))
+}
+
+#[test]
+fn more_records_than_32_bits_tell(rt: HostRuntime) -> Result<(), Fail> {
+    let mut parts = [many(), many()];
+    for _ in 0..16 {
+        parts = [both(&parts).ok_or("counts")?, both(&parts).ok_or("counts")?];
+    }
+    let sums = both(&parts).ok_or("counts")?;
+    let mut text = Vec::new(rt.alloc());
+    sums.report(rt.alloc(), false, &mut text)?;
+    assert!(rt;
+        text.as_slice()
+            .starts_with(b"records 16181624832\noversize 16181624832\nport 0 0\n")
+    );
+    Ok(())
+}
+
 /// Reports, with one more piece of memory given back after each time that it is refused: how often it was, each time
 /// with the text as it was.
 fn refusals(alloc: Global, held: &mut Vec<Vec<u8>>, text: &mut Vec<u8>) -> Option<usize> {

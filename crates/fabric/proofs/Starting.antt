@@ -159,27 +159,23 @@ pub same_ring : (plans : List RingPlan) (ring : ℕ) (plan plan' : RingPlan) →
 same_ring plans ring plan plan' at at' = same_plan (sym at ∙ at')
 
 module _ {T : Type 0} (tags : T → List ℕ) where
-  pub bad_put : (most n pool ring : ℕ) (how : How) (v : View T) (row : List Bool) (plan : RingPlan) → IsRow tags v.pool v.party row
-      → (n ≡ 0) ⊎ ((most < n) ⊎ ((plan.free ≡ true) × (count_true row < n))) → RefusesStart tags most how n ring Put plan v v BadCount
-  bad_put most n pool ring how v row plan is (inl none) = (inl none, refl)
-  bad_put most n pool ring how v row plan is (inr (inl more)) = (inr (inl more), refl)
-  bad_put most n pool ring how v row plan is (inr (inr few)) = (inr (inr (refl, few.0, omega (arith, few.1, row_count tags v.pool v.party row is))), refl)
+  pub bad_start : (most n ring : ℕ) (how : How) (side : Side) (v : View T) (row : List Bool) (plan : RingPlan) → IsRow tags v.pool v.party row
+      → (n ≡ 0) ⊎ ((most < n) ⊎ ((side ≡ Put) × (plan.free ≡ true) × (count_true row < n))) → RefusesStart tags most how n ring side plan v v BadCount
+  bad_start most n ring how side v row plan is (inl none) = (inl none, refl)
+  bad_start most n ring how side v row plan is (inr (inl more)) = (inr (inl more), refl)
+  bad_start most n ring how side v row plan is (inr (inr few)) =
+      (inr (inr (few.0, few.1, omega (arith, few.2, row_count tags v.pool v.party row is))), refl)
 
   -- what a put's reservation may be: as many positions as the hand has buffers, on a free ring
-  pub few_buffers : (m n : ℕ) (v w : View T) (row : List Bool) (plan : RingPlan) → IsRow tags v.pool v.party row → IsKept v w → m ≤ n
-      → (plan.free ≡ true → n ≤ count_true row)
+  pub few_buffers : (most m n : ℕ) (plan : RingPlan) (v w : View T) → MayAsk tags most n Put plan v → IsKept v w → m ≤ n
       → plan.free ≡ true → m ≤ buffers_had tags w.pool w.party
-  few_buffers m n v w row plan is k le few free =
-      subst (λ (z : ℕ × Party T). m ≤ buffers_had tags z.0 z.1) (λ j. (sym k.pool j, sym k.party j))
-      (omega (arith, le, few free, row_count tags v.pool v.party row is))
+  few_buffers most m n plan v w may k le free =
+      subst (λ (z : ℕ × Party T). m ≤ buffers_had tags z.0 z.1) (λ j. (sym k.pool j, sym k.party j)) (omega (arith, le, may.2 refl free))
 
   -- a request that passed the tests may be granted
-  pub may_put : (most n : ℕ) (v : View T) (row : List Bool) (plan : RingPlan) → IsRow tags v.pool v.party row
-      → (0 < n) × (n ≤ most) × (plan.free ≡ true → n ≤ count_true row) → MayAsk tags most n Put plan v
-  may_put most n v row plan is good = (good.0, good.1, λ _ free. omega (arith, good.2 free, row_count tags v.pool v.party row is))
-
-  pub may_take : (most n : ℕ) (v : View T) (plan : RingPlan) → 0 < n → n ≤ most → MayAsk tags most n Take plan v
-  may_take most n v plan some fits = (some, fits, λ e. absurd (let u : Take ≡ Put = e in cc))
+  pub may_start : (most n : ℕ) (side : Side) (v : View T) (row : List Bool) (plan : RingPlan) → IsRow tags v.pool v.party row
+      → (0 < n) × (n ≤ most) × (side ≡ Put → plan.free ≡ true → n ≤ count_true row) → MayAsk tags most n side plan v
+  may_start most n side v row plan is good = (good.0, good.1, λ put free. omega (arith, good.2 put free, row_count tags v.pool v.party row is))
 
   granted_some : (how : How) (n room : ℕ) → 0 < n → n ≤ room → 0 < granted how n room
   granted_some Bulk n room some fits = grind (arith, nat_tests, some, fits)

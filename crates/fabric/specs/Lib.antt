@@ -1,3 +1,4 @@
+pub mod Aims
 pub mod Shapes
 pub mod Views
 pub mod Slots

@@ -14,6 +14,7 @@ ghost use Rattle.fabric_laws.specs.Refusals.{HadAtMost, WasTaken};
 ghost use Rattle.fabric_laws.specs.declared.view.View.{View};
 ghost use Rattle.fabric.specs.Hands.{IsHandOf, OnRing, put_fabric, put_left, put_span, put_view, rings_of};
 ghost use Rattle.fabric.specs.Hands.{take_fabric, take_left, take_span, take_view, view};
+ghost use Rattle.fabric.specs.Aims.{Aims};
 ghost use Rattle.fabric.specs.Owned.{count_true};
 ghost use Rattle.fabric.specs.Rings.{IsSameSeat, IsSeated};
 ghost use Rattle.fabric.specs.Starts.{RefusesRoom, RefusesCount, MayAsk, Probes, RefusesStart, Starts};
@@ -54,15 +55,21 @@ fn is_busy(mode: Mode, word: u64) -> bool
     }
 }
 
-/// Whether a put of `n` is no lawful request.
-fn is_bad_count(shape: &Shape, owned: &Owned, n: usize, most: usize) -> bool
-    ensures bad { result ≡ true → (n ≡ 0) ⊎ ((most < n) ⊎ ((shape.now.plan.free ≡ true) × (count_true owned.now < n))) }
-    ensures good { result ≡ false → (0 < n) × (n ≤ most) × (shape.now.plan.free ≡ true → n ≤ count_true owned.now) }
+/// Whether a request for `n` positions of a side is no lawful one.
+#[inline]
+fn is_bad_count(shape: &Shape, owned: &Owned, side: Side, n: usize, most: usize) -> bool
+    ensures bad { result ≡ true → (n ≡ 0) ⊎ ((most < n) ⊎ ((side ≡ Put) × (shape.now.plan.free ≡ true)
+        × (count_true owned.now < n))) }
+    ensures good { result ≡ false → (0 < n) × (n ≤ most)
+        × (side ≡ Put → shape.now.plan.free ≡ true → n ≤ count_true owned.now) }
 {
     if n == 0 || n > most {
         return true;
     }
-    shape.plan.free && n > owned.count()
+    match side {
+        Side::Put => shape.plan.free && n > owned.count(),
+        Side::Take => false,
+    }
 }
 
 /// How many positions to reserve.
@@ -148,6 +155,43 @@ impl<T: Tagged, const N: usize> Ring<'_, T, N> {
         let count = measure(how, n, probe.start, probe.room)?;
         Ok((probe, count))
     }
+
+    /// The same by a hand, once the count was tested: its share, what was found, and how many positions to reserve. The
+    /// hand comes back where a start is refused here.
+    #[inline]
+    fn approach(
+        &self,
+        hand: Hand<T>,
+        side: Side,
+        n: usize,
+        how: How,
+    ) -> Result<(Share<T>, Probe, usize), (Hand<T>, StartFault)>
+        requires hand { IsHandOf self.now.fabric.now hand }
+        ensures aimed { IfOk result (λ a. Aims T.numbers N how n side self.now (view hand) a.0.seat a.1 a.2) }
+        ensures refused { IfErr result (λ e. IsHandOf self.now.fabric.now e.0
+            × RefusesStart T.numbers N how n self.now.index side self.now.shape.plan (view hand) (view e.0) e.1) }
+        ensures asked { IfErr result (λ e. RefusesCount T.numbers N n side self.now.shape.plan (view hand) e.1) }
+        ensures kept { IfErr result (λ e. IsKept (view hand) (view e.0)) }
+        ensures worn { IfErr result (λ e. e.1 ≡ Worn → IsWornAt N (view e.0)) }
+        ensures so { IfErr result
+            (λ e. IsTrueRefusal T.numbers self.now.index side self.now.shape.plan (view hand) (view e.0) e.1) }
+    {
+        if is_bad_count(&self.shape, &hand.share.owned, side, n, N) {
+            return Err((hand, StartFault::BadCount));
+        }
+        let Hand { share } = hand;
+        let Share {
+            mut seat,
+            owned,
+            parts,
+        } = share;
+        let aim = self.aim(&mut seat, side, n, how);
+        let share = Share { seat, owned, parts };
+        match aim {
+            Ok((probe, count)) => Ok((share, probe, count)),
+            Err(fault) => Err((Hand { share }, fault)),
+        }
+    }
 }
 
 impl<T: Tagged, const N: usize> Fabric<T, N> {
@@ -184,24 +228,15 @@ impl<T: Tagged, const N: usize> Fabric<T, N> {
             index: ring,
             shape: self.shapes[ring],
         };
-        if is_bad_count(&target.shape, &hand.share.owned, n, N) {
-            return Err((hand, StartFault::BadCount));
-        }
-        let Hand { share } = hand;
+        let (share, probe, count) = match target.approach(hand, Side::Put, n, how) {
+            Ok(aim) => aim,
+            Err(refused) => return Err(refused),
+        };
         let Share {
             mut seat,
             owned,
             parts,
         } = share;
-        let (probe, count) = match target.aim(&mut seat, Side::Put, n, how) {
-            Ok(aim) => aim,
-            Err(fault) => return Err((
-                Hand {
-                    share: Share { seat, owned, parts },
-                },
-                fault,
-            )),
-        };
         let found = target.reserve_put(&mut seat, probe.word, count);
         if found != probe.word {
             return Err((
@@ -257,24 +292,15 @@ impl<T: Tagged, const N: usize> Fabric<T, N> {
             index: ring,
             shape: self.shapes[ring],
         };
-        if n == 0 || n > N {
-            return Err((hand, StartFault::BadCount));
-        }
-        let Hand { share } = hand;
+        let (share, probe, count) = match target.approach(hand, Side::Take, n, how) {
+            Ok(aim) => aim,
+            Err(refused) => return Err(refused),
+        };
         let Share {
             mut seat,
             owned,
             parts,
         } = share;
-        let (probe, count) = match target.aim(&mut seat, Side::Take, n, how) {
-            Ok(aim) => aim,
-            Err(fault) => return Err((
-                Hand {
-                    share: Share { seat, owned, parts },
-                },
-                fault,
-            )),
-        };
         let found = target.reserve_take(&mut seat, probe.word, count);
         if found != probe.word {
             return Err((

@@ -282,9 +282,12 @@ fn collects_many_records(rt: HostRuntime) -> Result<(), Fail> {
     let Ok(mut reader) = Reader::open(rt.alloc(), Counted::new(file.as_slice())) else {
         return Err(Fail::new("no reader"));
     };
-    let mut list = Vec::new(rt.alloc());
+    // There is room for all and one more, so that the list is given none.
+    let room = RECORDS as usize + 1;
+    let mut list = Vec::with_capacity(rt.alloc(), room)?;
     let collected = collect_records(rt.alloc(), &mut reader, &mut list);
     assert_eq!(rt; (collected, list.len()), (Ok(false), RECORDS as usize));
+    assert_eq!(rt; list.capacity(), room);
     for (number, record) in (0..RECORDS).zip(list.iter()) {
         is_nth(&rt, number, record);
     }

@@ -62,3 +62,14 @@ fn tells_memory_where_it_is_refused(rt: HostRuntime) -> Result<(), Fail> {
     assert_eq!(rt; to.into_inner().calls(), 0);
     Ok(())
 }
+
+#[test]
+fn a_reader_takes_64_kib(rt: HostRuntime) -> Result<(), Fail> {
+    let room = Vec::<u8>::with_capacity(rt.alloc(), 70_000)?;
+    let held = take_all(rt.alloc())?.ok_or("memory can't be used up in this build")?;
+    drop(room);
+    let opened = Reader::open(rt.alloc(), Counted::new(FILE.as_slice()));
+    drop(held);
+    assert!(rt; opened.is_ok(), "70,000 bytes aren't enough");
+    Ok(())
+}

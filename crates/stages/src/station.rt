@@ -1,5 +1,5 @@
 //! The place of a thread of a run at the rings: its hand, with a cache of segments that no packet uses.
-ghost use Rattle.std.specs.Prelude.{◌≡◌, ◌<◌, ◌≤◌, [], length, IfOk};
+ghost use Rattle.std.specs.Prelude.{◌≡◌, ◌<◌, ◌≤◌, ◌↔◌, ℕ, [], length, None, Some, IfOk};
 ghost use Rattle.std.specs.List.{flat_map};
 ghost use Rattle.burst.specs.Numbers.{AreDistinct};
 ghost use Rattle.fabric.specs.Hands.{IsHandOf, rings_of};
@@ -39,11 +39,24 @@ fn fresh<T: Tagged>(f: &Fabric<T, 256>, hand: Hand<T>, size: usize) -> Local<T, 
 }
 
 /// Why a put goes no further, where it doesn't wait for room.
-fn fault_of(refusal: Refusal) -> Option<RingFault> {
+fn fault_of(refusal: Refusal) -> Option<RingFault>
+    ensures room { (n : ℕ) → refusal ≡ Refusal.Start (StartFault.NoRoom n) → result ≡ None }
+    ensures worn { refusal ≡ Refusal.Start StartFault.Worn ↔ result ≡ Some RingFault.Worn }
+{
     match refusal {
         Refusal::Start(StartFault::NoRoom(_)) => None,
         Refusal::Start(StartFault::Worn) => Some(RingFault::Worn),
         _ => Some(RingFault::Window),
+    }
+}
+
+/// Why segments weren't given back.
+fn why_kept(fault: PoolFault) -> RingFault
+    ensures { fault ≡ PoolFault.Worn ↔ result ≡ RingFault.Worn }
+{
+    match fault {
+        PoolFault::Worn => RingFault::Worn,
+        _ => RingFault::Window,
     }
 }
 
@@ -83,8 +96,7 @@ impl<'f, T: Tagged> Station<'f, T> {
     {
         match self.local.put_from(rt, self.fabric, list) {
             Ok(()) => Ok(()),
-            Err(PoolFault::Worn) => Err(RingFault::Worn),
-            Err(_) => Err(RingFault::Window),
+            Err(fault) => Err(why_kept(fault)),
         }
     }
 

@@ -1,5 +1,7 @@
 //! Devices in memory that fail when they are told to.
 
+use exhaust::take_all;
+use std::alloc::Global;
 use std::cell::Cell;
 use std::io::{self, ErrorKind, Read, Write};
 
@@ -20,6 +22,26 @@ impl Read for Input<'_> {
             return Err(ErrorKind::Interrupted.into());
         }
         let count = self.bytes.len().min(buf.len()).min(self.most);
+        buf[..count].copy_from_slice(&self.bytes[..count]);
+        self.bytes = &self.bytes[count..];
+        Ok(count)
+    }
+}
+
+/// An input that takes all memory in its first read, and keeps it.
+#[derive(Drop)]
+pub struct Greedy<'a> {
+    pub bytes: &'a [u8],
+    pub alloc: Global,
+    pub held: Option<Vec<Vec<u8>>>,
+}
+
+impl Read for Greedy<'_> {
+    fn read(&mut self, buf: &mut [u8]) -> io::Result<usize> {
+        if self.held.is_none() {
+            self.held = take_all(self.alloc).unwrap_or(None);
+        }
+        let count = self.bytes.len().min(buf.len());
         buf[..count].copy_from_slice(&self.bytes[..count]);
         self.bytes = &self.bytes[count..];
         Ok(count)

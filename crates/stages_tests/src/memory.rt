@@ -2,10 +2,12 @@
 ghost use Rattle.std.specs.Prelude.{◌≤◌};
 
 use crate::cases::{Case, TWO_PORTS, three_records};
-use crate::runs::{Left, SOUND, is_whole, run};
+use crate::devices::Greedy;
+use crate::runs::{Left, SOUND, forward, is_whole, run};
 use exhaust::take_all;
+use pcapio::Counted;
 use settings::Settings;
-use stages::RunFault;
+use stages::{Open, RunFault};
 use std::process::Abort;
 use std::sync::Wait;
 use std::test::Fail;
@@ -86,4 +88,27 @@ fn tells_memory_until_there_is_enough(rt: HostRuntime) -> Result<(), Fail> {
 #[test]
 fn threads_tell_memory_until_there_is_enough(rt: HostRuntime) -> Result<(), Fail> {
     has_memory_at_last(&rt, 2)
+}
+
+/// There is memory for the input's buffer, and then none: no thread was asked for yet.
+#[test]
+fn memory_is_not_told_as_a_thread(rt: HostRuntime) -> Result<(), Fail> {
+    let settings = Settings::read(rt.alloc(), TWO_PORTS.as_bytes())?;
+    let case = three_records(rt.alloc(), b"")?;
+    let mut ports = Vec::new(rt.alloc());
+    for _ in 0..2 {
+        ports.push(Counted::new(Vec::new(rt.alloc())))?;
+    }
+    let input = Counted::new(Greedy {
+        bytes: case.capture.as_slice(),
+        alloc: rt.alloc(),
+        held: None,
+    });
+    assert_eq!(rt; ports.len(), settings.ports.sources.len());
+    assert_eq!(rt; deepen(), 1);
+    let (input, _, answer) = forward(&rt, &Open, 2, input, ports, &settings);
+    let held = input.ok_or("no input")?.into_inner().held;
+    assert!(rt; held.is_some(), "memory can't be used up in this build");
+    assert_eq!(rt; answer.err(), Some(RunFault::Memory));
+    Ok(())
 }

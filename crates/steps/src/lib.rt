@@ -7,6 +7,7 @@
 #![tactic(auto)]
 
 mod command;
+mod example;
 mod line;
 mod reply;
 mod stage;

@@ -1,0 +1,30 @@
+-- What is so of a hand that is about to reserve
+use Rattle.std.specs.Prelude.{◌≡◌, ℕ, ◌+◌, ◌<◌, ◌≤◌, List, [], Option, None}
+use Rattle.atomic_table.specs.declared.shared.Seat.{Seat}
+use Rattle.geom.specs.declared.plan.How.{How}
+use Rattle.geom.specs.declared.plan.Side.{Side}
+use Rattle.geom.specs.declared.word.TheConstants.{LAST}
+use Rattle.geom.specs.Plan.{granted}
+use Rattle.fabric_laws.specs.declared.view.View.{View}
+use Rattle.fabric.specs.declared.ring.Ring.{Ring}
+use Rattle.fabric.specs.declared.start.Probe.{Probe}
+use Rattle.fabric.specs.Rings.{IsSeated}
+use Rattle.fabric.specs.Starts.{MayAsk, Probes}
+use Rattle.fabric.specs.Views.{IsKept}
+
+module _ {T : Type 0} {N : ℕ} (tags : T → List ℕ) where
+  -- its two steps found q of a side, by which it may reserve so many positions, and its count may be asked for; v is its
+  -- view before
+  pub record Aims (most : ℕ) (how : How) (n : ℕ) (side : Side) (r : Ring T N) (v : View T) (s : Seat (Option T) (View T))
+      (q : Probe) (count : ℕ) : Type 0 where
+    pub seated : IsSeated r s
+    pub idle : s.me.0.party.span ≡ None
+    pub no_slots : s.me.1 ≡ []
+    pub kept : IsKept v s.me.0
+    pub found : Probes tags r.index side r.shape.plan v q s.me.0
+    pub granted : count ≡ granted how n q.room
+    pub some : 0 < count
+    pub few : count ≤ n
+    pub room : count ≤ q.room
+    pub last : q.start + count ≤ LAST
+    pub may : MayAsk tags most n side r.shape.plan v
