@@ -18,17 +18,25 @@ impl Owned {
         self.mark_all(out.as_slice());
     }
 
-    /// Marks the buffers of the item at place `i`. Most items carry one, which is told without a list.
+    /// Marks the buffers of an item. Most items carry one, which is told without a list.
+    #[inline]
+    pub(crate) fn own_one<T: Tagged>(&mut self, item: &T)
+        ensures { self.new ≡ marked self.old (T.numbers item.now) }
+    {
+        match item.only_tag() {
+            Some(b) => self.mark(b as usize),
+            None => self.own_several(item),
+        }
+    }
+
+    /// Marks the buffers of the item at place `i`.
     #[inline]
     fn own_at<T: Tagged, const N: usize>(&mut self, items: &Burst<T, N>, i: usize)
         requires { i < length items.now }
         ensures { self.new ≡ marked self.old (told T.numbers (slice_get items.now i)) }
     {
         match items.get_known(i) {
-            Some(item) => match item.only_tag() {
-                Some(b) => self.mark(b as usize),
-                None => self.own_several(item),
-            },
+            Some(item) => self.own_one(item),
             None => (),
         }
     }

@@ -3,7 +3,7 @@ ghost use Rattle.std.specs.Prelude.{◌≡◌, ◌<◌, [], length, IfSome, None
 ghost use Rattle.std.specs.List.{flat_map};
 ghost use Rattle.burst.specs.Numbers.{AreDistinct};
 ghost use Rattle.fabric_laws.specs.Rule.{all_parts};
-ghost use Rattle.fabric.specs.Closed.{left};
+ghost use Rattle.fabric.specs.Closed.{left, ring_count};
 ghost use Rattle.fabric.specs.Hands.{IsHandOf, rings_of, view};
 
 use crate::closed::Closed;
@@ -26,6 +26,7 @@ pub fn send_and_close<T: Tagged, const N: usize>(
     requires ring { 0 < length (rings_of fabric) }
     requires only { (view hand).parts ≡ all_parts }
     requires fresh { (view hand).party.settled ≡ [] }
+    ensures rings { IfSome result (λ c. ring_count c ≡ length (rings_of fabric)) }
     ensures in_order { IfSome result (λ c. left c 0 ≡ list.old) }
     ensures once { IfSome result (λ c. AreDistinct (flat_map T.numbers (left c 0))) }
 {

@@ -1,5 +1,5 @@
 //! How a hand keeps buffers back, and has them free again.
-ghost use Rattle.std.specs.Prelude.{◌≡◌, ◌<◌, [], length, true, false};
+ghost use Rattle.std.specs.Prelude.{◌≡◌, ◌<◌, ◌∷◌, [], length, true, false};
 ghost use Rattle.fabric.specs.Hands.{OnRing, rings_of};
 ghost use Rattle.fabric.specs.Keepers.{AreKept, IsKeeperFor, IsKeeperOf, Keeps, KeepsLess, KeepsMore, KeepsNoMore};
 ghost use Rattle.fabric.specs.Keepers.{AreNotSpare, AreSpare, SameKeeper, SparesTheSame};
@@ -55,6 +55,16 @@ impl<T: Tagged> Keeper<T> {
             self.owned.own(items, items.len());
         }
         may
+    }
+
+    /// Keeps the buffers of this item back no more. Asked: it does. No step on a word.
+    #[inline]
+    pub fn release_one(&mut self, item: &T)
+        requires kept { AreKept T.numbers self.old (item.now ∷ []) }
+        ensures same { SameKeeper self.old self.new }
+        ensures back { KeepsLess T.numbers self.old (item.now ∷ []) self.new }
+    {
+        self.owned.own_one(item);
     }
 
     /// Keeps the buffers of these items back no more. Asked: it does. No step on a word.

@@ -6,7 +6,7 @@ ghost use Rattle.fabric_laws.specs.Changes.{newborn};
 ghost use Rattle.fabric_laws.specs.Rule.{all_parts};
 ghost use Rattle.fabric_laws.specs.Words.{slot_count};
 ghost use Rattle.fabric.specs.Hands.{IsHandOf, pool_of, rings_of, view};
-ghost use Rattle.fabric.specs.Making.{AreTagged, RefusesRoom, MayStand};
+ghost use Rattle.fabric.specs.Making.{AreTagged, MayStand, RefusesPlan};
 ghost use Rattle.fabric.specs.Shapes.{AreShapes};
 
 use crate::fabric::Fabric;
@@ -108,7 +108,7 @@ impl<T: Tagged, const N: usize> Fabric<T, N> {
         ensures items { IfOk result (λ o. (o.items.items ≡ items.items) × AreTagged T.numbers buffers items.items) }
         ensures hand { IfOk result (λ o. IsHandOf o.fabric o.hand
             × (view o.hand ≡ newborn rings.items buffers all_parts (range_with_len 0 buffers))) }
-        ensures refused { IfErr result (λ e. RefusesRoom T.numbers rings.items buffers N items.items e) }
+        ensures refused { IfErr result (λ e. RefusesPlan T.numbers rings.items buffers N items.items e) }
     {
         if !may_stand(&rings, buffers, N) {
             return Err(OpenFault::BadPlan(items));

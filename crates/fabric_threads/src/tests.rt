@@ -1,5 +1,6 @@
 //! An item with one number, and each call of a burst once.
 mod calls;
+mod faults;
 mod frame;
 mod marks;
 mod numbers;
@@ -7,6 +8,7 @@ mod openings;
 mod plays;
 mod rings;
 mod rows;
+mod sent;
 mod spans;
 mod starved;
 mod stopped;

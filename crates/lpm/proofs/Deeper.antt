@@ -89,7 +89,7 @@ module _ (address bits : ℕ) (m : Members) (are : AreMembers m) (below : bits <
             [ inl less ↦ inl less | inr same ↦ inr (omega arith, omega (arith, d.deeper)) ]),
         to_le p (greatest_deeper address bits)
             (elim (cases_lt p.address (masked address bits + (size_of bits - 1)))
-            [ inl less ↦ inl less | inr same ↦ inr (omega arith, member.lawful.1) ]),
+            [ inl less ↦ inl less | inr same ↦ inr (omega arith, member.within.1) ]),
       )
 
   pub deeper_found : (b : Bool) → OnTrue b (SomeBetween m (least_deeper address bits) (greatest_deeper address bits))

@@ -14,7 +14,7 @@ IsFound m a c = 0 < c.depth → Holds m a c.depth c.number
 found_or : (m : Members) (a n : ℕ) (w : Option ℕ) (c : TableEntry) → map.get m (prefix_of a (suc n)) ≡ w → suc n ≤ 32 → IsFound m a c
     → IsFound m a (entry_or w (suc n) c)
 found_or m a n None c e h k = k
-found_or m a n (Some hop) c e h k = λ _. record { lawful = (omega arith, h); member = e }
+found_or m a n (Some hop) c e h k = λ _. record { within = (omega arith, h); member = e }
 
 pub longest_found : (m : Members) (a n : ℕ) → n ≤ 32 → IsFound m a (longest m a n)
 unfolding longest
@@ -52,7 +52,7 @@ pub answer_holds : (m : Members) (a : ℕ) (c : TableEntry) → IsFound m a c �
 answer_holds m a c found greatest =
     elim (cases_eq c.depth 0) [
       | inl zero_depth ↦
-          let unmatched : IsLongestMatch m a None = λ d h holds. omega (arith, holds.lawful, greatest d h holds) in
+          let unmatched : IsLongestMatch m a None = λ d h holds. omega (arith, holds.within, greatest d h holds) in
           subst (IsLongestMatch m a) (sym (hop_of-none c zero_depth)) unmatched
       | inr pos ↦
           let matched : IsLongestMatch m a (Some c.number) = (c.depth, found (omega arith), greatest) in
@@ -61,4 +61,4 @@ answer_holds m a c found greatest =
 
 pub lookup_in_holds : (m : Members) (a : ℕ) → IsLongestMatch m a (lookup_in m a)
 lookup_in_holds m a = answer_holds m a (longest m a 32) (longest_found m a 32 (omega arith))
-    (λ d h holds. longest_greatest m a 32 d h holds holds.lawful.1)
+    (λ d h holds. longest_greatest m a 32 d h holds holds.within.1)

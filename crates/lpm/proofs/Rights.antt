@@ -52,7 +52,7 @@ pub overwritten_right : (p q r : TwoLevels) (m m' : Members) (x d : ℕ) (w : Op
     → IsDepth d → ChangesAt m m' (prefix_of x d) w → ((a : ℕ) → masked a d ≡ masked x d → c ≡ entry_or w d (longest m a (d - 1)))
     → Overwrites q r (prefix_of x d) c
     → EachPlace p (λ i low. entry_at r i low ≡ longest m' (address_at p i low) 32)
-overwritten_right p q r m m' x d w c right bits same lawful change is overwrites i low fits_i fits =
+overwritten_right p q r m m' x d w c right bits same is_depth change is overwrites i low fits_i fits =
     let a : ℕ = address_at p i low in
     let in_level : i < 2 ^ q.bits = subst (λ n. i < 2 ^ n) (sym bits) fits_i in
     let place : low < size_of q.bits = subst (λ n. low < size_of n) (sym bits) fits in
@@ -62,7 +62,7 @@ overwritten_right p q r m m' x d w c right bits same lawful change is overwrites
       | inl held ↦
           overwrites.covered i low in_level place (ap (λ n. masked n d) address ∙ held)
           ∙ ap (overwritten d c) was ∙ ap (λ e. overwritten d e (longest m a 32)) (is a held)
-          ∙ sym (longest-covered m m' x d w change a 32 held lawful.0 lawful.1)
+          ∙ sym (longest-covered m m' x d w change a 32 held is_depth.0 is_depth.1)
       | inr other ↦
           overwrites.others i low in_level place (λ e. other (sym (ap (λ n. masked n d) address) ∙ e)) ∙ was
           ∙ sym (longest-outside m m' x d w change a 32 other)
@@ -81,8 +81,8 @@ members_changed m m' k w change here are q h e =
     changed_case q k (eq_by_cmp prefix_cmp q k) refl h w (fin_map.get m q) (sym (change q) ∙ e) here (are q h)
 
 pub prefix_is_member : (x d hop : ℕ) → IsDepth d → x < 2 ^ 32 → hop < 2 ^ 24 → IsMember (prefix_of x d) hop
-prefix_is_member x d hop lawful short small = record {
-  lawful = lawful;
+prefix_is_member x d hop is_depth short small = record {
+  within = is_depth;
   cleared = masked-masked x d;
   short = omega (arith, masked_le x d);
   small = small;
@@ -93,10 +93,10 @@ pub right_shallow : (p q : TwoLevels) (m m' : Members) (x d : ℕ) (w : Option �
     → ChangesAt m m' (prefix_of x d) w → AreMembers m'
     → ((a : ℕ) → masked a d ≡ masked x d → c ≡ entry_or w d (longest m a (d - 1))) → KeepsGroups p q → Overwrites p q (prefix_of x d) c
     → IsRight q m'
-right_shallow p q m m' x d w c right lawful shallow change are is keeps overwrites =
+right_shallow p q m m' x d w c right is_depth shallow change are is keeps overwrites =
     let firsts = firsts_of_shallow p.bits m m' (prefix_of x d) w change shallow in
     right_for p q m m' right keeps.bits keeps.limit are
-    (overwritten_right p p q m m' x d w c right refl (λ i low fits_i fits. refl) lawful change is overwrites)
+    (overwritten_right p p q m m' x d w c right refl (λ i low fits_i fits. refl) is_depth change is overwrites)
     (λ i fits. keeps.kinds i ∙ right.grouped i fits ∙ ap (λ s. fin_set.contains s i) (sym firsts))
     (keeps.used ∙ right.used ∙ ap fin_set.len (sym firsts))
     (omega (arith, keeps.used, right.within))
@@ -125,7 +125,7 @@ pub right_deep : (p q r : TwoLevels) (m m' : Members) (x d hop : ℕ) → IsRigh
     → is_group (first_at q (first_bits (masked x d) p.bits)) ≡ true →
     ((i : ℕ) → i ≢ first_bits (masked x d) p.bits → is_group (first_at q i) ≡ is_group (first_at p i))
     → used_of q ≡ groups_of p.bits m' → used_of q ≤ p.limit → KeepsGroups q r → Overwrites q r (prefix_of x d) (entry_of d hop) → IsRight r m'
-right_deep p q r m m' x d hop right lawful deep change are bits limit same here others used within keeps overwrites =
+right_deep p q r m m' x d hop right is_depth deep change are bits limit same here others used within keeps overwrites =
     let f : ℕ = first_bits (masked x d) p.bits in
     let has : has_deeper p.bits m' f ≡ true =
     deeper_has p.bits m' f (record {
@@ -137,7 +137,7 @@ right_deep p q r m m' x d hop right lawful deep change are bits limit same here 
       among = refl;
     }) in
     right_for p r m m' right (keeps.bits ∙ bits) (keeps.limit ∙ limit) are
-    (overwritten_right p q r m m' x d (Some hop) (entry_of d hop) right bits same lawful change (λ a e. refl) overwrites)
+    (overwritten_right p q r m m' x d (Some hop) (entry_of d hop) right bits same is_depth change (λ a e. refl) overwrites)
     (λ i fits. keeps.kinds i ∙ elim (cases_eq i f) [
       | inl at ↦ subst (λ n. is_group (first_at q n) ≡ has_deeper p.bits m' n) (sym at) (here ∙ sym has)
       | inr other ↦ others i other ∙ right.grouped i fits ∙ sym (has_deeper_other p.bits m m' (prefix_of x d) (Some hop) change i other)
@@ -171,9 +171,9 @@ deep_needs p m m' x d hop f right change deep at fits =
 
 pub members_with : (m : Members) (x d hop : ℕ) → AreMembers m → IsDepth d → x < 2 ^ 32 → hop < 2 ^ 24
     → AreMembers (fin_map.insert m (prefix_of x d) hop)
-members_with m x d hop are lawful short small =
+members_with m x d hop are is_depth short small =
     members_changed m (fin_map.insert m (prefix_of x d) hop) (prefix_of x d) (Some hop) (inserts m (prefix_of x d) hop)
-    (λ h e. let same : hop ≡ h = cc in subst (λ n. IsMember (prefix_of x d) n) same (prefix_is_member x d hop lawful short small)) are
+    (λ h e. let same : hop ≡ h = cc in subst (λ n. IsMember (prefix_of x d) n) same (prefix_is_member x d hop is_depth short small)) are
 
 pub members_without : (m : Members) (k : Prefix) → AreMembers m → AreMembers (fin_map.remove m k)
 members_without m k are = members_changed m (fin_map.remove m k) k None (removes m k) (λ h e. cc) are
@@ -187,7 +187,7 @@ pub deep_added : (p q r s : TwoLevels) (m m' : Members) (x d hop f : ℕ) → Is
     → f ≡ first_bits (masked x d) p.bits → f < 2 ^ p.bits → Grows p q → Regroups q r f true
     → used_of r ≡ used_of q + cond (is_group (first_at q f)) 0 1
     → (is_group (first_at p f) ≡ false → used_of p < p.limit) → KeepsGroups r s → Overwrites r s (prefix_of x d) (entry_of d hop) → IsRight s m'
-deep_added p q r s m m' x d hop f right lawful deep change are at fits grows opens used room keeps overwrites =
+deep_added p q r s m m' x d hop f right is_depth deep change are at fits grows opens used room keeps overwrites =
     let g : ℕ = groups_of p.bits m in
     let kind : (i : ℕ) → is_group (first_at q i) ≡ is_group (first_at p i) = λ i. ap
     (λ (es : List TableEntry). is_group (get_or es i (entry_of 0 0))) grows.first in
@@ -196,7 +196,7 @@ deep_added p q r s m m' x d hop f right lawful deep change are at fits grows ope
     groups_with p m m' x d hop change deep ∙ ap (λ n. cond (has_deeper p.bits m n) g (g + 1)) (sym at)
     ∙ ap (λ b. cond b g (g + 1)) (sym (right.grouped f fits)) in
     let counts : used_of r ≡ used_of p + cond (is_group (first_at p f)) 0 1 = used ∙ (λ i. same_used i + cond (kind f i) 0 1) in
-    right_deep p r s m m' x d hop right lawful deep change are (opens.bits ∙ grows.bits) (opens.limit ∙ grows.limit)
+    right_deep p r s m m' x d hop right is_depth deep change are (opens.bits ∙ grows.bits) (opens.limit ∙ grows.limit)
     (λ i low fits_i fits_low. opens.entries i low (subst (λ n. i < 2 ^ n) (sym grows.bits) fits_i)
     (subst (λ n. low < size_of n) (sym grows.bits) fits_low) ∙ grows.entries i low fits_i fits_low)
     (subst (λ n. is_group (first_at r n) ≡ true) at opens.here)
@@ -217,12 +217,12 @@ deep_added p q r s m m' x d hop f right lawful deep change are at fits grows ope
 pub removed_places : (p q : TwoLevels) (m m' : Members) (x d : ℕ) (c : TableEntry) → IsRight p m → IsDepth d → ChangesAt m m' (prefix_of x d) None
     → c ≡ longest m' x (d - 1)
     → Overwrites p q (prefix_of x d) c → EachPlace p (λ i low. entry_at q i low ≡ longest m' (address_at p i low) 32)
-removed_places p q m m' x d c right lawful change is overwrites =
-    overwritten_right p p q m m' x d None c right refl (λ i low fits_i fits. refl) lawful change
-    (λ a e. is ∙ next_shorter m m' x d None change lawful.0 lawful.1 a e) overwrites
+removed_places p q m m' x d c right is_depth change is overwrites =
+    overwritten_right p p q m m' x d None c right refl (λ i low fits_i fits. refl) is_depth change
+    (λ a e. is ∙ next_shorter m m' x d None change is_depth.0 is_depth.1 a e) overwrites
 
 -- a deep member that is there, with its entry's first bits
-module _ (p : TwoLevels) (m : Members) (right : IsRight p m) (x d : ℕ) (lawful : IsDepth d) (deep : p.bits < d)
+module _ (p : TwoLevels) (m : Members) (right : IsRight p m) (x d : ℕ) (is_depth : IsDepth d) (deep : p.bits < d)
     (there : IsSome (fin_map.get m (prefix_of x d)))
     (f : ℕ) (at : f ≡ first_bits (masked x d) p.bits) (fits : f < 2 ^ p.bits) where
   needed : has_deeper p.bits m f ≡ true

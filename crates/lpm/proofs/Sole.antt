@@ -29,5 +29,5 @@ sole_hop p q hop h e =
     ∙ sym (get-insert prefix_total map.empty p hop q) ∙ e)
 
 pub sole_match : (a d hop : ℕ) (answer : Option ℕ) → IsDepth d → IsLongestMatch (sole (prefix_of a d) hop) a answer → answer ≡ Some hop
-sole_match a d hop None lawful is = absurd (is d hop (record { lawful = lawful; member = sole_here (prefix_of a d) hop }))
-sole_match a d hop (Some h) lawful is = ap Some (sym (sole_hop (prefix_of a d) (prefix_of a is.0) hop h is.1.member))
+sole_match a d hop None is_depth is = absurd (is d hop (record { within = is_depth; member = sole_here (prefix_of a d) hop }))
+sole_match a d hop (Some h) is_depth is = ap Some (sym (sole_hop (prefix_of a d) (prefix_of a is.0) hop h is.1.member))

@@ -6,7 +6,7 @@ use Rattle.lpm.specs.Prefixes.{Members, IsDepth, prefix_of}
 
 -- a member of this depth holds the address, and this is its hop
 pub record Holds (m : Members) (address depth hop : ℕ) : Type 0 where
-  pub lawful : IsDepth depth
+  pub within : IsDepth depth
   pub member : map.get m (prefix_of address depth) ≡ Some hop
 
 -- the answer is the hop of a member that holds the address, where no deeper one does, and none where no member does

@@ -6,7 +6,7 @@ use Rattle.std.specs.FinMap as map
 use Rattle.std.specs.Coded.{Coded, code_by, coded×, coded_ℕ}
 use Rattle.lpm.specs.declared.prefix.Prefix.{Prefix}
 
--- the lawful depths
+-- the depths of prefixes
 abbrev pub IsDepth : ℕ → Type 0
 IsDepth depth = (0 < depth) × (depth ≤ 32)
 
@@ -39,9 +39,9 @@ prefix_code =
 abbrev pub Members : Type 0
 Members = map.FinMap prefix_cmp ℕ
 
--- what a table keeps of a member: a prefix of a lawful depth, masked, and a hop of 24 bits
+-- what a table keeps of a member: a prefix of 1 to 32 bits, masked, and a hop of 24 bits
 pub record IsMember (prefix : Prefix) (hop : ℕ) : Type 0 where
-  pub lawful : IsDepth prefix.depth
+  pub within : IsDepth prefix.depth
   pub cleared : masked prefix.address prefix.depth ≡ prefix.address
   pub short : prefix.address < 2 ^ 32
   pub small : hop < 2 ^ 24

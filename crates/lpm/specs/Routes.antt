@@ -61,14 +61,14 @@ routes_code =
 
 -- a route that a table takes, where memory can be had
 pub record Accepts (t : Routes) (address depth hop : ℕ) : Type 0 where
-  pub depth_lawful : IsDepth depth
-  pub hop_lawful : hop < 2 ^ 24
+  pub within : IsDepth depth
+  pub small : hop < 2 ^ 24
   pub groups_fit : groups_of t.bits (with_route t address depth hop) ≤ t.limit
 
 -- the table has that route
 abbrev pub HasRoute : Routes → ℕ → ℕ → Type 0
 HasRoute t address depth = IsDepth depth × IsSome (map.get t.members (prefix_of address depth))
 
--- the depth is lawful, and the table has no such route
+-- the depth is one of a prefix, and the table has no such route
 abbrev pub LacksRoute : Routes → ℕ → ℕ → Type 0
 LacksRoute t address depth = IsDepth depth × (map.get t.members (prefix_of address depth) ≡ None)

@@ -66,11 +66,8 @@ fn finds_the_longest_route(rt: HostRuntime) -> Result<(), Fail> {
         (at(10, 9, 9, 0), 25, 16_777_216, RouteFault::BadHop),
     ];
     for (addr, depth, hop, fault) in refused {
-        assert_eq!(rt;
-            add_once(&mut table, addr, depth, hop),
-            Err(fault),
-            "{addr:08x}/{depth}"
-        );
+        let answer = add_once(&mut table, addr, depth, hop);
+        assert_eq!(rt; answer, Err(fault), "{addr:08x}/{depth}");
     }
     assert_eq!(rt; add(&mut table, at(10, 1, 2, 128), 25, 5), Ok(()));
     let other = add_once(&mut table, at(10, 1, 3, 0), 25, 6);

@@ -32,5 +32,5 @@ at_link zero f link = (f link.0, link.1)
 at_link (suc i) f link = (link.0, at_segment i f link.1)
 
 -- the bytes of the segment i further on are what was written
-abbrev pub LendsPart : MutBor (Buffer × List Buffer) → ℕ → MutBor (List ℕ) → Fml
-LendsPart s i r = Lends link_row (Array u8 0) s r (λ w. at_link i (rewritten w) s.now)
+abbrev pub LendsPartOfLink : MutBor (Buffer × List Buffer) → ℕ → MutBor (List ℕ) → Fml
+LendsPartOfLink s i r = Lends link_row (Array u8 0) s r (λ w. at_link i (rewritten w) s.now)

@@ -23,7 +23,7 @@ macro_rules! halved {
 }
 
 impl Link {
-    ghost use Rattle.mbuf.specs.Lends.{LendsBehind, LendsSegment, LendsPart};
+    ghost use Rattle.mbuf.specs.Lends.{LendsBehind, LendsSegment, LendsPartOfLink};
 
     /// The first segment, for writing.
     #[inline]
@@ -118,7 +118,7 @@ impl Link {
     pub(crate) fn part_mut(&mut self, i: usize) -> &mut [u8]
         requires few { i ≤ 64 }
         requires there { i < length (row self.old) }
-        ensures* writes_back { sem 𝓛 (LendsPart self.entry i result) }
+        ensures* writes_back { sem 𝓛 (LendsPartOfLink self.entry i result) }
         ensures value { result.now ≡ part_of (row self.old) i }
     {
         if i == 0 {

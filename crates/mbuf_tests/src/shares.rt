@@ -3,9 +3,13 @@ ghost use Rattle.std.specs.Prelude.{◌≡◌, ◌++◌, []};
 ghost use Rattle.burst.specs.Numbers.{AreDistinct};
 ghost use Rattle.mbuf.specs.Chain.{numbers_of};
 
-use crate::calls::{Call, FRESH, again, copied, copy_into, cut, go, released, released_into};
+use crate::calls::{
+    Call, FRESH, again, bytes_at, copied, copy_into, cut, go, number_of, released, released_into,
+    two_at,
+};
+use crate::example::blank_front;
 use crate::fixtures::{both, deck_of, deck_of_pairs, pair, segment};
-use burst::Burst;
+use burst::{Burst, Tagged};
 use exhaust::take_all;
 use mbuf::{Chain, Deck, DeckFault};
 use std::alloc::Global;
@@ -181,7 +185,7 @@ fn is_as_it_was_without_memory(rt: HostRuntime) -> Result<(), Fail> {
     Ok(())
 }
 
-/// The calls of a packet that change its bytes.
+/// The calls of a packet that change its bytes, and those that look at them.
 fn changes(rt: &impl Abort, chain: &mut Chain) {
     let rows = [
         (Call::Append(&[9; 60]), Ok(()), [128, 60, 4]),
@@ -195,8 +199,22 @@ fn changes(rt: &impl Abort, chain: &mut Chain) {
         (Call::Resize(64), Ok(()), [128, 64, 0]),
     ];
     go(rt, chain, &rows);
+    blank_front(chain);
+    looks(rt, chain);
     chain.reset();
     go(rt, chain, &[(Call::Append(&[9; 6]), Ok(()), [128, 6, 58])]);
+}
+
+/// The calls that only look at a packet, here at 64 zeros in segment 9.
+fn looks(rt: &impl Abort, chain: &Chain) {
+    assert!(rt; chain.segments() == 1);
+    assert_eq!(rt; chain.part(0), [0; 64].as_slice());
+    assert_eq!(rt;
+        (bytes_at(chain, [63, 64]), two_at(chain, 62)),
+        ([Some(0), None], Ok([0; 2]))
+    );
+    assert_eq!(rt; (number_of(chain), chain.only_tag()), (Some(9), Some(9)));
+    assert_eq!(rt; (chain.space(), chain.is_empty()), (64, false));
 }
 
 /// Links two segments, and takes them apart again.
@@ -216,9 +234,11 @@ fn goes_on_without_memory(rt: HostRuntime) -> Result<(), Fail> {
     let mut deck = deck_of(rt.alloc(), three_bytes(rt.alloc())?)?;
     let mut chain = segment(rt.alloc(), 9)?;
     let (one, other) = (segment(rt.alloc(), 1)?, segment(rt.alloc(), 2)?);
+    let mut pairs = deck_of_pairs(rt.alloc(), 1)?;
     let held = take_all(rt.alloc())?.ok_or("memory can't be used up in this build")?;
     changes(&rt, &mut chain);
     cuts_and_copies(&rt, &mut deck, &mut chain);
+    assert_eq!(rt; released_into(&mut pairs, 0), Ok(2));
     let linked = parts(&rt, one, other);
     drop(held);
     linked

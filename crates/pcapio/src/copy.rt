@@ -1,6 +1,6 @@
 //! The calls at work: a capture copied to another device, but for the records that a chain has no space for.
 ghost use Rattle.std.specs.Prelude.{◌≡◌, Some, IfOk, IfErr, OnOk, OnErr};
-ghost use Rattle.mbuf.specs.Chain.{fresh_of};
+ghost use Rattle.mbuf.specs.Chain.{HasSameSegments};
 ghost use Rattle.pcapio.specs.Answer.{OnAll, OnCut};
 ghost use Rattle.pcapio.specs.Copy.{IfEnded, IfEndless, CopiesOne, BeginsOne, Copies, BeginsToCopy, IsEndless};
 ghost use Rattle.pcapio.specs.Copy.{CopiesPart, CopiesOut, CopiesCapture, BeginsCapture, IsEndlessCapture};
@@ -36,7 +36,7 @@ pub fn copy_capture<R: Read, W: Write>(
     ensures endless { IfEndless result.2 (IsEndlessCapture R.remaining from) }
     ensures begins { OnErr result.2 (BeginsCapture R.remaining W.contents chain.old from to result.1) }
     ensures why { IfErr result.2 (WhyNotCopied R.remaining from result.0 to result.1) }
-    ensures kept { fresh_of chain.new ≡ fresh_of chain.old }
+    ensures kept { HasSameSegments chain.new chain.old }
 {
     let mut reader = match Reader::open(alloc, from) {
         Ok(reader) => reader,
@@ -62,7 +62,7 @@ fn copy_and_flush<R: Read, W: Write>(
     ensures endless { IfEndless result (IsEndless R.remaining reader.old) }
     ensures begins { OnErr result (BeginsToCopy R.remaining W.contents chain.old reader.old writer.old writer.new) }
     ensures why { IfErr result (WhyStopped R.remaining reader.old reader.new writer.old writer.new) }
-    ensures kept { fresh_of chain.new ≡ fresh_of chain.old }
+    ensures kept { HasSameSegments chain.new chain.old }
 {
     let copied = copy_records(reader, writer, chain)?;
     writer.flush()?;
@@ -85,7 +85,7 @@ pub fn copy_records<R: Read, W: Write>(
     ensures endless { IfEndless result (IsEndless R.remaining reader.old) }
     ensures begins { OnErr result (BeginsToCopy R.remaining W.contents chain.old reader.old writer.old writer.new) }
     ensures why { IfErr result (WhyStopped R.remaining reader.old reader.new writer.old writer.new) }
-    ensures kept { fresh_of chain.new ≡ fresh_of chain.old }
+    ensures kept { HasSameSegments chain.new chain.old }
     ensures part { OnOk result (CopiesPart R.remaining W.contents chain.old reader.old writer.old writer.new) }
     ensures read { OnOk result (HasNotFailed (source_of reader.old) (source_of reader.new)) }
     ensures written { OnOk result (HasNotFailed (sink_of writer.old) (sink_of writer.new)) }
@@ -119,7 +119,7 @@ fn copy_record<R: Read, W: Write>(
     ensures file { IsSameFile reader.old reader.new }
     ensures stage { IfOk result (λ all. stage_of reader.new ≡ after_bytes all) }
     ensures goes_on { OnOk result (IsWell writer.new) }
-    ensures space { fresh_of chain.new ≡ fresh_of chain.old }
+    ensures space { HasSameSegments chain.new chain.old }
     ensures read { OnOk result (HasNotFailed (source_of reader.old) (source_of reader.new)) }
     ensures written { OnOk result (HasNotFailed (sink_of writer.old) (sink_of writer.new)) }
     ensures why { IfErr result (WhyOneStopped reader.old reader.new writer.old writer.new) }

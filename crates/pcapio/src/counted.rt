@@ -49,6 +49,7 @@ impl<D> Counted<D> {
         ensures device { device_of self.new ≡ device_of self.old }
         ensures failures { HasFailed self.old self.new }
     {
+        // The count stands at its greatest number: by wrapping around it would hide failures.
         self.failures = self.failures.saturating_add(1);
         Failed
     }

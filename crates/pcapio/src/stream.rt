@@ -1,6 +1,6 @@
 //! The bytes of a record, read into the segments of a chain.
 ghost use Rattle.std.specs.Prelude.{◌≡◌, ◌≤◌, length, OnOk, OnErr};
-ghost use Rattle.mbuf.specs.Chain.{bytes_of, shape_of, fresh_of, space_of};
+ghost use Rattle.mbuf.specs.Chain.{bytes_of, shape_of, fresh_of, HasSameSegments, space_of};
 ghost use Rattle.pcapio.specs.Ahead.{Gives, HasFewer};
 ghost use Rattle.pcapio.specs.Answer.{OnAll, OnCut};
 ghost use Rattle.pcapio.specs.Counted.{HasFailed, HasNotFailed};
@@ -41,7 +41,7 @@ pub(crate) fn read_body<R: Read>(
     ensures whole { OnAll result (Gives R.remaining ahead.old device.old ahead.new device.new (bytes_of chain.new)) }
     ensures length { OnAll result (length (bytes_of chain.new) ≡ count) }
     ensures short { OnCut result (HasFewer R.remaining count ahead.old device.old) }
-    ensures kept { fresh_of chain.new ≡ fresh_of chain.old }
+    ensures kept { HasSameSegments chain.new chain.old }
     ensures fresh { OnCut result (chain.new ≡ fresh_of chain.old) }
     ensures given_up { OnErr result (chain.new ≡ fresh_of chain.old) }
     ensures ok { OnOk result (HasNotFailed device.old device.new) }

@@ -1,7 +1,7 @@
 -- A list that is turned, in two parts
-use Rattle.std.proofs.Common.{◌≡◌, ◌++◌, ◌-◌, ℕ, List, [], take, drop, length, reverse, ap, sym, ◌∙◌}
+use Rattle.std.proofs.Common.{◌≡◌, ◌++◌, ◌-◌, ℕ, List, [], ◌∷◌, take, drop, length, reverse, ap, sym, ◌∙◌, arith}
 use Rattle.std.proofs.Math.Seq.{drop-append_seam, take-append_seam}
-use Rattle.std.proofs.lemmas.List.{length-drop, length-reverse, reverse-append, reverse-reverse, take-append-drop}
+use Rattle.std.proofs.lemmas.List.{length-append, length-drop, length-reverse, reverse-append, reverse-reverse, take-append-drop}
 
 module _ {T : Type 0} (k : ℕ) (items : List T) where
   both_turned : reverse items ≡ reverse (drop k items) ++ reverse (take k items)
@@ -20,6 +20,17 @@ module _ {T : Type 0} (k : ℕ) (items : List T) where
   rest_turned n is =
       ap reverse ((λ i. take ((is ∙ long_turned) i) (both_turned i)) ∙ take-append_seam (reverse (drop k items)) (reverse (take k items)))
       ∙ reverse-reverse (drop k items)
+
+-- a list whose last item is gone
+module _ {T : Type 0} (items rest : List T) (x : T) (is : items ≡ rest ++ x ∷ []) where
+  one_less : length items - 1 ≡ length rest
+  one_less = omega (arith, ap length is, length-append rest (x ∷ []))
+
+  pub last_kept : rest ≡ take (length items - 1) items
+  last_kept = sym ((λ i. take (one_less i) (is i)) ∙ take-append_seam rest (x ∷ []))
+
+  pub last_turned : x ∷ [] ≡ reverse (drop (length items - 1) items)
+  last_turned = sym (ap reverse ((λ i. drop (one_less i) (is i)) ∙ drop-append_seam rest (x ∷ [])))
 
 module _ {T : Type 0} where
   -- a list that was poured out of another and back

@@ -5,25 +5,26 @@ ghost use Rattle.pool.specs.Calls.{GetsCached, PutsCached};
 ghost use Rattle.pool.specs.Locals.{HasSameHand, SameRing, cache_of, size_of, view_of};
 
 use crate::faults::PoolFault;
+use crate::keeping::give;
 use crate::local::Local;
+use crate::moves::push_all;
 use burst::{Burst, Tagged};
 
 impl<T: Tagged, const N: usize> Local<T, N> {
     /// Gets `n` items from the cache alone, the newest first, into an empty list. Refused as `Short` where it has
     /// fewer; nothing moves then. No step on a word, no memory, no waiting.
+    #[inline]
     pub fn get_cached_into(&mut self, n: usize, into: &mut Burst<T, N>) -> Result<(), PoolFault>
         requires empty { into.old ≡ [] }
         ensures same { SameRing self.old self.new × HasSameHand self.old self.new }
         ensures told { GetsCached n (cache_of self.old) result into.new (cache_of self.new) }
         ensures own { IfOk result (λ _. AreOwnBuffers T.numbers (view_of self.new) (into.new ++ cache_of self.new)) }
     {
-        let cached = self.cache.len();
-        if cached < n {
+        if self.cache.len() < n {
             return Err(PoolFault::Short);
         }
-        self.cache.pour(cached - n, into);
         match &mut self.hand {
-            Some(keeper) => keeper.release(into),
+            Some(keeper) => give(keeper, &mut self.cache, n, into),
             None => unreachable!(),
         }
         Ok(())
@@ -33,6 +34,7 @@ impl<T: Tagged, const N: usize> Local<T, N> {
     ///
     /// Refused, in the order of the tests: `NotYours`; `CacheFull` where the threshold, `floor(3 * size / 2)`, would be
     /// passed. Nothing moves then, and the list has its items. No step on a word, no memory, no waiting.
+    #[inline]
     pub fn put_cached_from(&mut self, list: &mut Burst<T, N>) -> Result<(), PoolFault>
         ensures same { SameRing self.old self.new × HasSameHand self.old self.new }
         ensures told { PutsCached T.numbers (view_of self.old) (size_of self.old) (cache_of self.old) list.old result
@@ -49,7 +51,7 @@ impl<T: Tagged, const N: usize> Local<T, N> {
             keeper.release(list);
             return Err(PoolFault::CacheFull);
         }
-        self.cache.append(list);
+        push_all(&mut self.cache, list);
         Ok(())
     }
 }

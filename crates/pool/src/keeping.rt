@@ -1,5 +1,5 @@
 //! A hand and the cache whose buffers it keeps back.
-ghost use Rattle.std.specs.Prelude.{◌≡◌, ◌+◌, ◌<◌, ◌≤◌, ◌++◌, [], length, take, drop, true, false, IfOk, IfErr};
+ghost use Rattle.std.specs.Prelude.{◌≡◌, ◌+◌, ◌-◌, ◌<◌, ◌≤◌, ◌++◌, [], length, take, drop, reverse, true, false, IfOk, IfErr};
 ghost use Rattle.ringcore_laws.specs.FreeRings.{AreSingle};
 ghost use Rattle.fabric.specs.Hands.{OnRing, view};
 ghost use Rattle.fabric.specs.Keepers.{IsKeeperFor, IsKeeperOf, Keeps, SameKeeper, view_of_keeper};
@@ -8,7 +8,7 @@ ghost use Rattle.pool.specs.Asks.{Sheds};
 ghost use Rattle.pool.specs.Hands.{IsFreeOf};
 
 use crate::asks::spill;
-use crate::moves::part;
+use crate::moves::{part, push_all};
 use burst::{Burst, Tagged};
 use fabric::{Fabric, Hand, Keeper};
 use std::sync::Wait;
@@ -46,9 +46,60 @@ pub(crate) fn admit<T: Tagged, const N: usize>(
 {
     let may = keeper.keep(list);
     if may {
-        cache.append(list);
+        push_all(cache, list);
     }
     may
+}
+
+/// Moves the items behind the first `k` of a cache into an empty list, the newest first, and keeps them back no more.
+/// Never in line, so that `give` is short enough to be.
+#[inline(never)]
+fn give_behind<T: Tagged, const N: usize>(
+    keeper: &mut Keeper<T>,
+    cache: &mut Burst<T, N>,
+    k: usize,
+    into: &mut Burst<T, N>,
+)
+    requires kept { Keeps T.numbers keeper.old cache.old }
+    requires few { k ≤ length cache.old }
+    requires empty { into.old ≡ [] }
+    ensures same { SameKeeper keeper.old keeper.new }
+    ensures kept { Keeps T.numbers keeper.new cache.new }
+    ensures left { cache.new ≡ take k cache.old }
+    ensures moved { into.new ≡ reverse (drop k cache.old) }
+{
+    // its clause says that no list is longer than `N`
+    let _fits = cache.len();
+    cache.pour(k, into);
+    keeper.release(into);
+}
+
+/// Moves the newest `n` items of a cache into an empty list, the newest first, and keeps them back no more. One item,
+/// as in most calls, goes without a loop.
+#[inline]
+pub(crate) fn give<T: Tagged, const N: usize>(
+    keeper: &mut Keeper<T>,
+    cache: &mut Burst<T, N>,
+    n: usize,
+    into: &mut Burst<T, N>,
+)
+    requires kept { Keeps T.numbers keeper.old cache.old }
+    requires few { n ≤ length cache.old }
+    requires empty { into.old ≡ [] }
+    ensures same { SameKeeper keeper.old keeper.new }
+    ensures kept { Keeps T.numbers keeper.new cache.new }
+    ensures left { cache.new ≡ take (length cache.old - n) cache.old }
+    ensures moved { into.new ≡ reverse (drop (length cache.old - n) cache.old) }
+{
+    let k = cache.len() - n;
+    if n != 1 {
+        give_behind(keeper, cache, k, into);
+        return;
+    }
+    if let Some(item) = cache.pop() {
+        keeper.release_one(&item);
+        into.push(item);
+    }
 }
 
 /// Puts the oldest items of a cache on the ring until `size` are left. Where that is refused, those behind the first

@@ -19,6 +19,23 @@ pub(crate) fn part<T: Tagged, const N: usize>(
     to.reverse();
 }
 
+/// Moves all items of a list behind those of another, in order. Asked: there is room for them. One item goes without a
+/// loop.
+#[inline]
+pub(crate) fn push_all<T: Tagged, const N: usize>(to: &mut Burst<T, N>, from: &mut Burst<T, N>)
+    requires room { length to.old + length from.old ≤ N }
+    ensures left { from.new ≡ [] }
+    ensures moved { to.new ≡ to.old ++ from.old }
+{
+    if from.len() != 1 {
+        to.append(from);
+        return;
+    }
+    if let Some(item) = from.pop() {
+        to.push(item);
+    }
+}
+
 /// Moves the first `k` items of a list behind those of another, in order. Asked: there is room for them.
 pub(crate) fn serve<T: Tagged, const N: usize>(
     from: &mut Burst<T, N>,

@@ -54,6 +54,7 @@ fn publish(
     // A span that was granted ends at `LAST` at most, so the sum is exact; the member alone doesn't say so.
     let end = start.saturating_add(items.len() as u64);
     queue_items(places, number, start, &items);
+    // The member holds the buffers of a put that is done, so the difference is exact; its count alone doesn't say so.
     member.count = member.count.saturating_sub(buffer_count(&items));
     member.span = None;
     settle_words(&mut ring.put, plan.put, end);
@@ -130,6 +131,7 @@ pub fn settle_take(
     let mut taken = Vec::new(alloc);
     ring.queue.take(How::Burst, count, &mut taken)?;
     hold_items(places, member.number, &taken);
+    // A member holds at most all of the world's buffers, so the sum is exact; the ring alone doesn't say so.
     member.count = member.count.saturating_add(buffer_count(&taken));
     // Exact, as in `publish`.
     settle_words(&mut ring.take, plan.take, span.start.saturating_add(count));

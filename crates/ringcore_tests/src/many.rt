@@ -1,6 +1,6 @@
 //! More buffers than a small ring, a small list of items or a small pool would take.
 
-use crate::world::{LOOK, ROOM, done, go, granted, reserve, seen};
+use crate::world::{LOOK, ROOM, Row, buffer, done, go, go_in_one_list, granted, reserve, seen};
 use geom::{Geometry, How, Mode, RingPlan, Side};
 use ringcore::{World, WorldPlan};
 use ringcore_laws::{Item, Items, Numbers, Place, Reply, Step};
@@ -85,4 +85,28 @@ fn hundreds_of_buffers_go_to_another_actor_at_once(rt: HostRuntime) -> Result<()
     let (mut world, items) = open_many(rt.alloc())?;
     let gone = go_at_once(&rt, &mut world, items);
     Ok(gone?)
+}
+
+/// Actor 0 puts the buffers one by one.
+fn put_each(alloc: Global) -> Result<Vec<Row>, AllocError> {
+    let mut rows = Vec::new(alloc);
+    for b in 0..MANY {
+        let put = Step::SettlePut(0, buffer(alloc, b)?);
+        let granted = granted(b, 1, 510 - b);
+        rows.push((0, LOOK, seen(b)))?;
+        rows.push((0, ROOM, seen(0)))?;
+        rows.push((0, reserve(Side::Put, How::Bulk, 1), granted))?;
+        rows.push((0, put, done(1)))?;
+    }
+    Ok(rows)
+}
+
+/// One list has as many replies as steps, however long it is.
+#[test]
+fn hundreds_of_steps_go_in_one_list(rt: HostRuntime) -> Result<(), Fail> {
+    let (mut world, _) = open_many(rt.alloc())?;
+    let mut rows = put_each(rt.alloc())?;
+    let right = go_in_one_list(rt.alloc(), &mut world, &mut rows);
+    assert!(rt; right?);
+    Ok(())
 }

@@ -92,7 +92,8 @@ pub fn granted(start: u64, count: u64, left: u64) -> Told {
     ("granted", [start, count, left])
 }
 
-fn buffer(alloc: Global, b: u64) -> Result<Items, AllocError> {
+/// A buffer as the one item of a list.
+pub fn buffer(alloc: Global, b: u64) -> Result<Items, AllocError> {
     let mut numbers = Vec::new(alloc);
     numbers.push(b)?;
     let mut items = Vec::new(alloc);
@@ -180,7 +181,11 @@ fn are_told(replies: &[Reply], rows: &[Row]) -> bool {
 
 /// Makes the steps of rows in one list: whether what is told of each is what is due, and an actor that there isn't is
 /// none of the world's.
-fn go_in_one_list(alloc: Global, world: &mut World, rows: &mut [Row]) -> Result<bool, AllocError> {
+pub fn go_in_one_list(
+    alloc: Global,
+    world: &mut World,
+    rows: &mut [Row],
+) -> Result<bool, AllocError> {
     let unknown = entries_of(alloc, &mut [(2, LOOK, UNKNOWN)])?;
     let refused = !world.knows_all(&unknown);
     let entries = entries_of(alloc, rows)?;
@@ -345,9 +350,12 @@ fn put_twice(world: &mut World, twice: Items) -> Result<usize, AllocError> {
     go(world, &mut rows)
 }
 
-/// Looks, reserves, a put that is settled, one that is refused, a stash and its end, and places: whether what is told
-/// is what is due.
+/// Lists that are known and unknown, looks, reserves, a put that is settled, one that is refused, a stash and its end,
+/// and places: whether what is told is what is due.
 fn goes_on(world: &mut World, item: Items, twice: Items) -> Result<bool, AllocError> {
+    let known = [(0, LOOK), (1, ROOM)];
+    let unknown = [(0, LOOK), (2, LOOK)];
+    let knows = [world.knows_all(&known), world.knows_all(&unknown)];
     let stashed = step(world, 0, Step::Stash(1));
     let cached = world.place(1);
     let put = put_one(world, item);
@@ -360,7 +368,7 @@ fn goes_on(world: &mut World, item: Items, twice: Items) -> Result<bool, AllocEr
         Place::Nowhere,
     ];
     let steps = (stashed?, put?, again?);
-    Ok(steps == (seen(1), 8, 4) && places == wanted)
+    Ok(steps == (seen(1), 8, 4) && places == wanted && knows == [true, false])
 }
 
 /// Every request for memory after `World::new` is refused.

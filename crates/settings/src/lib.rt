@@ -1,5 +1,5 @@
 //! Settings of a forwarding run, read from a TOML document: what a document says is `settings_of` of its tree, a
-//! definition in `specs/Settings.antt`, and a document that says nothing lawful is refused by its first fault.
+//! definition in `specs/Settings.antt`, and a document that says no settings is refused by its first fault.
 #![tactic(auto)]
 
 mod fault;

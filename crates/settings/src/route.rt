@@ -22,7 +22,7 @@ pub struct Route {
 /// The route that a table is, to one of so many ports, if nothing of it is missing or wrong.
 pub fn read_route(alloc: Global, ports: u32, table: &Table) -> Result<Option<Route>, AllocError>
     ensures value { IfOk result (λ route. route ≡ route_of ports (table_view table.now)) }
-    ensures lawful { IfOk result (λ route. IfSome route (λ r. IsDepth r.depth)) }
+    ensures depth { IfOk result (λ route. IfSome route (λ r. IsDepth r.depth)) }
 {
     let Some(text) = text_at(table, "prefix") else {
         return Ok(None);

@@ -141,6 +141,7 @@ pub(crate) fn drain<J: Run, W: Write + Drop, T: Wait>(
         }
         backoff.reset();
         let (marks, found) = accept_all(rt, station, sink, &mut items, room, &mut free);
+        // a worker passes one mark on; that no more come than there are workers is said by no clause
         left = left.saturating_sub(marks);
         let given = give_back(rt, station, &mut free);
         if told.is_ok() {

@@ -1,11 +1,11 @@
 //! The place of a thread of a run at the rings: its hand, with a cache of segments that no packet uses.
-ghost use Rattle.std.specs.Prelude.{◌≡◌, ◌<◌, ◌≤◌, ◌↔◌, ℕ, [], length, None, Some, IfOk};
+ghost use Rattle.std.specs.Prelude.{◌≡◌, ◌<◌, ◌≤◌, ◌↔◌, ℕ, [], length, None, Some, IfOk, IfErr};
 ghost use Rattle.std.specs.List.{flat_map};
 ghost use Rattle.burst.specs.Numbers.{AreDistinct};
 ghost use Rattle.fabric.specs.Hands.{IsHandOf, rings_of};
 ghost use Rattle.pool.specs.Locals.{IsLocalOf};
 ghost use Rattle.stages.specs.Passing.{AreRings};
-ghost use Rattle.stages.specs.Stations.{IsOf};
+ghost use Rattle.stages.specs.Stations.{GivesUp, IsOf, KeepsBack, TakesNone};
 
 use crate::fault::RingFault;
 use crate::rings::FREE;
@@ -93,6 +93,8 @@ impl<'f, T: Tagged> Station<'f, T> {
     pub(crate) fn put<R: Wait>(&mut self, rt: &R, list: &mut Burst<T, 256>) -> Result<(), RingFault>
         requires few { length list.old ≤ 64 }
         ensures left { IfOk result (λ _. list.new ≡ []) }
+        ensures told { IfErr result (λ e. KeepsBack T.numbers self.new.fabric.now self.old.local self.new.local list.old
+            list.new e) }
     {
         match self.local.put_from(rt, self.fabric, list) {
             Ok(()) => Ok(()),
@@ -109,6 +111,7 @@ impl<'f, T: Tagged> Station<'f, T> {
     ) -> Result<(), RingFault>
         requires ring { ring < 3 }
         ensures left { IfOk result (λ _. list.new ≡ []) }
+        ensures told { IfErr result (λ e. GivesUp T.numbers self.new.fabric.now ring self.new.local list.new e) }
     {
         let backoff = Backoff::new();
         for _ in rt.forever() {
@@ -136,6 +139,8 @@ impl<'f, T: Tagged> Station<'f, T> {
     ) -> Result<(), RingFault>
         requires ring { ring < 3 }
         requires empty { into.old ≡ [] }
+        ensures told { IfErr result (λ e. TakesNone T.numbers self.new.fabric.now ring n self.old.local self.new.local
+            into.new e) }
     {
         match self.local.receive_into(rt, self.fabric, ring, n, into) {
             Err(StartFault::Worn) => Err(RingFault::Worn),

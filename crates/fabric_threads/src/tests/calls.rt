@@ -1,19 +1,22 @@
 //! Each call of a fabric and of whole calls once, and each refusal that one thread can meet, with each word, number and
 //! item named; also while every request for memory is refused. There are four buffers, all on the free ring as a test
 //! begins, and rings with room for four items. `Contended` is met by threads alone, `Worn` by no test.
-ghost use Rattle.std.specs.Prelude.{◌<◌, length, IfOk};
-ghost use Rattle.fabric.specs.Hands.{IsHandOf, rings_of};
+ghost use Rattle.std.specs.Prelude.{◌≡◌, ◌<◌, length, IfOk};
+ghost use Rattle.fabric.specs.Hands.{IsHandOf, put_fabric, rings_of, take_fabric};
 
 use super::Ticket;
 use super::rings::{
     FIRST, Items, Layout, MOST, POOL, Rings, Wrong, get, opened, shows, split, stock,
 };
 use super::rows::find_none;
-use super::spans::{open_put, open_take, refused_put, refused_settle, refused_take, settled, word};
+use super::spans::{
+    open_put, open_take, refused_put, refused_settle, refused_take, refused_taking, settled,
+    settled_take, word,
+};
 use super::ways::{by_cache, by_calls, by_peeks};
 use burst::Burst;
 use exhaust::take_all;
-use fabric::{Hand, Opened, SettleFault, StartFault};
+use fabric::{Hand, Opened, PutOpen, SettleFault, StartFault, TakeOpen};
 use geom::{How, Mode, Side};
 use std::alloc::Global;
 use std::sync::Wait;
@@ -35,11 +38,16 @@ fn tells_its_plan(f: &Rings, modes: (Mode, Mode)) -> Result<(), Wrong>
     Ok(())
 }
 
-/// Takes two of three items that were reserved on the free ring: by a head/tail-sync side alone.
-fn take_two(f: &Rings, hand: Hand<Ticket>) -> Result<(Hand<Ticket>, Items), Wrong>
+/// Whether a hand has the buffers 0 and 1 alone.
+fn has_two(hand: &Hand<Ticket>) -> bool {
+    hand.owns(0) && hand.owns(1) && !hand.owns(2) && !hand.owns(4)
+}
+
+/// Reserves three items of the free ring.
+fn reserve_three<'f>(f: &'f Rings, hand: Hand<Ticket>) -> Result<TakeOpen<'f, Ticket, MOST>, Wrong>
     requires hand { IsHandOf f.now hand }
     requires rings { 2 < length (rings_of f.now) }
-    ensures { IfOk result (λ r. IsHandOf f.now r.0) }
+    ensures { IfOk result (λ o. take_fabric o.span ≡ f.now) }
 {
     let Ok(open) = f.try_start_take(hand, POOL, 3, How::Bulk) else {
         return Err(Wrong("a take isn't started"));
@@ -47,7 +55,16 @@ fn take_two(f: &Rings, hand: Hand<Ticket>) -> Result<(Hand<Ticket>, Items), Wron
     if (open.start(), open.count(), open.left()) != (0, 3, 1) || !shows(open.items(), &[0, 1, 2]) {
         return Err(Wrong("a take lies elsewhere"));
     }
-    let Err((open, fault)) = open.try_settle(4) else {
+    Ok(open)
+}
+
+/// Takes two of three items that were reserved on the free ring: by a head/tail-sync side alone.
+fn take_two(f: &Rings, hand: Hand<Ticket>) -> Result<(Hand<Ticket>, Items), Wrong>
+    requires hand { IsHandOf f.now hand }
+    requires rings { 2 < length (rings_of f.now) }
+    ensures { IfOk result (λ r. IsHandOf f.now r.0) }
+{
+    let Err((open, fault)) = reserve_three(f, hand)?.try_settle(4) else {
         return Err(Wrong("a take of more items than were reserved"));
     };
     if fault != SettleFault::BadCount {
@@ -56,7 +73,7 @@ fn take_two(f: &Rings, hand: Hand<Ticket>) -> Result<(Hand<Ticket>, Items), Wron
     let Ok((hand, list)) = open.try_settle(2) else {
         return Err(Wrong("a take isn't settled"));
     };
-    if !shows(&list, &[0, 1]) || !hand.owns(0) || !hand.owns(1) || hand.owns(2) || hand.owns(4) {
+    if !shows(&list, &[0, 1]) || !has_two(&hand) {
         return Err(Wrong("a hand has other buffers"));
     }
     Ok((hand, list))
@@ -82,19 +99,34 @@ fn busy_take(f: &Rings, hand: Hand<Ticket>, other: Hand<Ticket>) -> Result<Hand<
     requires rings { 2 < length (rings_of f.now) }
     ensures { IfOk result (λ h. IsHandOf f.now h) }
 {
-    let (span, mut list) = open_take(f, other, 1, (0, 1))?;
-    let Ok(other) = span.try_settle_into(1, &mut list) else {
-        return Err(Wrong("a take isn't settled"));
-    };
-    let (span, mut more) = open_take(f, other, 1, (1, 0))?;
+    let (span, list) = open_take(f, other, 1, (0, 1))?;
+    let other = settled_take(f, span, list, &[0])?;
+    let (span, none) = open_take(f, other, 1, (1, 0))?;
     let hand = refused_take(f, hand, FIRST, 1, StartFault::Busy(word(1, 1)))?;
-    let Ok(other) = span.try_settle_into(0, &mut more) else {
-        return Err(Wrong("a take isn't given up"));
-    };
-    if !shows(&list, &[0]) || !more.is_empty() || !other.owns(0) || other.owns(1) {
+    let other = settled_take(f, span, none, &[])?;
+    if !other.owns(0) || other.owns(1) {
         return Err(Wrong("a take gives other items"));
     }
     Ok(hand.join(f, other))
+}
+
+/// Takes two items from the free ring and puts them, once a put was given up.
+fn put_two(f: &Rings, hand: Hand<Ticket>) -> Result<Hand<Ticket>, Wrong>
+    requires hand { IsHandOf f.now hand }
+    requires rings { 2 < length (rings_of f.now) }
+    ensures { IfOk result (λ h. IsHandOf f.now h) }
+{
+    let (hand, list) = take_two(f, hand)?;
+    let span = open_put(f, hand, 1, (0, 3))?;
+    let (span, list) = refused_settle(f, span, list, SettleFault::BadCount)?;
+    let hand = settled(f, span, Burst::new())?;
+    let Ok(hand) = open_put(f, hand, 2, (0, 2))?.try_settle(list) else {
+        return Err(Wrong("a put isn't settled"));
+    };
+    if hand.owns(0) || hand.owns(1) {
+        return Err(Wrong("a hand keeps what it put"));
+    }
+    Ok(hand)
 }
 
 /// A round on rings whose sides are head/tail sync. Item 1 is left on the ring, 0 is taken, 2 and 3 stay on the free
@@ -111,17 +143,7 @@ fn synced(
     requires rings { 2 < length (rings_of f.now) }
     ensures { IfOk result (λ h. IsHandOf f.now h) }
 {
-    let (hand, list) = take_two(f, hand)?;
-    let span = open_put(f, hand, 1, (0, 3))?;
-    let (span, list) = refused_settle(f, span, list, SettleFault::BadCount)?;
-    let hand = settled(f, span, Burst::new())?;
-    let span = open_put(f, hand, 2, (0, 2))?;
-    let Ok(hand) = span.try_settle(list) else {
-        return Err(Wrong("a put isn't settled"));
-    };
-    if hand.owns(0) || hand.owns(1) {
-        return Err(Wrong("a hand keeps what it put"));
-    }
+    let hand = put_two(f, hand)?;
     let hand = refused_put(f, hand, FIRST, 3, StartFault::NoRoom(2))?;
     let hand = refused_take(f, hand, FIRST, 3, StartFault::NoRoom(2))?;
     let hand = busy_put(f, hand, a)?;
@@ -142,6 +164,60 @@ fn bad_counts(f: &Rings, hand: Hand<Ticket>) -> Result<Hand<Ticket>, Wrong>
     refused_take(f, hand, FIRST, MOST + 1, StartFault::BadCount)
 }
 
+/// Takes items from the free ring, and starts to put as many, which has to lie at these positions.
+fn begun<'f>(
+    f: &'f Rings,
+    hand: Hand<Ticket>,
+    n: usize,
+    at: (u64, u64),
+) -> Result<(PutOpen<'f, Ticket, MOST>, Items), Wrong>
+    requires hand { IsHandOf f.now hand }
+    requires rings { 2 < length (rings_of f.now) }
+    ensures { IfOk result (λ o. put_fabric o.0 ≡ f.now) }
+{
+    let (hand, list) = get(f, hand, POOL, n)?;
+    let span = open_put(f, hand, n, at)?;
+    Ok((span, list))
+}
+
+/// Settles the later two of three puts: the third one's settle comes too early before the second is settled.
+fn settle_later(
+    f: &Rings,
+    second: (PutOpen<'_, Ticket, MOST>, Items),
+    third: (PutOpen<'_, Ticket, MOST>, Items),
+) -> Result<(Hand<Ticket>, Hand<Ticket>), Wrong>
+    requires second { put_fabric second.0 ≡ f.now }
+    requires third { put_fabric third.0 ≡ f.now }
+    ensures { IfOk result (λ h. IsHandOf f.now h.0 × IsHandOf f.now h.1) }
+{
+    let (third, list) = refused_settle(f, third.0, third.1, SettleFault::NotYet(2))?;
+    let a = settled(f, second.0, second.1)?;
+    Ok((a, settled(f, third, list)?))
+}
+
+/// A settle of the first two of three puts with a list of another length or with another hand's item, which comes back.
+fn refuse_lists<'f>(
+    f: &Rings,
+    first: PutOpen<'f, Ticket, MOST>,
+    second: PutOpen<'f, Ticket, MOST>,
+    one: Items,
+    other: Items,
+) -> Result<
+    (
+        (PutOpen<'f, Ticket, MOST>, PutOpen<'f, Ticket, MOST>),
+        (Items, Items),
+    ),
+    Wrong,
+>
+    requires first { put_fabric first ≡ f.now }
+    requires second { put_fabric second ≡ f.now }
+    ensures { IfOk result (λ r. (put_fabric r.0.0 ≡ f.now) × (put_fabric r.0.1 ≡ f.now)) }
+{
+    let (first, one) = refused_settle(f, first, one, SettleFault::BadCount)?;
+    let (second, other) = refused_settle(f, second, other, SettleFault::NotYours)?;
+    Ok(((first, second), (one, other)))
+}
+
 /// Puts behind one another on a multi side: each later settle comes too early, with the tail found, until the earlier
 /// ones are settled.
 fn puts_in_turn(
@@ -156,19 +232,14 @@ fn puts_in_turn(
     requires rings { 2 < length (rings_of f.now) }
     ensures { IfOk result (λ h. IsHandOf f.now h.0 × IsHandOf f.now h.1) }
 {
-    let (hand, two) = get(f, hand, POOL, 2)?;
-    let (a, one) = get(f, a, POOL, 1)?;
-    let (b, other) = get(f, b, POOL, 1)?;
-    let first = open_put(f, hand, 2, (0, 2))?;
-    let second = open_put(f, a, 1, (2, 1))?;
-    let third = open_put(f, b, 1, (3, 0))?;
-    let (first, one) = refused_settle(f, first, one, SettleFault::BadCount)?;
-    let (second, other) = refused_settle(f, second, other, SettleFault::NotYours)?;
+    let (first, two) = begun(f, hand, 2, (0, 2))?;
+    let (second, one) = begun(f, a, 1, (2, 1))?;
+    let (third, other) = begun(f, b, 1, (3, 0))?;
+    let ((first, second), (one, other)) = refuse_lists(f, first, second, one, other)?;
     let (second, one) = refused_settle(f, second, one, SettleFault::NotYet(0))?;
     let hand = settled(f, first, two)?;
-    let (third, other) = refused_settle(f, third, other, SettleFault::NotYet(2))?;
-    let a = settled(f, second, one)?;
-    Ok((hand.join(f, a), settled(f, third, other)?))
+    let (a, b) = settle_later(f, (second, one), (third, other))?;
+    Ok((hand.join(f, a), b))
 }
 
 /// Takes behind one another on a multi side, the same.
@@ -178,24 +249,12 @@ fn takes_in_turn(f: &Rings, hand: Hand<Ticket>, b: Hand<Ticket>) -> Result<Hand<
     requires rings { 2 < length (rings_of f.now) }
     ensures { IfOk result (λ h. IsHandOf f.now h) }
 {
-    let (first, mut three) = open_take(f, hand, 3, (0, 1))?;
-    let (second, mut one) = open_take(f, b, 1, (3, 0))?;
-    let Err((first, SettleFault::BadCount)) = first.try_settle_into(2, &mut three) else {
-        return Err(Wrong("a take of fewer items than were reserved"));
-    };
-    let Err((second, SettleFault::NotYet(0))) = second.try_settle_into(1, &mut one) else {
-        return Err(Wrong("a take is settled too early"));
-    };
-    let Ok(hand) = first.try_settle_into(3, &mut three) else {
-        return Err(Wrong("a take isn't settled"));
-    };
-    let Ok(b) = second.try_settle_into(1, &mut one) else {
-        return Err(Wrong("a later take isn't settled"));
-    };
-    if !shows(&three, &[0, 1, 2]) || !shows(&one, &[3]) {
-        return Err(Wrong("takes give other items"));
-    }
-    Ok(hand.join(f, b))
+    let (first, three) = open_take(f, hand, 3, (0, 1))?;
+    let (second, one) = open_take(f, b, 1, (3, 0))?;
+    let (first, three) = refused_taking(f, first, three, 2, SettleFault::BadCount)?;
+    let (second, one) = refused_taking(f, second, one, 1, SettleFault::NotYet(0))?;
+    let hand = settled_take(f, first, three, &[0, 1, 2])?;
+    Ok(hand.join(f, settled_take(f, second, one, &[3])?))
 }
 
 /// A round on rings whose sides are multi. All items are taken at its end.
@@ -231,6 +290,7 @@ fn round<R: Wait>(
     ensures { IfOk result (λ h. IsHandOf f.now h) }
 {
     let (hand, (a, b)) = hands;
+    let hand = f.learn(hand);
     if buffers > FEW {
         let hand = by_calls(rt, f, hand.join(f, a))?;
         let hand = by_cache(rt, f, hand, 2)?;
@@ -243,7 +303,7 @@ fn round<R: Wait>(
 }
 
 /// Puts the tickets on the free ring, makes three hands, and goes a round with them; with all memory taken, where it
-/// is to starve.
+/// is to starve, which it answers beside the hand.
 fn acts<R: Wait>(
     rt: &R,
     alloc: Global,
@@ -251,12 +311,11 @@ fn acts<R: Wait>(
     opened: (Hand<Ticket>, Vec<Ticket>),
     layout: Layout,
     starves: bool,
-) -> Result<Hand<Ticket>, Wrong>
+) -> Result<(Hand<Ticket>, Vec<Vec<u8>>), Wrong>
     requires hand { IsHandOf f.now opened.0 }
     requires rings { 2 < length (rings_of f.now) }
-    ensures { IfOk result (λ h. IsHandOf f.now h) }
+    ensures { IfOk result (λ r. IsHandOf f.now r.0) }
 {
-    tells_its_plan(f, layout.modes)?;
     let hand = stock(f, opened.0, opened.1, false)?;
     let (hand, more) = split(f, alloc, hand)?;
     let hands = (hand, split(f, alloc, more)?);
@@ -265,12 +324,27 @@ fn acts<R: Wait>(
     } else {
         Vec::new(alloc)
     };
+    tells_its_plan(f, layout.modes)?;
     let hand = round(rt, f, hands, layout.modes, layout.buffers)?;
-    drop(held);
     if !hand.whole() {
         return Err(Wrong("a hand is missing"));
     }
-    Ok(hand)
+    Ok((hand, held))
+}
+
+/// Whether a round leaves an item on the free ring, and which one is the next on the first ring.
+fn left_of(modes: (Mode, Mode), buffers: u32) -> (bool, Option<u32>) {
+    match modes.0 {
+        _ if buffers > FEW => (true, None),
+        Mode::Multi => (false, None),
+        Mode::Hts => (true, Some(1)),
+    }
+}
+
+/// The number of an item, where there is one.
+fn number_of(item: Option<Ticket>) -> Option<u32> {
+    let ticket = item?;
+    Some(*ticket.number)
 }
 
 /// All memory that there is.
@@ -300,9 +374,15 @@ fn run_round<R: Wait>(
         items,
     } = opened(alloc, layout)?;
     match acts(rt, alloc, &fabric, (hand, items), layout, starves) {
-        Ok(hand) => {
-            let _closed = fabric.close(hand);
-            Ok(())
+        Ok((hand, held)) => {
+            let mut closed = fabric.close(hand);
+            let left = (closed.next(POOL).is_some(), number_of(closed.next(FIRST)));
+            drop(held);
+            if left == left_of(modes, buffers) {
+                Ok(())
+            } else {
+                Err("other items are left".into())
+            }
         }
         Err(Wrong(text)) => Err(text.into()),
     }

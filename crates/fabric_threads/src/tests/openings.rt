@@ -1,11 +1,10 @@
-//! What makes no fabric and no second hand: each plan and each list of items that is refused, a hand with one part, and
-//! want of memory, piece by piece. The items come back, in order.
+//! What makes no fabric and no second hand: each plan and each list of items that is refused, and a hand with one part.
+//! The items come back, in order.
 ghost use Rattle.std.specs.Prelude.{◌<◌, length};
 ghost use Rattle.fabric.specs.Hands.{IsHandOf, rings_of};
 
 use super::Ticket;
 use super::rings::{Layout, Rings, Wrong, opened};
-use exhaust::take_all;
 use fabric::{Fabric, Hand, OpenFault, Opened, SplitFault};
 use geom::{Geometry, Mode, RingPlan};
 use std::alloc::Global;
@@ -138,58 +137,5 @@ fn a_hand_is_split_63_times(rt: HostRuntime) -> Result<(), Fail> {
         Ok(count) => assert_eq!(rt; count, 63),
         Err(Wrong(text)) => return Err(text.into()),
     }
-    Ok(())
-}
-
-/// Makes a fabric with ever more memory, a piece given back each time, until it is made: how often want of memory was
-/// told by `new`.
-fn opened_at_last(alloc: Global, held: &mut Vec<Vec<u8>>) -> Option<u32> {
-    let mut refused = 0u32;
-    for _ in 0..held.len() {
-        match refusal::<4>(alloc, (3, 2), 3, &[2, 0, 1]) {
-            Some(0) => return Some(refused),
-            Some(1) => refused = refused.saturating_add(1),
-            Some(_) => return None,
-            None => (),
-        }
-        held.pop();
-    }
-    None
-}
-
-/// Splits a hand with ever more memory, the same.
-fn split_at_last(
-    f: &Rings,
-    alloc: Global,
-    mut hand: Hand<Ticket>,
-    held: &mut Vec<Vec<u8>>,
-) -> Option<u32>
-    requires hand { IsHandOf f.now hand }
-{
-    let mut refused = 0u32;
-    for _ in 0..held.len() {
-        match hand.split(alloc, f) {
-            Ok(_) => return Some(refused),
-            Err((back, SplitFault::Memory)) => hand = back,
-            Err(_) => return None,
-        }
-        refused = refused.saturating_add(1);
-        held.pop();
-    }
-    None
-}
-
-#[test]
-fn want_of_memory_is_told(rt: HostRuntime) -> Result<(), Fail> {
-    let alloc = rt.alloc();
-    let Opened { fabric, hand, .. } = opened(alloc, SMALL)?;
-    let mut held = take_all(alloc)?.ok_or("memory can't be used up in this build")?;
-    let split = split_at_last(&fabric, alloc, hand, &mut held);
-    let opened = opened_at_last(alloc, &mut held);
-    drop(held);
-    assert_eq!(rt;
-        (split.map(|count| count > 0), opened.map(|count| count > 0)),
-        (Some(true), Some(true))
-    );
     Ok(())
 }

@@ -1,23 +1,22 @@
 //! Small cases of two threads, each item and each refusal named. The buffers are 0, 1 and 2, and the ring has room for
 //! three items. The thread that comes first has 0 and 1, the other one 2.
 ghost use Rattle.std.specs.Prelude.{◌≡◌, ◌<◌, length, IfOk};
-ghost use Rattle.fabric.specs.Hands.{IsHandOf, put_fabric, rings_of, take_fabric};
+ghost use Rattle.fabric.specs.Hands.{IsHandOf, rings_of, take_fabric};
 
 use super::Ticket;
 use super::marks::Marks;
 use super::rings::{FIRST, Items, MOST, POOL, Rings, SECOND, Wrong, get, give, shows, split};
+use super::spans::{open_put, settled};
 use super::stopped::stop_in_turn;
+use super::tries::{MANY, published};
 use super::ways::{held, peeked};
 use burst::Burst;
-use fabric::{Hand, PutOpen, StartFault};
+use fabric::{Hand, StartFault};
 use geom::How;
 use ringapi::{Moved, PeekTake, PutAnswer, Refusal, TakeAnswer};
 use std::alloc::Global;
 use std::sync::Wait;
 use std::thread;
-
-/// How often a thread looks at a ring before it gives up.
-const TURNS: u64 = 1 << 40;
 
 /// How far two threads have come.
 const BEGUN: u64 = 1;
@@ -51,7 +50,7 @@ fn watch(f: &Rings, mut hand: Hand<Ticket>) -> Result<Hand<Ticket>, Wrong>
     requires rings { 2 < length (rings_of f.now) }
     ensures { IfOk result (λ h. IsHandOf f.now h) }
 {
-    for _ in 0..TURNS {
+    for _ in 0..MANY {
         let Err((back, fault)) = f.try_start_put(hand, FIRST, 2, How::Bulk) else {
             return Err(Wrong("there is room for two"));
         };
@@ -62,24 +61,6 @@ fn watch(f: &Rings, mut hand: Hand<Ticket>) -> Result<Hand<Ticket>, Wrong>
         thread::yield_now();
     }
     Err(Wrong("nobody reserves the last position"))
-}
-
-/// Settles a put that lies at the first two positions.
-fn settle_two<'f>(
-    f: &Rings,
-    span: PutOpen<'f, Ticket, MOST>,
-    list: Items,
-) -> Result<Hand<Ticket>, Wrong>
-    requires span { put_fabric span ≡ f.now }
-    ensures { IfOk result (λ h. IsHandOf f.now h) }
-{
-    if span.start() != 0 || span.count() != 2 || span.left() != 1 {
-        return Err(Wrong("a put lies elsewhere"));
-    }
-    match span.try_settle(list) {
-        Ok(hand) => Ok(hand),
-        Err(_) => Err(Wrong("a put isn't settled")),
-    }
 }
 
 /// Finds no item on a ring.
@@ -111,6 +92,25 @@ fn take_all(f: &Rings, hand: Hand<Ticket>, numbers: &[u32]) -> Result<Hand<Ticke
     }
 }
 
+/// Sees the other thread reserve the third position, and tells it that the first two are about to be settled.
+fn see_later(
+    f: &Rings,
+    hand: Hand<Ticket>,
+    marks: &Marks,
+    waits: bool,
+) -> Result<Hand<Ticket>, Wrong>
+    requires hand { IsHandOf f.now hand }
+    requires rings { 2 < length (rings_of f.now) }
+    ensures { IfOk result (λ h. IsHandOf f.now h) }
+{
+    let hand = if waits { watch(f, hand)? } else { hand };
+    if !waits {
+        marks.wait_for(MET)?;
+    }
+    marks.reach(ENDING);
+    Ok(hand)
+}
+
 /// Reserves the first two positions, and settles them once the other thread has reserved the third; then takes all.
 fn put_earlier(
     f: &Rings,
@@ -125,18 +125,12 @@ fn put_earlier(
     ensures { IfOk result (λ h. IsHandOf f.now h) }
 {
     let (hand, other) = split(f, alloc, hand)?;
-    let Ok(span) = f.try_start_put(hand, FIRST, 2, How::Bulk) else {
-        return Err(Wrong("a put isn't started"));
-    };
+    let span = open_put(f, hand, 2, (0, 1))?;
     marks.reach(BEGUN);
-    let other = if waits { watch(f, other)? } else { other };
-    if !waits {
-        marks.wait_for(MET)?;
-    }
-    marks.reach(ENDING);
-    let hand = settle_two(f, span, list)?;
+    let other = see_later(f, other, marks, waits)?;
+    let hand = settled(f, span, list)?.join(f, other);
     marks.wait_for(ENDED)?;
-    Ok(take_all(f, hand, &[0, 1, 2])?.join(f, other))
+    take_all(f, hand, &[0, 1, 2])
 }
 
 /// Puts behind the first two positions, by a try call: its settle comes too early, until the other one is settled.
@@ -150,7 +144,8 @@ fn put_later(
     requires rings { 2 < length (rings_of f.now) }
     ensures { IfOk result (λ h. IsHandOf f.now h) }
 {
-    let (answer, list) = ringapi::try_put_bulk(f, hand, FIRST, list);
+    let mut turns = MANY;
+    let (answer, mut list) = ringapi::try_put_bulk(f, hand, FIRST, list);
     let PutAnswer::Open(span, tail) = answer else {
         return Err(Wrong("a put is done too early"));
     };
@@ -159,26 +154,10 @@ fn put_later(
         return Err(Wrong("an open put lies elsewhere"));
     }
     marks.wait_for(ENDING)?;
-    settle_at_last(f, span, list)
-}
-
-/// Settles a put as soon as those before it are settled.
-fn settle_at_last<'f>(
-    f: &Rings,
-    mut span: PutOpen<'f, Ticket, MOST>,
-    mut list: Items,
-) -> Result<Hand<Ticket>, Wrong>
-    requires span { put_fabric span ≡ f.now }
-    ensures { IfOk result (λ h. IsHandOf f.now h) }
-{
-    for _ in 0..TURNS {
-        match span.try_settle_from(&mut list) {
-            Ok(hand) => return Ok(hand),
-            Err((same, _)) => span = same,
-        }
-        thread::yield_now();
+    match published(f, span, &mut list, &mut turns) {
+        Some(hand) => Ok(hand),
+        None => Err(Wrong("a put isn't settled")),
     }
-    Err(Wrong("a put isn't settled"))
 }
 
 /// The same by a call that waits: it doesn't come back before the other one is settled.

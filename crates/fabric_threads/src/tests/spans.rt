@@ -3,7 +3,7 @@ ghost use Rattle.std.specs.Prelude.{◌≡◌, ◌<◌, length, IfOk};
 ghost use Rattle.fabric.specs.Hands.{IsHandOf, put_fabric, rings_of, take_fabric, take_view};
 
 use super::Ticket;
-use super::rings::{FIRST, Items, MOST, Rings, Wrong};
+use super::rings::{FIRST, Items, MOST, Rings, Wrong, shows};
 use burst::Burst;
 use fabric::{Hand, PutOpen, SettleFault, StartFault, TakeSpan};
 use geom::{How, RESERVED};
@@ -128,5 +128,43 @@ pub(super) fn settled<'f>(
     match span.try_settle_from(&mut list) {
         Ok(hand) if list.is_empty() => Ok(hand),
         _ => Err(Wrong("a put isn't settled")),
+    }
+}
+
+/// A settle of a take that is refused for this reason: the span comes back, and the list as it was.
+pub(super) fn refused_taking<'f>(
+    f: &Rings,
+    span: TakeSpan<'f, Ticket, MOST>,
+    mut list: Items,
+    n: usize,
+    why: SettleFault,
+) -> Result<(TakeSpan<'f, Ticket, MOST>, Items), Wrong>
+    requires span { take_fabric span ≡ f.now }
+    requires shows { list ≡ (take_view span).shown }
+    ensures { IfOk result (λ o. (take_fabric o.0 ≡ f.now) × (o.1 ≡ (take_view o.0).shown)) }
+{
+    let Err((span, fault)) = span.try_settle_into(n, &mut list) else {
+        return Err(Wrong("a take is settled"));
+    };
+    if fault != why {
+        return Err(Wrong("a settle is refused for another reason"));
+    }
+    Ok((span, list))
+}
+
+/// Settles a take with the first items, which have to be of these numbers.
+pub(super) fn settled_take<'f>(
+    f: &Rings,
+    span: TakeSpan<'f, Ticket, MOST>,
+    mut list: Items,
+    numbers: &[u32],
+) -> Result<Hand<Ticket>, Wrong>
+    requires span { take_fabric span ≡ f.now }
+    requires shows { list ≡ (take_view span).shown }
+    ensures { IfOk result (λ h. IsHandOf f.now h) }
+{
+    match span.try_settle_into(numbers.len(), &mut list) {
+        Ok(hand) if shows(&list, numbers) => Ok(hand),
+        _ => Err(Wrong("a take isn't settled, or gives other items")),
     }
 }

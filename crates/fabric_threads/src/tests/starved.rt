@@ -61,32 +61,44 @@ fn numbers(alloc: Global, buffers: u32) -> Result<Vec<u32>, AllocError> {
     Ok(all)
 }
 
-/// Whether `new` tells want of memory where there are just so many of its pieces. Its items come back then, in order,
-/// and a fabric is made of them once there is memory.
-fn is_refused(alloc: Global, case: &Case, served: usize) -> Result<bool, Wrong> {
-    let wrong = Wrong("no memory before it is taken");
-    let all = numbers(alloc, case.buffers).or(Err(wrong))?;
-    let items = tickets(alloc, &all).ok_or(wrong)?;
-    let room = u64::from(case.buffers);
-    let rings = plans(alloc, room, 2).ok_or(wrong)?;
-    let again = plans(alloc, room, 2).ok_or(wrong)?;
-    let mut pieces = set_aside(alloc, case.pieces).or(Err(wrong))?;
+/// What was told where there is no memory before all of it is taken, or after it was given back.
+const SCARCE: Wrong = Wrong("no memory before it is taken");
+
+/// The items that come back from `new`, where there are just so many of its pieces; none where a fabric is made.
+fn refused_items(
+    alloc: Global,
+    case: &Case,
+    served: usize,
+    all: &[u32],
+) -> Result<Option<Vec<Ticket>>, Wrong> {
+    let items = tickets(alloc, all).ok_or(SCARCE)?;
+    let rings = plans(alloc, u64::from(case.buffers), 2).ok_or(SCARCE)?;
+    let mut pieces = set_aside(alloc, case.pieces).or(Err(SCARCE))?;
     let held = taken(alloc)?;
     for _ in 0..served {
         pieces.pop();
     }
-    let first = Fabric::<Ticket, 4>::new(alloc, rings, case.buffers, items);
+    let made = Fabric::<Ticket, 4>::new(alloc, rings, case.buffers, items);
     drop(held);
-    let Err(refused) = first else {
+    match made {
+        Ok(_) => Ok(None),
+        Err(OpenFault::Memory(items)) => Ok(Some(items)),
+        Err(_) => Err(Wrong("a fabric is refused for another reason")),
+    }
+}
+
+/// Whether `new` tells want of memory where there are just so many of its pieces. Its items come back then, in order,
+/// and a fabric is made of them once there is memory.
+fn is_refused(alloc: Global, case: &Case, served: usize) -> Result<bool, Wrong> {
+    let all = numbers(alloc, case.buffers).or(Err(SCARCE))?;
+    let Some(items) = refused_items(alloc, case, served, &all)? else {
         return Ok(false);
-    };
-    let OpenFault::Memory(items) = refused else {
-        return Err(Wrong("a fabric is refused for another reason"));
     };
     if !are(&items, &all) {
         return Err(Wrong("other items come back"));
     }
-    let Ok(opened) = Fabric::<Ticket, 4>::new(alloc, again, case.buffers, items) else {
+    let rings = plans(alloc, u64::from(case.buffers), 2).ok_or(SCARCE)?;
+    let Ok(opened) = Fabric::<Ticket, 4>::new(alloc, rings, case.buffers, items) else {
         return Err(Wrong("a fabric isn't made where there is memory"));
     };
     if !are(&opened.items, &all) {

@@ -47,7 +47,7 @@ fn taken<'f>(
 }
 
 /// Settles a put with all items.
-fn published<'f>(
+pub(super) fn published<'f>(
     f: &Rings,
     mut span: PutOpen<'f, Ticket, MOST>,
     list: &mut Items,

@@ -64,7 +64,7 @@ impl Levels {
 
     /// Overwrites the places of a prefix. Of a deep one, the entry has to have a group.
     pub fn overwrite(&mut self, prefix: Prefix, entry: PackedEntry)
-        requires lawful { IsDepth prefix.depth }
+        requires depth { IsDepth prefix.depth }
         requires masked { masked prefix.address prefix.depth ≡ prefix.address }
         requires plain { is_group entry ≡ false }
         requires grouped { self.old.bits < prefix.depth

@@ -47,7 +47,7 @@ impl Table {
 
     /// Adds a route that is no deeper than the first level.
     fn add_shallow(&mut self, addr: u32, depth: u8, hop: u32) -> Result<(), RouteFault>
-        requires lawful { IsDepth depth }
+        requires depth { IsDepth depth }
         requires hop { hop < 2 ^ 24 }
         requires shallow { depth ≤ self.old.bits }
         ensures ok { OnOk result (HasMembers self.old self.new (with_route self.old addr depth hop)) }
@@ -64,7 +64,7 @@ impl Table {
 
     /// Adds a route that is deeper than the first level, so that its first bits need a group.
     fn add_deep(&mut self, addr: u32, depth: u8, hop: u32) -> Result<(), RouteFault>
-        requires lawful { IsDepth depth }
+        requires depth { IsDepth depth }
         requires hop { hop < 2 ^ 24 }
         requires deep { self.old.bits < depth }
         ensures ok { OnOk result (HasMembers self.old self.new (with_route self.old addr depth hop)) }

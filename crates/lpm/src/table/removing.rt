@@ -37,7 +37,7 @@ impl Table {
 
     /// Removes a route that is no deeper than the first level.
     fn remove_shallow(&mut self, addr: u32, depth: u8) -> Result<(), RouteFault>
-        requires lawful { IsDepth depth }
+        requires depth { IsDepth depth }
         requires shallow { depth ≤ self.old.bits }
         ensures ok { OnOk result (HasMembers self.old self.new (without_route self.old addr depth)) }
         ensures was { OnOk result (HasRoute self.old addr depth) }
@@ -55,7 +55,7 @@ impl Table {
     /// Removes a route that is deeper than the first level. Its entry gives the group back where no other route needs
     /// it.
     fn remove_deep(&mut self, addr: u32, depth: u8) -> Result<(), RouteFault>
-        requires lawful { IsDepth depth }
+        requires depth { IsDepth depth }
         requires deep { self.old.bits < depth }
         ensures ok { OnOk result (HasMembers self.old self.new (without_route self.old addr depth)) }
         ensures was { OnOk result (HasRoute self.old addr depth) }

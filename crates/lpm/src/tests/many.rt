@@ -1,5 +1,6 @@
 //! Many routes and groups, each taken and looked up, and what is left where memory is refused.
 
+use crate::example::read;
 use crate::tests::at;
 use crate::tests::calls::{add, add_once, lookup, remove};
 use crate::{NextHop, RouteFault, Table};
@@ -33,7 +34,7 @@ fn add_many(rt: &impl Abort, table: &mut Table, base: u32, depth: u8, count: u32
     }
 }
 
-/// Looks an address up, alone and in a burst of its own.
+/// Looks an address up, alone, in a burst of its own and by the entries.
 fn look_up(rt: &impl Abort, table: &Table, addr: u32, expected: Option<u32>) {
     let mut hops = [NextHop::none(); BURST];
     table.lookup_bulk(&[addr; BURST], &mut hops);
@@ -43,6 +44,7 @@ fn look_up(rt: &impl Abort, table: &Table, addr: u32, expected: Option<u32>) {
         "a burst of {addr:08x}"
     );
     assert_eq!(rt; lookup(table, addr), expected, "{addr:08x}");
+    assert_eq!(rt; read(table, addr), expected, "entry of {addr:08x}");
 }
 
 /// Looks the routes up.

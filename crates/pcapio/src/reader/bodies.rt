@@ -2,7 +2,7 @@
 ghost use Rattle.std.specs.Prelude.{◌≡◌, ◌≤◌, length, ℕ, List, IfOk, IfErr, OnOk, OnErr, OnSome, IfSome, IfNone};
 ghost use Rattle.std.specs.Prelude.{IsSome, Some, None, Bool, true};
 ghost use Rattle.std.specs.Option.{ForSome};
-ghost use Rattle.mbuf.specs.Chain.{bytes_of, fresh_of, space_of};
+ghost use Rattle.mbuf.specs.Chain.{bytes_of, fresh_of, HasSameSegments, space_of};
 ghost use Rattle.pcapio.specs.Answer.{OnAll, OnCut};
 ghost use Rattle.pcapio.specs.Counted.{HasNotFailed};
 ghost use Rattle.pcapio.specs.Reader.{rest, stage_of, source_of, pending_of, IsReading, IsSameFile, Fails};
@@ -63,7 +63,7 @@ impl<R: Read> Reader<R> {
         ensures failed { OnErr result (Fails self.old self.new) }
 
         // The chain.
-        ensures kept { fresh_of chain.new ≡ fresh_of chain.old }
+        ensures kept { HasSameSegments chain.new chain.old }
         ensures fresh { OnCut result (chain.new ≡ fresh_of chain.old) }
         ensures reset { OnErr result (chain.new ≡ fresh_of chain.old) }
     {

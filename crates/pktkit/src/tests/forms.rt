@@ -1,173 +1,168 @@
-//! The forms of lines: ends of lines, blanks, comments, numbers and items.
+//! The forms of lines: ends of lines, blanks, comments, numbers and items; and files of many lines and items.
 
-use super::expect;
+use super::{expect, expect_steps};
+use std::alloc::{AllocError, Global};
 use std::test::Fail;
 
-#[test]
-fn ends_of_lines(rt: HostRuntime) -> Result<(), Fail> {
-    expect(
-        &rt,
-        b"ring power 4\r\ncount\r\n",
-        0,
-        "ring size 4 capacity 3\ncount 0 free 3\n",
-        "",
-    )?;
-    expect(
-        &rt,
-        b"ring power 4\ncount",
-        0,
-        "ring size 4 capacity 3\ncount 0 free 3\n",
-        "",
-    )?;
-    expect(&rt, b"ring power 4\r", 0, "ring size 4 capacity 3\n", "")?;
-    expect(
-        &rt,
-        b"count\n\n \t \n\r\ncount\n",
-        0,
-        "no ring\nno ring\n",
-        "",
-    )?;
-    // A second 0x0d belongs to a word.
-    expect(&rt, b"count\n\r\r\n", 1, "no ring\n", "pktkit: line 2\n")?;
-    expect(&rt, b"", 0, "", "")
-}
+/// A file, its replies, and the line that is at fault, where there is one.
+type Form = (&'static [u8], &'static str, &'static str);
 
-#[test]
-fn blanks_and_comments(rt: HostRuntime) -> Result<(), Fail> {
-    expect(
-        &rt,
-        b"\t ring \t power\t4  \n  # put\n#\xff\x00\n\tcount\n",
-        0,
+const FORMS: [Form; 22] = [
+    // Ends of lines.
+    (
+        b"ring power 4\r\ncount\r\n",
         "ring size 4 capacity 3\ncount 0 free 3\n",
         "",
-    )?;
+    ),
+    (
+        b"ring power 4\ncount",
+        "ring size 4 capacity 3\ncount 0 free 3\n",
+        "",
+    ),
+    (b"ring power 4\r", "ring size 4 capacity 3\n", ""),
+    (b"count\n\n \t \n\r\ncount\n", "no ring\nno ring\n", ""),
+    // A second 0x0d belongs to a word.
+    (b"count\n\r\r\n", "no ring\n", "pktkit: line 2\n"),
+    (b"", "", ""),
+    // Blanks and comments.
+    (
+        b"\t ring \t power\t4  \n  # put\n#\xff\x00\n\tcount\n",
+        "ring size 4 capacity 3\ncount 0 free 3\n",
+        "",
+    ),
     // '#' begins a comment as the first byte of a line's first word alone.
-    expect(
-        &rt,
+    (
         b"ring power 4\nput bulk #a b#\ntake burst 2\n",
-        0,
         "ring size 4 capacity 3\nput 2 left 1\ntake 2 left 0 #a b#\n",
         "",
-    )?;
-    expect(&rt, b"ring power 4 # four\n", 1, "", "pktkit: line 1\n")?;
+    ),
+    (b"ring power 4 # four\n", "", "pktkit: line 1\n"),
     // Vertical tab, form feed and bytes above 0x7f part no words.
-    expect(&rt, b"count\x0b\n", 1, "", "pktkit: line 1\n")?;
-    expect(
-        &rt,
-        b"count\n\xc2\xa0count\n",
-        1,
-        "no ring\n",
-        "pktkit: line 2\n",
-    )
-}
-
-#[test]
-fn numbers(rt: HostRuntime) -> Result<(), Fail> {
-    expect(
-        &rt,
+    (b"count\x0b\n", "", "pktkit: line 1\n"),
+    (b"count\n\xc2\xa0count\n", "no ring\n", "pktkit: line 2\n"),
+    // Numbers.
+    (
         b"ring power 00000000000000000008\n",
-        0,
         "ring size 8 capacity 7\n",
         "",
-    )?;
-    expect(
-        &rt,
+    ),
+    (
         b"ring power 000000000000000000008\n",
-        1,
         "",
         "pktkit: line 1\n",
-    )?;
-    expect(
-        &rt,
+    ),
+    (
         b"ring power 18446744073709551615\n",
-        0,
         "refused 3 TooLarge\n",
         "",
-    )?;
-    expect(
-        &rt,
-        b"ring power 18446744073709551616\n",
-        1,
-        "",
-        "pktkit: line 1\n",
-    )?;
-    expect(
-        &rt,
-        b"ring power 99999999999999999999\n",
-        1,
-        "",
-        "pktkit: line 1\n",
-    )?;
-    expect(
-        &rt,
+    ),
+    (b"ring power 18446744073709551616\n", "", "pktkit: line 1\n"),
+    (b"ring power 99999999999999999999\n", "", "pktkit: line 1\n"),
+    (
         b"ring exact 2\ntake burst 18446744073709551615\n",
-        0,
         "ring size 4 capacity 2\ntake 0 left 0\n",
         "",
-    )?;
-    for line in [
-        "ring power +8",
-        "ring power -8",
-        "ring power 0x8",
-        "ring power 8_0",
-        "ring power 8.",
-        "take bulk",
-        "take bulk 1 1",
-    ] {
-        expect(&rt, line.as_bytes(), 1, "", "pktkit: line 1\n")?;
-    }
-    Ok(())
-}
-
-#[test]
-fn items(rt: HostRuntime) -> Result<(), Fail> {
-    let longest = b"ring exact 1\nput bulk !23456789012345678901234567890~\ntake bulk 1\n";
-    expect(
-        &rt,
-        longest,
-        0,
+    ),
+    // Items.
+    (
+        b"ring exact 1\nput bulk !23456789012345678901234567890~\ntake bulk 1\n",
         "ring size 2 capacity 1\nput 1 left 0\ntake 1 left 0 !23456789012345678901234567890~\n",
         "",
-    )?;
-    let longer = b"ring exact 1\nput bulk 123456789012345678901234567890123\ntake bulk 1\n";
-    expect(
-        &rt,
-        longer,
-        1,
+    ),
+    (
+        b"ring exact 1\nput bulk 123456789012345678901234567890123\ntake bulk 1\n",
         "ring size 2 capacity 1\n",
         "pktkit: line 2\n",
-    )?;
-    expect(&rt, b"put bulk a\x7f\n", 1, "", "pktkit: line 1\n")?;
-    expect(&rt, b"put bulk \x80\n", 1, "", "pktkit: line 1\n")?;
+    ),
+    (b"put bulk a\x7f\n", "", "pktkit: line 1\n"),
+    (b"put bulk \x80\n", "", "pktkit: line 1\n"),
     // The form of a line doesn't depend on the ring.
-    expect(
-        &rt,
+    (
         b"put bulk a\nput bulk a\x01\n",
-        1,
         "no ring\n",
         "pktkit: line 2\n",
-    )
-}
+    ),
+];
+
+/// Lines of no form: with a number that is none, with too few words or too many, with another word.
+const NO_FORM: [&'static str; 20] = [
+    "ring power +8",
+    "ring power -8",
+    "ring power 0x8",
+    "ring power 8_0",
+    "ring power 8.",
+    "take bulk",
+    "take bulk 1 1",
+    "ring",
+    "ring power",
+    "ring power 4 4",
+    "ring Power 4",
+    "rings power 4",
+    "put",
+    "put Bulk a",
+    "put all a",
+    "take",
+    "take burst a",
+    "count 1",
+    "Count",
+    "look",
+];
 
 #[test]
-fn words_of_no_form(rt: HostRuntime) -> Result<(), Fail> {
-    let lines = [
-        "ring",
-        "ring power",
-        "ring power 4 4",
-        "ring Power 4",
-        "rings power 4",
-        "put",
-        "put Bulk a",
-        "put all a",
-        "take",
-        "take burst a",
-        "count 1",
-        "Count",
-        "look",
-    ];
-    for line in lines {
+fn forms_of_lines(rt: HostRuntime) -> Result<(), Fail> {
+    for (file, replies, fault) in FORMS {
+        expect(&rt, file, u8::from(!fault.is_empty()), replies, fault)?;
+    }
+    for line in NO_FORM {
         expect(&rt, line.as_bytes(), 1, "", "pktkit: line 1\n")?;
     }
     Ok(())
+}
+
+/// The words `0` to `299`, each behind a blank and this mark.
+fn numbered(alloc: Global, mark: &str) -> Result<String, AllocError> {
+    let mut words = String::new(alloc);
+    for number in 0..300 {
+        let word = format!(in alloc; " {mark}{number}")?;
+        words.push_str(word.as_str())?;
+    }
+    Ok(words)
+}
+
+/// A line a thousand times.
+fn a_thousand(alloc: Global, line: &str) -> Result<String, AllocError> {
+    let mut lines = String::new(alloc);
+    for _ in 0..1000 {
+        lines.push_str(line)?;
+    }
+    Ok(lines)
+}
+
+#[test]
+fn many_lines_and_items(rt: HostRuntime) -> Result<(), Fail> {
+    let items = numbered(rt.alloc(), "i")?;
+    let counts = a_thousand(rt.alloc(), "count\n")?;
+    let told = a_thousand(rt.alloc(), "count 0 free 300\n")?;
+    let file = format!(in rt.alloc(); "ring exact 300\nput bulk{items}\ntake bulk 300\n{counts}")?;
+    let replies = format!(in rt.alloc();
+        "ring size 512 capacity 300\nput 300 left 0\ntake 300 left 0{items}\n{told}"
+    )?;
+    expect(&rt, file.as_bytes(), 0, replies.as_str(), "")
+}
+
+#[test]
+fn many_buffers(rt: HostRuntime) -> Result<(), Fail> {
+    let numbers = numbered(rt.alloc(), "")?;
+    let items = numbered(rt.alloc(), "b")?;
+    let file = format!(in rt.alloc();
+        "ring exact 300 multi\nactors 1\ngive 0{numbers}\n0 look 0 put\n0 room 0 put\n\
+        0 reserve 0 put bulk 300\n0 settle 0 put{items}\n0 look 0 take\n0 room 0 take\n0 reserve 0 take bulk 300\n\
+        0 settle 0 take 300\n"
+    )?;
+    let replies = format!(in rt.alloc();
+        "seen 0\nseen 0\ngranted 0 300 left 0\ndone 300\nseen 0\nseen 300\n\
+        granted 0 300 left 0\ndone 300{items}\n"
+    )?;
+    let name = "pktkit_many_buffers.steps";
+    expect_steps(&rt, name, file.as_str(), 0, replies.as_str(), "")
 }

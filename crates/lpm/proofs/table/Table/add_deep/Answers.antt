@@ -55,13 +55,13 @@ invariant_of-self-2 c =
     ∙ ap (first_bits (masked c.args.addr c.args.depth)) c.bits.ensures.value in
     let fits = rw c.bits.ensures.value at c.first_of-first.ensures.below in
     let change = inserts m (prefix_of c.args.addr c.args.depth) c.args.hop in
-    let are = members_with m c.args.addr c.args.depth c.args.hop c.self.invariant.members c.requires.lawful c.ranges.addr.fits
+    let are = members_with m c.args.addr c.args.depth c.args.hop c.self.invariant.members c.requires.depth c.ranges.addr.fits
     c.requires.hop in
     let overwrites = rw (c.of-prefix.ensures, c.route.ensures) at c.overwrite.ensures.overwrites in
     rw (c.in_ok-insert.ensures.ok, c.of-prefix.ensures)
     (deep_added p c.reserve_group.new.self c.ensure_group.new.self c.overwrite.new.self m _ c.args.addr c.args.depth c.args.hop
     c.first_of-first.result
-    c.self.invariant c.requires.lawful deep change are at fits c.in_ok-reserve_group.ensures.ok c.ensure_group.ensures.opens
+    c.self.invariant c.requires.depth deep change are at fits c.in_ok-reserve_group.ensures.ok c.ensure_group.ensures.opens
     c.ensure_group.ensures.used
     c.in_ok-reserve_group.ensures.within c.overwrite.ensures.keeps overwrites)
 

@@ -33,10 +33,10 @@ invariant_of-self-2 c =
     let m = c.self.inside.members in
     let shallow = subst (λ (t : Routes). c.args.depth ≤ t.bits) (sym c.self.view_is) c.requires.shallow in
     let change = inserts m (prefix_of c.args.addr c.args.depth) c.args.hop in
-    let are = members_with m c.args.addr c.args.depth c.args.hop c.self.invariant.members c.requires.lawful c.ranges.addr.fits
+    let are = members_with m c.args.addr c.args.depth c.args.hop c.self.invariant.members c.requires.depth c.ranges.addr.fits
     c.requires.hop in
     let overwrites = rw (c.of-prefix.ensures, c.route.ensures) at c.overwrite.ensures.overwrites in
     rw (c.in_ok-insert.ensures.ok, c.of-prefix.ensures)
     (right_shallow p c.overwrite.new.self m _ c.args.addr c.args.depth (Some c.args.hop)
-    (entry_of c.args.depth c.args.hop) c.self.invariant c.requires.lawful shallow change are
+    (entry_of c.args.depth c.args.hop) c.self.invariant c.requires.depth shallow change are
     (λ a e. refl) c.overwrite.ensures.keeps overwrites)

@@ -14,7 +14,7 @@ longest-next-requires-clause-members c =
 
 pub overwrite-requires-clause-plain : goal.overwrite-requires-clause-plain
 overwrite-requires-clause-plain c = rw c.longest-next.ensures
-    (longest_plain c.remove.new.self c.args.addr (c.args.depth - 1) (omega (arith, c.requires.lawful.1)))
+    (longest_plain c.remove.new.self c.args.addr (c.args.depth - 1) (omega (arith, c.requires.depth.1)))
 
 pub has_deeper-requires-clause-members : goal.has_deeper-requires-clause-members
 has_deeper-requires-clause-members c =
@@ -30,7 +30,7 @@ overwrite-requires-clause-grouped c =
     let fits = rw c.bits-bits.ensures.value at c.first_of-first.ensures.below in
     let there = rw c.of-prefix.ensures at c.in_ok-remove.ensures.was in
     let had = subst (λ n. is_group (first_at p n) ≡ true) at
-    (had_group p m c.self.invariant c.args.addr c.args.depth c.requires.lawful deep there c.first_of-first.result at fits) in
+    (had_group p m c.self.invariant c.args.addr c.args.depth c.requires.depth deep there c.first_of-first.result at fits) in
     rw c.of-prefix.ensures (λ _. had)
 
 pub close_group-requires-clause-grouped : goal.close_group-requires-clause-grouped
@@ -43,7 +43,7 @@ close_group-requires-clause-grouped c =
     let fits = rw c.bits-bits.ensures.value at c.first_of-first.ensures.below in
     let there = rw c.of-prefix.ensures at c.in_ok-remove.ensures.was in
     c.overwrite.ensures.keeps.kinds c.first_of-first.result
-    ∙ had_group p m c.self.invariant c.args.addr c.args.depth c.requires.lawful deep there c.first_of-first.result at fits
+    ∙ had_group p m c.self.invariant c.args.addr c.args.depth c.requires.depth deep there c.first_of-first.result at fits
 
 pub close_group-requires-clause-plain : goal.close_group-requires-clause-plain
 close_group-requires-clause-plain c =
@@ -58,11 +58,11 @@ close_group-requires-clause-plain c =
     let are = members_without m (prefix_of c.args.addr c.args.depth) c.self.invariant.members in
     let after = rw c.of-prefix.ensures at c.in_ok-remove.ensures.ok in
     let next = rw after at c.longest-next.ensures in
-    let entries = removed_places p c.overwrite.new.self m _ c.args.addr c.args.depth c.longest-next.result c.self.invariant c.requires.lawful
+    let entries = removed_places p c.overwrite.new.self m _ c.args.addr c.args.depth c.longest-next.result c.self.invariant c.requires.depth
     change next
     (rw c.of-prefix.ensures at c.overwrite.ensures.overwrites) in
     let none = rw (after, ← c.first_of-first.ensures.value, c.bits-bits.ensures.value) at c.has_deeper.ensures in
-    closes_plain p m c.self.invariant c.args.addr c.args.depth c.requires.lawful deep there c.first_of-first.result at fits
+    closes_plain p m c.self.invariant c.args.addr c.args.depth c.requires.depth deep there c.first_of-first.result at fits
     c.overwrite.new.self _ change are c.overwrite.ensures.keeps entries (sym none ∙ c.if-not-has_deeper.true)
 
 pub close_group-requires-clause-alike : goal.close_group-requires-clause-alike
@@ -78,11 +78,11 @@ close_group-requires-clause-alike c =
     let are = members_without m (prefix_of c.args.addr c.args.depth) c.self.invariant.members in
     let after = rw c.of-prefix.ensures at c.in_ok-remove.ensures.ok in
     let next = rw after at c.longest-next.ensures in
-    let entries = removed_places p c.overwrite.new.self m _ c.args.addr c.args.depth c.longest-next.result c.self.invariant c.requires.lawful
+    let entries = removed_places p c.overwrite.new.self m _ c.args.addr c.args.depth c.longest-next.result c.self.invariant c.requires.depth
     change next
     (rw c.of-prefix.ensures at c.overwrite.ensures.overwrites) in
     let none = rw (after, ← c.first_of-first.ensures.value, c.bits-bits.ensures.value) at c.has_deeper.ensures in
-    closes_alike p m c.self.invariant c.args.addr c.args.depth c.requires.lawful deep there c.first_of-first.result at fits
+    closes_alike p m c.self.invariant c.args.addr c.args.depth c.requires.depth deep there c.first_of-first.result at fits
     c.overwrite.new.self _ change are c.overwrite.ensures.keeps entries (sym none ∙ c.if-not-has_deeper.true)
 
 pub invariant_of-self-then-not-has_deeper : goal.invariant_of-self-then-not-has_deeper
@@ -98,12 +98,12 @@ invariant_of-self-then-not-has_deeper c =
     let are = members_without m (prefix_of c.args.addr c.args.depth) c.self.invariant.members in
     let after = rw c.of-prefix.ensures at c.in_ok-remove.ensures.ok in
     let next = rw after at c.longest-next.ensures in
-    let entries = removed_places p c.overwrite.new.self m _ c.args.addr c.args.depth c.longest-next.result c.self.invariant c.requires.lawful
+    let entries = removed_places p c.overwrite.new.self m _ c.args.addr c.args.depth c.longest-next.result c.self.invariant c.requires.depth
     change next
     (rw c.of-prefix.ensures at c.overwrite.ensures.overwrites) in
     let none = rw (after, ← c.first_of-first.ensures.value, c.bits-bits.ensures.value) at c.has_deeper.ensures in
     rw after
-    (right_closed p m c.self.invariant c.args.addr c.args.depth c.requires.lawful deep there c.first_of-first.result at fits
+    (right_closed p m c.self.invariant c.args.addr c.args.depth c.requires.depth deep there c.first_of-first.result at fits
     c.overwrite.new.self _ change are c.overwrite.ensures.keeps entries
     (sym none ∙ c.if-not-has_deeper.true) c.close_group.new.self c.close_group.ensures.closes c.close_group.ensures.used)
 
@@ -120,9 +120,9 @@ invariant_of-self-else-not-has_deeper c =
     let are = members_without m (prefix_of c.args.addr c.args.depth) c.self.invariant.members in
     let after = rw c.of-prefix.ensures at c.in_ok-remove.ensures.ok in
     let next = rw after at c.longest-next.ensures in
-    let entries = removed_places p c.overwrite.new.self m _ c.args.addr c.args.depth c.longest-next.result c.self.invariant c.requires.lawful
+    let entries = removed_places p c.overwrite.new.self m _ c.args.addr c.args.depth c.longest-next.result c.self.invariant c.requires.depth
     change next
     (rw c.of-prefix.ensures at c.overwrite.ensures.overwrites) in
     let none = rw (after, ← c.first_of-first.ensures.value, c.bits-bits.ensures.value) at c.has_deeper.ensures in
-    rw after (right_kept p m c.self.invariant c.args.addr c.args.depth c.requires.lawful deep there c.first_of-first.result at fits
+    rw after (right_kept p m c.self.invariant c.args.addr c.args.depth c.requires.depth deep there c.first_of-first.result at fits
     c.overwrite.new.self _ change are c.overwrite.ensures.keeps entries (sym none ∙ c.if-not-has_deeper.false))

@@ -11,7 +11,7 @@ longest-next-requires-clause-members c =
 
 pub overwrite-requires-clause-plain : goal.overwrite-requires-clause-plain
 overwrite-requires-clause-plain c = rw c.longest-next.ensures
-    (longest_plain c.remove.new.self c.args.addr (c.args.depth - 1) (omega (arith, c.requires.lawful.1)))
+    (longest_plain c.remove.new.self c.args.addr (c.args.depth - 1) (omega (arith, c.requires.depth.1)))
 
 pub invariant_of-self-2 : goal.invariant_of-self-2
 invariant_of-self-2 c =
@@ -23,8 +23,8 @@ invariant_of-self-2 c =
     let overwrites = rw c.of-prefix.ensures at c.overwrite.ensures.overwrites in
     let next = rw after at c.longest-next.ensures in
     rw after
-    (right_shallow p c.overwrite.new.self m _ c.args.addr c.args.depth None c.longest-next.result c.self.invariant c.requires.lawful shallow
+    (right_shallow p c.overwrite.new.self m _ c.args.addr c.args.depth None c.longest-next.result c.self.invariant c.requires.depth shallow
     change
     (members_without m (prefix_of c.args.addr c.args.depth) c.self.invariant.members)
-    (λ a e. next ∙ next_shorter m _ c.args.addr c.args.depth None change c.requires.lawful.0 c.requires.lawful.1 a e)
+    (λ a e. next ∙ next_shorter m _ c.args.addr c.args.depth None change c.requires.depth.0 c.requires.depth.1 a e)
     c.overwrite.ensures.keeps overwrites)

@@ -105,12 +105,12 @@ invariant_of-self-2 g c =
         c.len.ensures.value,
         c.len-2.ensures.value,
         l.within,
-        ap length c.append.ensures.moved,
+        ap length c.push_all.ensures.moved,
         length-append l.cache c.args.list.now,
       );
-      kept = subst (Keeps tags c.keep.new.self) (sym c.append.ensures.moved)
+      kept = subst (Keeps tags c.keep.new.self) (sym c.push_all.ensures.moved)
           (more_kept tags k c.keep.new.self l.cache c.args.list.now c.keep.ensures.same keeps (c.keep.ensures.kept some));
-      single = subst (AreSingle tags) (sym c.append.ensures.moved) (single_both tags l.cache c.args.list.now l.single (c.keep.ensures.kept some).0);
+      single = subst (AreSingle tags) (sym c.push_all.ensures.moved) (single_both tags l.cache c.args.list.now l.single (c.keep.ensures.kept some).0);
     }
 
 pub returns-clause-told : goal.returns-clause-told
@@ -123,6 +123,6 @@ returns-clause-told g c =
       subst (λ o. AreOwnBuffers tags (view_in o) (l.cache ++ c.args.list.now)) (sym c.in-Some.is)
           (more_own tags k c.keep.new.self l.cache c.args.list.now keeps l.single (c.keep.ensures.kept some)),
       omega (arith, c.if-len-self.false, c.len.ensures.value, c.len-2.ensures.value, l.within, length-append l.cache c.args.list.now),
-      c.append.ensures.left,
-      c.append.ensures.moved,
+      c.push_all.ensures.left,
+      c.push_all.ensures.moved,
     )

@@ -25,9 +25,12 @@ invariant_of-self g c = record {
   rings = c.args.self.now.rings;
 }
 
-pub returns-in-Ok : goal.returns-in-Ok
-returns-in-Ok g c =
+pub returns-in-Ok-clause-left : goal.returns-in-Ok-clause-left
+returns-in-Ok-clause-left g c =
     let f = c.args.self.now.fabric.now in
     let l = c.args.self.now.local in
     let there = ring_at (rings_of f) l.ring (ring_there f l (local_of f l c.args.self.now.of)) in
-    record { left = put_leaves g.T.Tagged.numbers there.0 l c.put_from.new.self c.args.list.now c.put_from.new.list (c.in-Ok.ensures.told there.0 there.1) }
+    put_leaves g.T.Tagged.numbers there.0 l c.put_from.new.self c.args.list.now c.put_from.new.list (c.in-Ok.ensures.told there.0 there.1)
+
+pub returns-in-Err-clause-told : goal.returns-in-Err-clause-told
+returns-in-Err-clause-told g c = (c.in-Err.fault, c.why_kept.ensures, λ plan there. c.in-Err.ensures.told plan there)

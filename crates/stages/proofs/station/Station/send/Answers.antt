@@ -1,4 +1,5 @@
-use Rattle.std.proofs.Common.{arith, rules}
+use Rattle.std.proofs.Common.{◌≡◌, Some, ap, arith, rules}
+use Rattle.stages.specs.declared.fault.RingFault.TheVariants.{Worn}
 use Rattle.stages.proofs.Stations.{local_of}
 use Rattle.stages.proofs.station.Station.send.Goals as goal
 
@@ -12,4 +13,16 @@ send_from-requires g c = (
       (local_of c.loop.self.fabric.now c.loop.self.local c.loop.self.of, omega (arith, c.requires.ring, c.loop.self.rings.many)),
     ),
   ),
+)
+
+pub returns-in-Some-fault_of-clause-told : goal.returns-in-Some-fault_of-clause-told
+returns-in-Some-fault_of-clause-told g c = (
+  c.loop.self.local,
+  c.loop.list,
+  c.in-Err.refusal,
+  (
+    (λ is. let told : c.in-Some-fault_of.fault ≡ Worn = cc (c.in-Some-fault_of.ensures.worn.0 is) in told),
+    (λ told. c.in-Some-fault_of.ensures.worn.1 (ap Some told)),
+  ),
+  λ plan there. c.in-Err.ensures.told plan there,
 )
