@@ -63,7 +63,8 @@ module _ {T : Type 0} where
   pub poured : (k : ℕ) (cells more : List (Option T)) (xs ys : List T) (later : List (Option T)) → Holds cells xs → Holds more ys
       → later ≡ more ++ reverse (drop k cells) → Holds later (ys ++ reverse (drop k xs))
   poured k cells more xs ys later h i e =
-      appended more (reverse (drop k cells)) ys (reverse (drop k xs)) later i (turned (drop k cells) (drop k xs) (reverse (drop k cells)) (behind k cells xs h) refl) e
+      appended more (reverse (drop k cells)) ys (reverse (drop k xs)) later i
+      (turned (drop k cells) (drop k xs) (reverse (drop k cells)) (behind k cells xs h) refl) e
 
   -- the item in a cell
   pub in_cell : (cells : List (Option T)) (xs : List T) (i : ℕ) (cell : Option T) → Holds cells xs → i < length xs → cell ≡ get_or cells i cell

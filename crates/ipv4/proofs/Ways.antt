@@ -36,7 +36,8 @@ has_source ports hop way e = at (slice_get ports.hops.items hop) refl
         by entry (slice_get ports.sources.items entry.port) refl
         (sym (ap (option_and_then (λ entry. option_map (leaving entry) (slice_get ports.sources.items entry.port))) is) ∙ e)
 
-pub sent_by_a_port : (routes : Members) (ports : Ports) (frame : List ℕ) (wire : ℕ) → (port : ℕ) (tagged : Bool) → (forwarded routes ports frame wire).verdict ≡ Send port tagged
+pub sent_by_a_port : (routes : Members) (ports : Ports) (frame : List ℕ) (wire : ℕ) → (port : ℕ) (tagged : Bool) →
+    (forwarded routes ports frame wire).verdict ≡ Send port tagged
     → port < length ports.sources.items
 sent_by_a_port routes ports frame wire port tagged is = at (judged routes ports frame wire) refl
   where

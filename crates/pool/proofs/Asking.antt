@@ -145,7 +145,8 @@ module _ {T : Type 0} {G : Ghosts T} (tags : T → List ℕ) (most ring : ℕ) (
       let is = told.2.2 in
       let all : m.count ≡ length items = bulk_all tags most (length items) ring Put plan v (view h) told.0 m.count m.left [] (take m.count items) told.1 is in
       ap (holds tags b) (moved_party tags most by_bulk (length items) ring Put plan v (view h) told.0 m.count m.left [] (take m.count items) told.1 is)
-      ∙ (holds_put tags b ring is.0 m.count v.party (take m.count items) ∙ ap (λ l. holds tags b v.party - occurrences_in tags b l) (all_first m.count items all))
+      ∙ (holds_put tags b ring is.0 m.count v.party (take m.count items) ∙ ap (λ l. holds tags b v.party - occurrences_in tags b l)
+      (all_first m.count items all))
 
   -- a refused request leaves the hand what it had
   pub none_party : (v : View T) (n : ℕ) (h : Hand T G) (e : StartFault) (items : List T)

@@ -17,19 +17,23 @@ use Rattle.ringapi.specs.Takes.{TakeHasTold}
 use Rattle.ringapi.specs.Views.{by_burst}
 use Rattle.pool.specs.Hands.{view_in}
 
-module _ {T : Type 0} {G : Ghosts T} (tags : T → List ℕ) (most ring : ℕ) (plan : RingPlan) (k l : Option (Keeper T G)) where
+module _ {T : Type 0} {G : Ghosts T} (tags : T → List ℕ) (most ring : ℕ) (plan : RingPlan)
+    (k l : Option (Keeper T G)) where
   -- What a put by burst answers, by the hand k, which is l then: items that aren't the hand's to put beside
   -- what is cached are refused before anything else, and the rest is the put's own answer
   abbrev pub Sends : List T → List T → Result Moved Refusal → List T → Type 0
   Sends cache list (Ok moved) rest = (h : Hand T G)
       × PutHasTold {N = most} tags by_burst ring plan (view_in k) list (put.Done h moved) rest × (view_in l ≡ view h)
   Sends cache list (Err (Start fault)) rest = (h : Hand T G)
-      × PutHasTold {N = most} tags by_burst ring plan (view_in k) list (put.Refused h (Start fault)) rest × (view_in l ≡ view h)
-  Sends cache list (Err NotYours) rest = AreNotYours tags plan (view_in k) (cache ++ list) × (rest ≡ list) × (view_in l ≡ view_in k)
+      × PutHasTold {N = most} tags by_burst ring plan (view_in k) list (put.Refused h (Start fault)) rest ×
+      (view_in l ≡ view h)
+  Sends cache list (Err NotYours) rest = AreNotYours tags plan (view_in k) (cache ++ list) × (rest ≡ list) ×
+      (view_in l ≡ view_in k)
 
   -- what a take by burst of n items answers
   abbrev pub Receives : ℕ → Result Moved StartFault → List T → Type 0
   Receives n (Ok moved) items = (h : Hand T G)
       × TakeHasTold {N = most} tags by_burst n ring plan (view_in k) (taken.Done h moved) items × (view_in l ≡ view h)
   Receives n (Err fault) items = (h : Hand T G)
-      × TakeHasTold {N = most} tags by_burst n ring plan (view_in k) (taken.Refused h fault) items × (view_in l ≡ view h)
+      × TakeHasTold {N = most} tags by_burst n ring plan (view_in k) (taken.Refused h fault) items ×
+      (view_in l ≡ view h)

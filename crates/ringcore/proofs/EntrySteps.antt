@@ -211,7 +211,8 @@ claim_tells i places marked (b ∷ xs) h c =
       | inl same ↦
           let lt = there places b i (held_is i (entry places b) first.0) in
           let none : (0 < occurrences c xs) → ⊥ = λ some.
-          absurd (let u : false ≡ true = sym (marked_same places b i lt) ∙ subst (λ (v : ℕ). is_held_at i (entry (slice_set places b (Cached i)) v) ≡ true) same (rest.0 some) in cc) in
+          absurd (let u : false ≡ true = sym (marked_same places b i lt) ∙ subst
+          (λ (v : ℕ). is_held_at i (entry (slice_set places b (Cached i)) v) ≡ true) same (rest.0 some) in cc) in
           ((λ some. subst (λ (v : ℕ). is_held_at i (entry places v) ≡ true) (sym same) first.0), once same (occurrences c xs) refl none)
       | inr apart ↦
           let less = occurs_apart c b xs apart in (

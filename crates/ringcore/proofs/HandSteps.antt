@@ -196,7 +196,8 @@ pub entries_stashed : (pool : ℕ) (rings : List Ring) (places : List Place) (me
     (slice_set actors i record { party = a.party; observed = a.observed; cached = b ∷ a.cached })
 entries_stashed pool rings places members actors i a m b e ha hm held =
     let is = held_is i (entry places b) held in
-    entries_marked pool rings places members actors i a m b (Held i) (Cached i) (b ∷ a.cached) e ha hm is (within places b (Held i) is (λ h. absurd (let u : Held i ≡ Nowhere = h in cc)))
+    entries_marked pool rings places members actors i a m b (Held i) (Cached i) (b ∷ a.cached) e ha hm is
+    (within places b (Held i) is (λ h. absurd (let u : Held i ≡ Nowhere = h in cc)))
     (λ j. refl) record { times = λ j apart. refl; cached = λ j apart. apart_test i j apart } (λ r. refl)
     (subst (λ (v : Place). IsNamed (length rings) (length members) v) is (e.named b))
     (ap (λ t. t || list_any (λ z. z == b) a.cached) (same_test b) ∙ sym (same_test i))

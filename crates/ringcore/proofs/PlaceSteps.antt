@@ -58,7 +58,8 @@ shown_with_actors b x i (a ∷ actors) each =
     ∙ ap (λ u. if times_with i x == 1 then (if u then Cached i else Held i) ∷ [] else []) own.1)
     ∙ ap (λ v. with_actor_of x i ++ v)
     (shown_with_actors b x (i + 1) actors
-    (λ k c is. subst (λ (j : ℕ). (holds tags b c.party ≡ times_with j x) × (is_cached c b ≡ is_cached_at j x)) (let h : i + suc k ≡ i + 1 + k = omega arith in h)
+    (λ k c is. subst (λ (j : ℕ). (holds tags b c.party ≡ times_with j x) × (is_cached c b ≡ is_cached_at j x))
+    (let h : i + suc k ≡ i + 1 + k = omega arith in h)
     (each (suc k) c is)))
 
 -- no ring, and no actor

@@ -64,13 +64,15 @@ step_followed old new h actor step reply same goes agree right =
     let there = subst (λ (ps : List RingPlan). (pool : ℕ) (actors : List Actor) → AllFit ps pool → Invariant ps pool actors
     → ListsAgree ps pool (rings_of old) old.places.items old.members.items actors
     → (reply ≡ reply_to ps pool actors actor step)
-    × ListsAgree ps pool (rings_of new) new.places.items new.members.items (after actors record { actor = actor; step = step; reply = reply })) agree.plans goes in
+    × ListsAgree ps pool (rings_of new) new.places.items new.members.items (after actors record { actor = actor; step = step; reply = reply }))
+    agree.plans goes in
     let now = there (pool_size h) (actors_of h) right.plan.rings (right_kept h right) agree.lists in (
       now.0,
       record {
         plans = same ∙ agree.plans;
         lists =
-            subst (λ (v : List Actor). ListsAgree h.plans (pool_size h) (rings_of new) new.places.items new.members.items v) (sym (after_all-append (opening_of h) h.events (e ∷ []))) now.1;
+            subst (λ (v : List Actor). ListsAgree h.plans (pool_size h) (rings_of new) new.places.items new.members.items v)
+            (sym (after_all-append (opening_of h) h.events (e ∷ []))) now.1;
       },
       right_followed h (e ∷ []) right (now.0, tt),
     )
@@ -91,7 +93,8 @@ run_followed old new h entries replies same goes agree right =
     let whole : run.done ≡ entries = sym (append-nil run.done) ∙ run.split in
     let ran = subst (λ (d : List (ℕ × Step)). IsRun h.plans (pool_size h) (actors_of h) (events_of d replies)) whole run.right in
     let left =
-    subst (λ (d : List (ℕ × Step)). ListsAgree h.plans (pool_size h) (rings_of new) new.places.items new.members.items (after_all (actors_of h) (events_of d replies))) whole run.agree in (
+    subst (λ (d : List (ℕ × Step)). ListsAgree h.plans (pool_size h) (rings_of new) new.places.items new.members.items
+    (after_all (actors_of h) (events_of d replies))) whole run.agree in (
       run.count ∙ ap length whole,
       record {
         plans = same ∙ agree.plans;

@@ -57,7 +57,8 @@ run_more plans pool actors entries replies rest rings new_rings places new_place
     e = record { actor = i; step = step; reply = r }
 
     now : (r ≡ reply_to plans pool (after_all actors (events_of run.done replies)) i step)
-        × ListsAgree plans pool new_rings new_places new_members (after (after_all actors (events_of run.done replies)) record { actor = i; step = step; reply = r })
+        × ListsAgree plans pool new_rings new_places new_members (after (after_all actors (events_of run.done replies)) record
+        { actor = i; step = step; reply = r })
     now = goes (after_all actors (events_of run.done replies)) run.kept run.agree
 
     events : events_of (run.done ++ (i, step) ∷ []) (replies ++ r ∷ []) ≡ events_of run.done replies ++ record { actor = i; step = step; reply = r } ∷ []
@@ -67,7 +68,8 @@ run_more plans pool actors entries replies rest rings new_rings places new_place
         ≡ after (after_all actors (events_of run.done replies)) record { actor = i; step = step; reply = r }
     left = ap (after_all actors) events ∙ after_more actors (events_of run.done replies) e
 
-pub run_starts : (plans : List RingPlan) (pool : ℕ) (actors : List Actor) (entries : List (ℕ × Step)) (rings : List Ring) (places : List Place) (members : List Member)
+pub run_starts : (plans : List RingPlan) (pool : ℕ) (actors : List Actor) (entries : List (ℕ × Step)) (rings : List Ring) (places : List Place)
+    (members : List Member)
     → Invariant plans pool actors → ListsAgree plans pool rings places members actors → RunsTo plans pool actors entries [] entries rings places members
 run_starts plans pool actors entries rings places members k agree = record { done = []; split = refl; count = refl; right = tt; kept = k; agree = agree }
 
@@ -86,7 +88,8 @@ run_goes_on plans old new pool actors entries replies left rest i step r same fi
     → ListsAgree ps pool (rings_of old) old.places.items old.members.items now
     → (r ≡ reply_to ps pool now i step)
     × ListsAgree ps pool (rings_of new) new.places.items new.members.items (after now record { actor = i; step = step; reply = r })) same goes in
-    run_more plans pool actors entries replies rest (rings_of old) (rings_of new) old.places.items new.places.items old.members.items new.members.items i step r fits
+    run_more plans pool actors entries replies rest (rings_of old) (rings_of new) old.places.items new.places.items old.members.items new.members.items
+    i step r fits
     (subst (λ (v : List (ℕ × Step)). RunsTo plans pool actors entries replies v (rings_of old) old.places.items old.members.items) first run)
     (λ now kept agrees. there pool now fits kept agrees)
 
@@ -139,7 +142,8 @@ beginning_followed old new entries same goes h agree right =
     let run = found.2 in
     let events = events_are h.plans (pool_size h) (actors_of h) run.done replies run.count run.right in
     let ran = subst (λ (es : List Event). IsRun h.plans (pool_size h) (actors_of h) es) events run.right in
-    let left = subst (λ (es : List Event). ListsAgree h.plans (pool_size h) (rings_of new) new.places.items new.members.items (after_all (actors_of h) es)) events run.agree in
+    let left = subst (λ (es : List Event). ListsAgree h.plans (pool_size h) (rings_of new) new.places.items new.members.items
+    (after_all (actors_of h) es)) events run.agree in
     let more = history_of h.plans (pool_size h) (actors_of h) run.done in (
       run.done,
       found.1,

@@ -447,7 +447,8 @@ module _ (plans : List RingPlan) (pool : ℕ) (rings : List Ring) (members : Lis
           subst (λ (v : List Place). EntriesAgree pool (slice_set rings ring y) v (slice_set members i n) (slice_set actors i a)) (sym same.2)
           (subst (λ (v : List Ring). EntriesAgree pool v places (slice_set members i n) (slice_set actors i a))
           (sym (ap (slice_set rings ring) same.1 ∙ set_same rings ring x hr))
-          (subst (λ (v : List Member). EntriesAgree pool rings places v (slice_set actors i a)) (sym (ap (slice_set members i) same.0 ∙ set_same members i m hm))
+          (subst (λ (v : List Member). EntriesAgree pool rings places v (slice_set actors i a))
+          (sym (ap (slice_set members i) same.0 ∙ set_same members i m hm))
           (subst (λ (v : List Actor). EntriesAgree pool rings places members v) (sym (set_same actors i a ha)) e)))
 
       spans : n ≡ m → y ≡ x → SpansAgree plans (slice_set rings ring y) (slice_set members i n) (slice_set actors i a)

@@ -42,7 +42,8 @@ module _ (plans : List RingPlan) (pool : ℕ) (rings : List Ring) (places : List
     (k : Invariant plans pool actors) (agree : ListsAgree plans pool rings places members actors) (within : i < length members) where
   abbrev Goes : Step → Reply → List Ring → List Place → List Member → Type 0
   Goes step reply new_rings new_places new_members =
-      (reply ≡ reply_to plans pool actors i step) × ListsAgree plans pool new_rings new_places new_members (after actors record { actor = i; step = step; reply = reply })
+      (reply ≡ reply_to plans pool actors i step) × ListsAgree plans pool new_rings new_places new_members
+      (after actors record { actor = i; step = step; reply = reply })
 
   pub lt : i < length actors
   lt = omega (arith, agree.spans.member_count)
@@ -61,7 +62,8 @@ module _ (plans : List RingPlan) (pool : ℕ) (rings : List Ring) (places : List
       (subst (λ (v : Member). MemberAgrees (slice_index_or actors i me.0) v) (get_or_from_slice_get members i mine.0 mine.0 mine.1)
       (agree.spans.each_member i me.0 mine.0 lt))
 
-  finish : (step : Step) (reply : Reply) (new_rings : List Ring) (new_places : List Place) (new_members : List Member) → reply ≡ actor_reply plans pool (parties_of actors) me.0 step
+  finish : (step : Step) (reply : Reply) (new_rings : List Ring) (new_places : List Place) (new_members : List Member) → reply ≡ actor_reply plans pool
+      (parties_of actors) me.0 step
       → ListsAgree plans pool new_rings new_places new_members (slice_set actors i (after_step me.0 step reply))
       → Goes step reply new_rings new_places new_members
   unfolding reply_to after
@@ -244,13 +246,16 @@ module _ (plans : List RingPlan) (pool : ℕ) (rings : List Ring) (places : List
       → ((m : Member) (plan : RingPlan) (r : Ring) → slice_get members i ≡ Some m → slice_get plans ring ≡ Some plan → slice_get rings ring ≡ Some r
       → reply ≡ put_answer plan ring r.put.tail m.number places items m.span)
       → ((m : Member) (plan : RingPlan) (r : Ring) → slice_get members i ≡ Some m → slice_get plans ring ≡ Some plan → slice_get rings ring ≡ Some r
-      → (n : Member) × (y : Ring) × (new_members ≡ slice_set members i n) × (new_rings ≡ slice_set rings ring y) × PutResult plan ring m n r y places new_places items reply)
+      → (n : Member) × (y : Ring) × (new_members ≡ slice_set members i n) × (new_rings ≡ slice_set rings ring y) × PutResult plan ring m n r y places
+      new_places items reply)
       → Goes (SettlePut ring items) reply new_rings new_places new_members
   put_goes ring items reply new_rings new_places new_members small in_plans is did =
       finish (SettlePut ring items) reply new_rings new_places new_members
       (answer ∙ sym (ap (λ o. on_ring o (λ p. put_reply p ring (parties_of actors) me.0 items me.0.party.span)) plan.1))
-      (subst (λ (v : List Member). ListsAgree plans pool new_rings new_places v (slice_set actors i (after_step me.0 (SettlePut ring items) reply))) (sym done.2)
-      (subst (λ (v : List Ring). ListsAgree plans pool v new_places (slice_set members i done.0) (slice_set actors i (after_step me.0 (SettlePut ring items) reply)))
+      (subst (λ (v : List Member). ListsAgree plans pool new_rings new_places v (slice_set actors i (after_step me.0 (SettlePut ring items) reply)))
+      (sym done.2)
+      (subst (λ (v : List Ring). ListsAgree plans pool v new_places (slice_set members i done.0)
+      (slice_set actors i (after_step me.0 (SettlePut ring items) reply)))
       (sym done.3)
       record { spans = both.0; entries = both.1 }))
     where
@@ -265,7 +270,8 @@ module _ (plans : List RingPlan) (pool : ℕ) (rings : List Ring) (places : List
       done = did mine.0 plan.0 x.0 mine.1 plan.1 x.1
 
       answer : reply ≡ put_reply plan.0 ring (parties_of actors) me.0 items me.0.party.span
-      answer = is mine.0 plan.0 x.0 mine.1 plan.1 x.1 ∙ put_answer_is plans pool actors i me.0 lt at k mine.0 own ring x.0.put.tail plan.0 items places hand plan.1
+      answer = is mine.0 plan.0 x.0 mine.1 plan.1 x.1 ∙ put_answer_is plans pool actors i me.0 lt at k mine.0 own ring x.0.put.tail plan.0 items places
+          hand plan.1
           (agree.spans.each_ring ring plan.0 x.0 plan.1 x.1).put.tail
 
       both : SpansAgree plans (slice_set rings ring done.1) (slice_set members i done.0) (slice_set actors i (after_step me.0 (SettlePut ring items) reply))
@@ -280,13 +286,16 @@ module _ (plans : List RingPlan) (pool : ℕ) (rings : List Ring) (places : List
       → ((m : Member) (plan : RingPlan) (r : Ring) → slice_get members i ≡ Some m → slice_get plans ring ≡ Some plan → slice_get rings ring ≡ Some r
       → reply ≡ take_answer plan ring r.take.tail r.queue.items count m.span)
       → ((m : Member) (plan : RingPlan) (r : Ring) → slice_get members i ≡ Some m → slice_get plans ring ≡ Some plan → slice_get rings ring ≡ Some r
-      → (n : Member) × (y : Ring) × (new_members ≡ slice_set members i n) × (new_rings ≡ slice_set rings ring y) × TakeResult plan m n r y places new_places count reply)
+      → (n : Member) × (y : Ring) × (new_members ≡ slice_set members i n) × (new_rings ≡ slice_set rings ring y) × TakeResult plan m n r y places
+      new_places count reply)
       → Goes (SettleTake ring count) reply new_rings new_places new_members
   take_goes ring count reply new_rings new_places new_members small in_plans is did =
       finish (SettleTake ring count) reply new_rings new_places new_members
       (answer ∙ sym (ap (λ o. on_ring o (λ p. take_reply p ring (parties_of actors) count me.0.party.span)) plan.1))
-      (subst (λ (v : List Member). ListsAgree plans pool new_rings new_places v (slice_set actors i (after_step me.0 (SettleTake ring count) reply))) (sym done.2)
-      (subst (λ (v : List Ring). ListsAgree plans pool v new_places (slice_set members i done.0) (slice_set actors i (after_step me.0 (SettleTake ring count) reply)))
+      (subst (λ (v : List Member). ListsAgree plans pool new_rings new_places v (slice_set actors i (after_step me.0 (SettleTake ring count) reply)))
+      (sym done.2)
+      (subst (λ (v : List Ring). ListsAgree plans pool v new_places (slice_set members i done.0)
+      (slice_set actors i (after_step me.0 (SettleTake ring count) reply)))
       (sym done.3)
       record { spans = both.0; entries = both.1 }))
     where

@@ -29,4 +29,5 @@ module _ {W : Type 0} (contents : W → Option (List ℕ)) (settings : Settings)
       → slice_get (map (told contents) writers) q ≡ Some (Some x) → told contents d ≡ told contents e
   same_ports q d e x one_at many_at before =
       r.outputs q d x one_at before
-      ∙ (ap (λ c. Some (x ++ output_of c.resolution q (fates (forwarding_by settings) settings.room c.packets))) same_capture ∙ sym (s.outputs q e x many_at before))
+      ∙ (ap (λ c. Some (x ++ output_of c.resolution q (fates (forwarding_by settings) settings.room c.packets))) same_capture ∙ sym
+      (s.outputs q e x many_at before))

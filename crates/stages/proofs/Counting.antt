@@ -12,7 +12,8 @@ use Rattle.stages.specs.Tallies.{IsTally}
 use Rattle.stages.proofs.Windows.{take_one_more}
 
 pub tally_turn : (outs : Option (List Fate)) (ports n : ℕ) (o : Fate) (old new : Tally) → ((all : List Fate) → outs ≡ Some all → slice_get all n ≡ Some o)
-    → IsTally outs ports n old → ((oversize : ℕ) (vs : List Verdict) → old ≡ counts_of ports oversize vs → new ≡ counts_of ports oversize (vs ++ o.verdict ∷ []))
+    → IsTally outs ports n old → ((oversize : ℕ) (vs : List Verdict) → old ≡ counts_of ports oversize vs → new ≡ counts_of ports oversize
+    (vs ++ o.verdict ∷ []))
     → IsTally outs ports (n + 1) new
 tally_turn outs ports n o old new at was counted all known =
     counted 0 (verdicts (take n all)) (was all known)

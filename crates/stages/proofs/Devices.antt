@@ -47,7 +47,8 @@ module _ {W : Type 0} where
       (m.0, m.1, subst (λ v. Begins (told contents v) (text contents m.0)) w.2 m.2)
 
   -- all that the writers had is the whole text
-  pub outputs : (contents : W → Option (List ℕ)) (before : List (Option (List ℕ))) (resolution : Resolution) (all : List Fate) (n : ℕ) (writers : List (Writer W)) (devices : List (Counted W))
+  pub outputs : (contents : W → Option (List ℕ)) (before : List (Option (List ℕ))) (resolution : Resolution) (all : List Fate) (n : ℕ)
+      (writers : List (Writer W)) (devices : List (Counted W))
       → AreTexts contents before resolution (take n all) writers → AllTold contents writers devices → take n all ≡ all
       → AreOutputs contents before resolution all devices
   outputs contents before resolution all n writers devices texts told_all whole q d x got known =
@@ -56,16 +57,19 @@ module _ {W : Type 0} where
       kept_known (told contents d) (x ++ output_of resolution q (take n all)) (subst (λ t. Keeps t (told contents d)) e m.2)
       ∙ ap (λ l. Some (x ++ output_of resolution q l)) whole
 
-  pub begun_texts : (contents : W → Option (List ℕ)) (before : List (Option (List ℕ))) (resolution : Resolution) (all : List Fate) (n : ℕ) (writers : List (Writer W)) (devices : List (Counted W))
+  pub begun_texts : (contents : W → Option (List ℕ)) (before : List (Option (List ℕ))) (resolution : Resolution) (all : List Fate) (n : ℕ)
+      (writers : List (Writer W)) (devices : List (Counted W))
       → AreTexts contents before resolution (take n all) writers → AllBegun contents writers devices → AreBeginnings contents before resolution all devices
   begun_texts contents before resolution all n writers devices texts begun q d x got known =
       let m = begun q d got in
       let e = texts q m.0 x m.1 known in
       let rest = flat_map record_text (records_at q (drop n all)) in
-      beginning (told contents d) (x ++ output_of resolution q (take n all)) rest (x ++ output_of resolution q all) (subst (λ t. Begins (told contents d) t) e m.2)
+      beginning (told contents d) (x ++ output_of resolution q (take n all)) rest (x ++ output_of resolution q all)
+      (subst (λ t. Begins (told contents d) t) e m.2)
       (append_assoc x (output_of resolution q (take n all)) rest ∙ ap (λ l. x ++ l) (sym (output_front resolution q all n)))
 
-  pub told_begun : (contents : W → Option (List ℕ)) (before : List (Option (List ℕ))) (resolution : Resolution) (all : List Fate) (n : ℕ) (writers : List (Writer W)) (devices : List (Counted W))
+  pub told_begun : (contents : W → Option (List ℕ)) (before : List (Option (List ℕ))) (resolution : Resolution) (all : List Fate) (n : ℕ)
+      (writers : List (Writer W)) (devices : List (Counted W))
       → AreTexts contents before resolution (take n all) writers → AllTold contents writers devices → AreBeginnings contents before resolution all devices
   told_begun contents before resolution all n writers devices texts told_all q d x got known =
       let m = told_all q d got in
@@ -76,7 +80,8 @@ module _ {W : Type 0} where
       (append_assoc x (output_of resolution q (take n all)) rest ∙ ap (λ l. x ++ l) (sym (output_front resolution q all n)))
 
   -- after a failure nothing was told any more
-  pub begun_before : (contents : W → Option (List ℕ)) (before : List (Option (List ℕ))) (resolution : Resolution) (all : List Fate) (writers : List (Writer W)) (devices : List (Counted W))
+  pub begun_before : (contents : W → Option (List ℕ)) (before : List (Option (List ℕ))) (resolution : Resolution) (all : List Fate)
+      (writers : List (Writer W)) (devices : List (Counted W))
       → AreBegun contents before resolution all writers → devices ≡ devices_of writers → AreBeginnings contents before resolution all devices
   begun_before contents before resolution all writers devices begun same q d x got known =
       let w = writer_at writers q d (ap (λ l. slice_get l q) (sym same) ∙ got) in

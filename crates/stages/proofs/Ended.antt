@@ -43,7 +43,8 @@ pub why_of_threads : (order : ByteOrder) (resolution : Resolution) {R W : Type 0
     (reader : Counted R) (device : Option (Counted R)) (opened : Reader R) (writers devices : List (Counted W)) (fault : RunFault)
     → IfSome (to_come remaining reader) (λ bytes. HasHeader bytes order resolution)
     → IfSome (to_come remaining reader) (λ bytes. rest ≡ Some (drop 24 bytes)) → HasNotFailed reader (source_of opened) → failures ≡ map failures_of writers
-    → WhyEnded (input_of order rest) failures (failures_of (source_of opened)) device devices fault → WhyNoSummaryOfThreads remaining reader device writers devices fault
+    → WhyEnded (input_of order rest) failures (failures_of (source_of opened)) device devices fault → WhyNoSummaryOfThreads remaining reader device
+    writers devices fault
 why_of_threads order resolution remaining rest failures reader device opened writers devices Read header behind well same why =
     (why.0, why.1, failed-later _ _ _ well why.2)
 why_of_threads order resolution remaining rest failures reader device opened writers devices (Write p) header behind well same why =

@@ -32,7 +32,8 @@ module _ {W : Type 0} where
         let same : was ≡ m.0 = m.3 (omega arith) in (
           m.0,
           ap (slice_get old) e.0 ∙ m.1,
-          λ _. subst (λ v. Keeps (text contents m.0) (told contents (sink_of v))) (sym e.1) (subst (λ v. Keeps (text contents v) (told contents (sink_of new))) same kept),
+          λ _. subst (λ v. Keeps (text contents m.0) (told contents (sink_of v))) (sym e.1)
+              (subst (λ v. Keeps (text contents v) (told contents (sink_of new))) same kept),
           λ high. absurd (omega (arith, high, e.0)),
         )
     | inr e ↦
@@ -40,7 +41,8 @@ module _ {W : Type 0} where
         (m.0, m.1, λ low. m.2 (omega (arith, low, e.0)), λ high. m.3 (omega (arith, high)))
   ]
 
-  pub all_told : (contents : W → Option (List ℕ)) (i : ℕ) (old now : List (Writer W)) → AreToldBelow contents i old now → length now ≤ i → AreTold contents old now
+  pub all_told : (contents : W → Option (List ℕ)) (i : ℕ) (old now : List (Writer W)) → AreToldBelow contents i old now → length now ≤ i → AreTold
+      contents old now
   all_told contents i old now so_far end q w got =
       let m = so_far q w got in
       (m.0, m.1, m.2 (omega (arith, slice_get_within now q w got)))
@@ -61,7 +63,8 @@ module _ {W : Type 0} where
         let same : was ≡ m.0 = m.3 (omega arith) in (
           m.0,
           ap (slice_get old) e.0 ∙ m.1,
-          subst (λ v. Begins (told contents (sink_of v)) (text contents m.0)) (sym e.1) (subst (λ v. Begins (told contents (sink_of new)) (text contents v)) same begun),
+          subst (λ v. Begins (told contents (sink_of v)) (text contents m.0)) (sym e.1)
+              (subst (λ v. Begins (told contents (sink_of new)) (text contents v)) same begun),
         )
     | inr e ↦ others_cut contents i old now so_far q w e.0 e.1 (cases_lt q i)
   ]

@@ -19,7 +19,8 @@ use Rattle.stages.proofs.Texts.{appended_text}
 module _ {W : Type 0} where
   -- what a device was told before the run is what it was told now
   told_before : (contents : W → Option (List ℕ)) (writers : List (Writer W)) (before : List (Option (List ℕ))) (q : ℕ) (w : Writer W) (x : List ℕ)
-      → map (told contents) (devices_of writers) ≡ before → slice_get writers q ≡ Some w → slice_get before q ≡ Some (Some x) → told contents (sink_of w) ≡ Some x
+      → map (told contents) (devices_of writers) ≡ before → slice_get writers q ≡ Some w → slice_get before q ≡ Some (Some x) → told contents
+      (sink_of w) ≡ Some x
   told_before contents writers before q w x same got known =
       let all = sym (slice_get-map (told contents) (devices_of writers) q)
       ∙ (ap (λ l. slice_get l q) same ∙ known) in
@@ -27,11 +28,13 @@ module _ {W : Type 0} where
       let e : Some (told contents (sink_of w)) ≡ Some (Some x) = sym (ap (option_map (told contents)) one) ∙ all in
       cc e
 
-  pub fresh_texts : (contents : W → Option (List ℕ)) (before : List (Option (List ℕ))) (resolution : Resolution) (outs : Option (List Fate)) (failed : Option ℕ) (writers : List (Writer W))
+  pub fresh_texts : (contents : W → Option (List ℕ)) (before : List (Option (List ℕ))) (resolution : Resolution) (outs : Option (List Fate))
+      (failed : Option ℕ) (writers : List (Writer W))
       → map (told contents) (devices_of writers) ≡ before → AreFresh contents resolution writers → HasTexts contents before resolution outs 0 failed writers
   fresh_texts contents before resolution outs failed writers same fresh all known well q w x got at =
       let f = fresh q w got in
-      appended_text (text contents w) x (file_header resolution) (subst (λ t. Appends t (text contents w) (file_header resolution)) (told_before contents writers before q w x same got at) f.0)
+      appended_text (text contents w) x (file_header resolution) (subst (λ t. Appends t (text contents w) (file_header resolution))
+      (told_before contents writers before q w x same got at) f.0)
       ∙ ap (λ l. Some (x ++ l)) (sym (append-nil (file_header resolution)))
 
 pub fresh_tally : (outs : Option (List Fate)) (ports : ℕ) → IsTally outs ports 0 (counts_of ports 0 [])

@@ -85,9 +85,11 @@ module _ {W : Type 0} where
         let i = input_in order (drop 24 x) in
         let known : fates_of (forwarding_by settings) settings.room (input_of order rest) ≡ Some (fates (forwarding_by settings) settings.room i.packets) =
         ap (λ b. fates_of (forwarding_by settings) settings.room (input_of order b)) behind in
-        let same = one order i.packets packets (drop 24 x) i.ending end (read_in order (drop 24 x)) (subst (λ it. AreRecords it (drop 24 x) packets end) (sym m.0) records) in
+        let same = one order i.packets packets (drop 24 x) i.ending end (read_in order (drop 24 x))
+        (subst (λ it. AreRecords it (drop 24 x) packets end) (sym m.0) records) in
         subst (λ res. AreBeginnings contents (map (told contents) writers) res (fates (forwarding_by settings) settings.room packets) devices) m.1
-        (subst (λ ps. AreBeginnings contents (map (told contents) writers) resolution (fates (forwarding_by settings) settings.room ps) devices) same.0 (begun _ known))
+        (subst (λ ps. AreBeginnings contents (map (told contents) writers) resolution (fates (forwarding_by settings) settings.room ps) devices) same.0
+        (begun _ known))
 
     run_whole : (a rest : Option (List ℕ)) (writers devices : List (Counted W)) (summary : Summary) → IfSome a (λ bytes. HasHeader bytes order resolution)
         → IfSome a (λ bytes. rest ≡ Some (drop 24 bytes))
@@ -108,7 +110,8 @@ module _ {W : Type 0} where
           torn = refl;
         }
 
-    pub run_told : (a rest : Option (List ℕ)) (writers devices : List (Counted W)) (r : Result Summary RunFault) → IfSome a (λ bytes. HasHeader bytes order resolution)
+    pub run_told : (a rest : Option (List ℕ)) (writers devices : List (Counted W)) (r : Result Summary RunFault) → IfSome a
+        (λ bytes. HasHeader bytes order resolution)
         → IfSome a (λ bytes. rest ≡ Some (drop 24 bytes))
         → OnOk r ((all : List Fate) → fates_of (forwarding_by settings) settings.room (input_of order rest) ≡ Some all
         → AreOutputs contents (map (told contents) writers) resolution all devices)
@@ -118,7 +121,8 @@ module _ {W : Type 0} where
     run_told a rest writers devices (Err fault) header behind outputs sums = tt
 
 module _ (order : ByteOrder) (resolution : Resolution) where
-  pub refused_whole : (a rest : Option (List ℕ)) (fault : CapFault) → IfSome a (λ bytes. HasHeader bytes order resolution) → IfSome a (λ bytes. rest ≡ Some (drop 24 bytes))
+  pub refused_whole : (a rest : Option (List ℕ)) (fault : CapFault) → IfSome a (λ bytes. HasHeader bytes order resolution) → IfSome a
+      (λ bytes. rest ≡ Some (drop 24 bytes))
       → fault ≡ BadRecord → ((i : Input) → input_of order rest ≡ Some i → i.ending ≡ Bad)
       → IfSome a (λ bytes. IsRefused bytes fault)
   refused_whole None rest fault header behind is bad_end = tt
@@ -141,7 +145,8 @@ module _ (order : ByteOrder) (resolution : Resolution) where
   endless_whole (Some x) rest n header behind many = λ o r packets end h records.
       let m = one_magic x order o resolution r header.magic h.magic in
       let i = input_in order (drop 24 x) in
-      let same = one order i.packets packets (drop 24 x) i.ending end (read_in order (drop 24 x)) (subst (λ it. AreRecords it (drop 24 x) packets end) (sym m.0) records) in
+      let same = one order i.packets packets (drop 24 x) i.ending end (read_in order (drop 24 x))
+      (subst (λ it. AreRecords it (drop 24 x) packets end) (sym m.0) records) in
       subst (λ ps. n ≤ length ps) same.0 (many i (ap (input_of order) behind))
 
   pub why_whole : {R W : Type 0} (remaining : R → Option (List ℕ)) (rest : Option (List ℕ)) (failures : List ℕ) (reader source : Counted R) (opened : Reader R)

@@ -61,6 +61,7 @@ module _ {J W : Type 0} (G : Ghosts J) where
   why_reason failures next devices Window at = refl
   why_reason failures next devices Worn at = refl
 
-  pub why_window : (failures : List ℕ) (next : ℕ) (devices : List (Counted W)) (stamped : Stamped J G) (fault : RunFault) → fault ≡ Window → next ≢ stamped.count
+  pub why_window : (failures : List ℕ) (next : ℕ) (devices : List (Counted W)) (stamped : Stamped J G) (fault : RunFault) → fault ≡ Window → next ≢
+      stamped.count
       → WhyFaulted failures next (Ok stamped) devices fault
   why_window failures next devices stamped fault is other = subst (WhyFaulted failures next (Ok stamped) devices) (sym is) (refl, other)

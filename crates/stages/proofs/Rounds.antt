@@ -20,7 +20,8 @@ use Rattle.stages.proofs.Marks.{ends_in_mark, judged_to_mark, mark_append, pairs
 
 module _ {J : Type 0} {G : Ghosts J} where
   -- what was taken and judged is the hand's to put
-  pub judged_yours : (forwarding : Forwarding) (plan : RingPlan) (p : Party (Packet J G)) (v : View (Packet J G)) (items out : List (Packet J G)) → plan.free ≡ false
+  pub judged_yours : (forwarding : Forwarding) (plan : RingPlan) (p : Party (Packet J G)) (v : View (Packet J G)) (items out : List (Packet J G)) →
+      plan.free ≡ false
       → HasMore packet_numbers p items v.party → AllPairs (IsJudged forwarding) items out → AreYours packet_numbers plan v out
   judged_yours forwarding plan p v items out mixed more pairs = record {
     owned = λ b. omega (arith, more b, same_buffers forwarding b items out pairs);

@@ -120,7 +120,11 @@ module _ {T : Type 0} {G : Ghosts T} (tags : T → List ℕ) (most : ℕ) (how :
       λ b. ap (holds tags b) (moved_party tags most how (length items) ring Put plan v (view h) told.0 m.count m.left [] (take m.count items) told.1 is)
       ∙ holds_put tags b ring is.0 m.count v.party (take m.count items) in
       subst (AreYours tags plan (view h)) (sym told.2.1)
-      (record { owned = λ b. omega (arith, yours.owned b, less b, count_parts tags b m.count items); single = λ free. single_drop tags m.count items (yours.single free) })
+      (record {
+        owned = λ b. omega (arith, yours.owned b, less b, count_parts tags b m.count items);
+        single = λ free. single_drop tags m.count items
+            (yours.single free);
+      })
 
   -- a refused put leaves the hand what it had, and the list its items
   pub refused_party : (v : View T) (h : Hand T G) (why : Refusal) (items rest : List T) → PutHasTold {N = most} tags how ring plan v items (Refused h why) rest

@@ -45,7 +45,8 @@ module _ {R : Type 0} (remaining : R → Option (List ℕ)) (input : Option Inpu
   -- a record that is oversize was passed over, and counted
   pub passed_over : (old new : Reader R) (before after : Progress) (packet : Packet) → HasRead remaining input room ports old before
       → order_of new ≡ order_of old → Takes remaining old new packet → 64 * room < length packet.bytes → after.count ≡ before.count
-      → ((n : ℕ) → before.share ≡ counts_of (length before.share.sent) n [] → after.share ≡ counts_of (length before.share.sent) (n + 1) []) → length after.share.sent ≡ length before.share.sent
+      → ((n : ℕ) → before.share ≡ counts_of (length before.share.sent) n [] → after.share ≡ counts_of (length before.share.sent) (n + 1) []) → length
+      after.share.sent ≡ length before.share.sent
       → records_of after.share ≡ records_of before.share + 1 → HasRead remaining input room ports new after
   passed_over old new before after packet (order, all, packets, f) same takes large count share wide more = (
     order,

@@ -29,7 +29,8 @@ part_of q o = elim (two (is_sent_by q o.verdict)) [
   | inr e ↦ rw e refl
 ]
 
-pub output_more : (resolution : Resolution) (q : ℕ) (xs ys : List Fate) → output_of resolution q (xs ++ ys) ≡ output_of resolution q xs ++ flat_map record_text (records_at q ys)
+pub output_more : (resolution : Resolution) (q : ℕ) (xs ys : List Fate) → output_of resolution q (xs ++ ys) ≡ output_of resolution q xs ++ flat_map
+    record_text (records_at q ys)
 output_more resolution q xs ys =
     ap (λ l. file_header resolution ++ l) (ap (flat_map record_text) (records-append q xs ys) ∙ flat_map-append record_text (records_at q xs) (records_at q ys))
     ∙ sym (append_assoc (file_header resolution) (flat_map record_text (records_at q xs)) (flat_map record_text (records_at q ys)))
@@ -37,7 +38,8 @@ output_more resolution q xs ys =
 pub output_one_more : (resolution : Resolution) (q : ℕ) (all : List Fate) (n : ℕ) (o : Fate) → slice_get all n ≡ Some o
     → output_of resolution q (take (n + 1) all) ≡ output_of resolution q (take n all) ++ part_at q o.verdict o.packet
 output_one_more resolution q all n o at =
-    ap (output_of resolution q) (sym (take_one_more all n o at)) ∙ (output_more resolution q (take n all) (o ∷ []) ∙ ap (λ l. output_of resolution q (take n all) ++ l) (part_of q o))
+    ap (output_of resolution q) (sym (take_one_more all n o at)) ∙ (output_more resolution q (take n all) (o ∷ []) ∙ ap
+    (λ l. output_of resolution q (take n all) ++ l) (part_of q o))
 
 -- the whole is what the first fates give, and then something
 pub output_front : (resolution : Resolution) (q : ℕ) (all : List Fate) (n : ℕ)
@@ -60,16 +62,19 @@ begins_waiting None w x e = absurd (cc e)
 begins_waiting (Some y) w x e = (w, let f : y ++ w ≡ x = cc e in f)
 
 module _ {W : Type 0} where
-  texts_longer : (contents : W → Option (List ℕ)) (before : List (Option (List ℕ))) (resolution : Resolution) (all : List Fate) (n : ℕ) (o : Fate) (old new : List (Writer W))
+  texts_longer : (contents : W → Option (List ℕ)) (before : List (Option (List ℕ))) (resolution : Resolution) (all : List Fate) (n : ℕ) (o : Fate)
+      (old new : List (Writer W))
       → slice_get all n ≡ Some o → AreTexts contents before resolution (take n all) old → AreLonger contents old new (λ q. part_at q o.verdict o.packet)
       → AreTexts contents before resolution (take (n + 1) all) new
   texts_longer contents before resolution all n o old new at texts longer q w x got known =
       let m = longer q w got in
       let grown = subst (λ t. Appends t (text contents w) (part_at q o.verdict o.packet)) (texts q m.0 x m.1 known) m.2 in
       appended_text (text contents w) (x ++ output_of resolution q (take n all)) (part_at q o.verdict o.packet) grown
-      ∙ ap Some (append_assoc x (output_of resolution q (take n all)) (part_at q o.verdict o.packet) ∙ ap (λ l. x ++ l) (sym (output_one_more resolution q all n o at)))
+      ∙ ap Some (append_assoc x (output_of resolution q (take n all)) (part_at q o.verdict o.packet) ∙ ap (λ l. x ++ l)
+      (sym (output_one_more resolution q all n o at)))
 
-  begun_cut : (contents : W → Option (List ℕ)) (before : List (Option (List ℕ))) (resolution : Resolution) (all : List Fate) (n : ℕ) (o : Fate) (old new : List (Writer W))
+  begun_cut : (contents : W → Option (List ℕ)) (before : List (Option (List ℕ))) (resolution : Resolution) (all : List Fate) (n : ℕ) (o : Fate)
+      (old new : List (Writer W))
       → slice_get all n ≡ Some o → AreTexts contents before resolution (take n all) old → AreCut contents old new (λ q. part_at q o.verdict o.packet)
       → AreBegun contents before resolution all new
   begun_cut contents before resolution all n o old new at texts cut q w x got known =
@@ -84,7 +89,8 @@ module _ {W : Type 0} where
       ∙ (append_assoc x (output_of resolution q (take (n + 1) all)) rest ∙ ap (λ l. x ++ l) (sym (output_front resolution q all (n + 1)))))
 
   -- what stands in the buffers is told later: so far each port was told a beginning
-  pub texts_begun : (contents : W → Option (List ℕ)) (before : List (Option (List ℕ))) (resolution : Resolution) (all : List Fate) (n : ℕ) (writers : List (Writer W))
+  pub texts_begun : (contents : W → Option (List ℕ)) (before : List (Option (List ℕ))) (resolution : Resolution) (all : List Fate) (n : ℕ)
+      (writers : List (Writer W))
       → AreTexts contents before resolution (take n all) writers → AreBegun contents before resolution all writers
   texts_begun contents before resolution all n writers texts q w x got known =
       let rest = flat_map record_text (records_at q (drop n all)) in

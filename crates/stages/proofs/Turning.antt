@@ -53,7 +53,8 @@ ends_bad order now (Some x) b input packets is same s bad i known =
     let found = ended-bad order now (Some x) b packets same s bad in
     (input_is order (Some x) input found.0 Bad is found.1 i known).1
 
-pub endless : (order : ByteOrder) (a b : Option (List ℕ)) (input : Option Input) (packets : List Packet) (n : ℕ) → IsInput order a input → Stand order a b packets
+pub endless : (order : ByteOrder) (a b : Option (List ℕ)) (input : Option Input) (packets : List Packet) (n : ℕ) → IsInput order a input → Stand order a
+    b packets
     → n ≤ length packets → (i : Input) → input ≡ Some i → n ≤ length i.packets
 endless order a b input packets n is s many i known =
     let m = begins_with order a b input packets is s i known in
@@ -80,7 +81,8 @@ first_fits : (room : ℕ) (packet : Packet) (more : List Packet) → length pack
 first_fits room packet more small = ap (λ t. if t then packet ∷ stamped room more else stamped room more) (le-leb (length packet.bytes) (64 * room) small)
 
 -- the record that was found has the number of those before it
-pub found_is : (order now : ByteOrder) (a b c : Option (List ℕ)) (input : Option Input) (room : ℕ) (packets : List Packet) (packet : Packet) → IsInput order a input
+pub found_is : (order now : ByteOrder) (a b c : Option (List ℕ)) (input : Option Input) (room : ℕ) (packets : List Packet) (packet : Packet) → IsInput
+    order a input
     → now ≡ order → Stand order a b packets → TakesRecord now b c packet → length packet.bytes ≤ 64 * room
     → IsRecord input room (length (stamped room packets)) packet
 found_is order now a b c input room packets packet is same s t small i known =

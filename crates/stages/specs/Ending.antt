@@ -22,6 +22,7 @@ abbrev pub WhyNone : {J : Type 0} {G : Ghosts J} → ℕ → Result (Stamped J G
 WhyNone next (Ok stamped) fault = (fault ≡ Window) × (next ≢ stamped.count)
 WhyNone next (Err reason) fault = fault ≡ reason
 
-abbrev pub WhyFaulted : {J W : Type 0} {G : Ghosts J} → List ℕ → ℕ → Result (Stamped J G) RunFault → List (Counted W) → RunFault → Type 0
+abbrev pub WhyFaulted : {J W : Type 0} {G : Ghosts J} → List ℕ → ℕ → Result (Stamped J G) RunFault → List
+    (Counted W) → RunFault → Type 0
 WhyFaulted failures next stamped devices (Write p) = FailedAt failures p devices
 WhyFaulted failures next stamped devices fault = WhyNone next stamped fault

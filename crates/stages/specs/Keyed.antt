@@ -10,5 +10,7 @@ abbrev pub IsKeyed : {J : Type 0} {G : Ghosts J} → Waiting (Judged J G) → Ty
 IsKeyed {J} {G} w = (n : ℕ) (x : Judged J G) → map.get w.held n ≡ Some x → x.seq ≡ n
 
 -- the packet whose turn it is was let go, where it was there
-abbrev pub LetsGo : {J : Type 0} {G : Ghosts J} → Waiting (Judged J G) → Waiting (Judged J G) → Option (List Buffer) → Type 0
-LetsGo {J} {G} old new result = (x : Judged J G) → map.get old.held old.next ≡ Some x → (result ≡ Some x.chain) × (new ≡ after_next old)
+abbrev pub LetsGo : {J : Type 0} {G : Ghosts J} → Waiting (Judged J G) → Waiting (Judged J G) → Option
+    (List Buffer) → Type 0
+LetsGo {J} {G} old new result = (x : Judged J G) → map.get old.held old.next ≡ Some x → (result ≡ Some x.chain)
+    × (new ≡ after_next old)

@@ -44,7 +44,8 @@ HasTexts contents before resolution outs next failed writers =
 abbrev pub HasBegun : {W : Type 0} → (W → Option (List ℕ)) → List (Option (List ℕ)) → Resolution
     → Option (List Fate) → Option ℕ → List (Writer W) → Type 0
 HasBegun contents before resolution outs failed writers =
-    (all : List Fate) (port : ℕ) → outs ≡ Some all → failed ≡ Some port → AreBegun contents before resolution all writers
+    (all : List Fate) (port : ℕ) → outs ≡ Some all → failed ≡ Some port → AreBegun contents before resolution
+    all writers
 
 -- the devices of the writers
 abbrev pub devices_of : {W : Type 0} → List (Writer W) → List (Counted W)
@@ -64,5 +65,6 @@ AreOutputs contents before resolution outs devices = (q : ℕ) (d : Counted _) (
 -- each device was told a beginning of that text
 abbrev pub AreBeginnings : {W : Type 0}
     → (W → Option (List ℕ)) → List (Option (List ℕ)) → Resolution → List Fate → List (Counted W) → Type 0
-AreBeginnings contents before resolution outs devices = (q : ℕ) (d : Counted _) (x : List ℕ) → slice_get devices q ≡ Some d
+AreBeginnings contents before resolution outs devices = (q : ℕ) (d : Counted _) (x : List ℕ) → slice_get devices
+    q ≡ Some d
     → slice_get before q ≡ Some (Some x) → IsBeginning (told contents d) (x ++ output_of resolution q outs)

@@ -28,7 +28,8 @@ module _ {T : Type 0} {G : Ghosts T} {N : ℕ} (tags : T → List ℕ) (f : Fabr
   -- a put of segments
   abbrev pub KeepsBack : Local T N G → Local T N G → List T → List T → RingFault → Type 0
   KeepsBack l m list rest e = (fault : PoolFault) × (fault ≡ pool.Worn ↔ e ≡ Worn)
-      × OnRing f (ring_of l) (λ plan. PutTells tags plan l m list (let r : Result (Unit {0}) PoolFault = Err fault in r) rest)
+      × OnRing f (ring_of l) (λ plan. PutTells tags plan l m list
+      (let r : Result (Unit {0}) PoolFault = Err fault in r) rest)
 
   -- the last of some puts of packets
   abbrev pub GivesUp : ℕ → Local T N G → List T → RingFault → Type 0

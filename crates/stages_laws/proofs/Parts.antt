@@ -9,8 +9,10 @@ use Rattle.counters.proofs.Counting.{counts_of-append}
 use Rattle.pcapio_laws.specs.Capture.{Packet}
 use Rattle.stages_laws.specs.Output.{Forwarding, Fate, fits, stamped, is_oversize, oversize, fate, fates, verdicts, records_at, tally_of}
 
-pub fates-append : (forwarding : Forwarding) (room : ℕ) (xs ys : List Packet) → fates forwarding room (xs ++ ys) ≡ fates forwarding room xs ++ fates forwarding room ys
-fates-append forwarding room xs ys = ap (map (fate forwarding)) (filter-append (fits room) xs ys) ∙ map-append (fate forwarding) (stamped room xs) (stamped room ys)
+pub fates-append : (forwarding : Forwarding) (room : ℕ) (xs ys : List Packet) → fates forwarding room (xs ++ ys) ≡ fates forwarding room xs ++ fates
+    forwarding room ys
+fates-append forwarding room xs ys = ap (map (fate forwarding)) (filter-append (fits room) xs ys) ∙ map-append (fate forwarding) (stamped room xs)
+    (stamped room ys)
 
 pub records-append : (q : ℕ) (xs ys : List Fate) → records_at q (xs ++ ys) ≡ records_at q xs ++ records_at q ys
 records-append q xs ys =

@@ -20,7 +20,8 @@ both false b here = absurd (search rules)
 
 no_signs : (digits : Bytes) → list_all is_digit digits ≡ true → All (λ b. (b == 43) ≡ false) digits
 no_signs [] all = search rules
-no_signs (digit ∷ digits) all = let parts = both (is_digit digit) (list_all is_digit digits) all in All-cons (λ b. (b == 43) ≡ false) digit digits (no_sign digit parts.0) (no_signs digits parts.1)
+no_signs (digit ∷ digits) all = let parts = both (is_digit digit) (list_all is_digit digits) all in All-cons (λ b. (b == 43) ≡ false) digit digits
+    (no_sign digit parts.0) (no_signs digits parts.1)
 
 -- a test that answers by a number is passed
 passed : (b : Bool) (m n : ℕ) → (if b then Some m else None) ≡ Some n → (b ≡ true) × (m ≡ n)

@@ -85,7 +85,7 @@ fn take_all(f: &Rings, hand: Hand<Ticket>, numbers: &[u32]) -> Result<Hand<Ticke
     requires rings { 2 < length (rings_of f.now) }
     ensures { IfOk result (λ h. IsHandOf f.now h) }
 {
-    let (answer, list) = ringapi::try_take_burst(f, hand, FIRST, 8);
+    let (answer, list) = ringapi::try_take_burst(f, hand, FIRST, 3);
     match answer {
         TakeAnswer::Done(hand, moved) if moved.left == 0 && shows(&list, numbers) => Ok(hand),
         _ => Err(Wrong("a take gives other items")),
@@ -187,13 +187,15 @@ fn peek<'f>(
     f: &'f Rings,
     hand: Hand<Ticket>,
     ring: usize,
+    n: usize,
+    how: How,
     numbers: &[u32],
 ) -> Result<PeekTake<'f, Ticket, MOST>, Wrong>
     requires hand { IsHandOf f.now hand }
     requires ring { ring < length (rings_of f.now) }
     ensures { IfOk result (λ p. take_fabric p.peek.span ≡ f.now) }
 {
-    let peek = peeked(f, hand, ring, 3, How::Burst)?;
+    let peek = peeked(f, hand, ring, n, how)?;
     if !shows(peek.items(), numbers) {
         return Err(Wrong("a peek shows other items"));
     }
@@ -232,7 +234,7 @@ fn peek_and_abort(
 {
     let _one = list.pop();
     let hand = give(f, hand, FIRST, list)?;
-    let open = peek(f, hand, FIRST, &[0])?;
+    let open = peek(f, hand, FIRST, 1, How::Bulk, &[0])?;
     marks.reach(BEGUN);
     marks.wait_for(MET)?;
     let hand = open.abort();
@@ -274,9 +276,10 @@ fn peek_in_parts(f: &Rings, hand: Hand<Ticket>, list: Items) -> Result<Hand<Tick
     ensures { IfOk result (λ h. IsHandOf f.now h) }
 {
     let hand = give(f, hand, SECOND, list)?;
-    let hand = finish(f, peek(f, hand, SECOND, &[0, 1, 2])?, 1, &[0])?;
-    let hand = peek(f, hand, SECOND, &[1, 2])?.abort();
-    finish(f, peek(f, hand, SECOND, &[1, 2])?, 2, &[1, 2])
+    let hand = finish(f, peek(f, hand, SECOND, 3, How::Bulk, &[0, 1, 2])?, 1, &[0])?;
+    let hand = peek(f, hand, SECOND, 3, How::Burst, &[1, 2])?.abort();
+    let again = peek(f, hand, SECOND, 3, How::Burst, &[1, 2])?;
+    finish(f, again, 2, &[1, 2])
 }
 
 /// Tries to put an item that is another hand's: it comes back, and the ring stays empty.

@@ -66,7 +66,8 @@ returns-in-Err-clause-told g c plan there =
     let poured = c.pour.ensures.moved ∙ ap (λ l. l ++ reverse cache) c.requires.empty in
     let first = c.pour.new.to in (
       taken,
-      subst (λ m. Refills g.T.Tagged.numbers g.row.N c.args.ring plan c.args.size (view c.args.hand) (c.args.n - m) (Err c.in-Err.refused) taken) c.len.ensures.value
+      subst (λ m. Refills g.T.Tagged.numbers g.row.N c.args.ring plan c.args.size (view c.args.hand) (c.args.n - m) (Err c.in-Err.refused) taken)
+          c.len.ensures.value
           (c.in-Err.ensures.told plan there),
       (
         c.pour-in-Err.ensures.left,

@@ -13,7 +13,8 @@ returns-in-Err-clause-told g c plan there =
       search rules,
       c.in-Err.hand,
       c.in-Err.field-0-1,
-      subst (λ l. Takes g.T.Tagged.numbers g.row.N c.args.ring plan (view c.args.hand) (c.args.missing + c.args.size) (Err (c.in-Err.hand, c.in-Err.field-0-1)) l) c.in-Err.ensures.back.1
+      subst (λ l. Takes g.T.Tagged.numbers g.row.N c.args.ring plan (view c.args.hand) (c.args.missing + c.args.size)
+          (Err (c.in-Err.hand, c.in-Err.field-0-1)) l) c.in-Err.ensures.back.1
           (c.in-Err.ensures.told plan there),
       c.ask.ensures.told plan there,
     )

@@ -38,7 +38,8 @@ returns-in-Ok-clause-told g c plan there =
 
 pub returns-in-Err-clause-told : goal.returns-in-Err-clause-told
 returns-in-Err-clause-told g c plan there =
-    subst (λ l. Spills g.T.Tagged.numbers g.row.N c.args.ring plan (view c.args.hand) l (Err c.in-Err.hand)) c.pour.ensures.left (c.in-Err.ensures.told plan there)
+    subst (λ l. Spills g.T.Tagged.numbers g.row.N c.args.ring plan (view c.args.hand) l (Err c.in-Err.hand)) c.pour.ensures.left
+    (c.in-Err.ensures.told plan there)
 
 -- the others come back behind what the put left
 back_behind : {T : Type 0} → (k : ℕ) (all front others later empty : List T) → empty ≡ [] → others ≡ empty ++ reverse (drop k all)

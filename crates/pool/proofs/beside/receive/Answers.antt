@@ -34,7 +34,8 @@ pub returns-in-Done-clause-told : goal.returns-in-Done-clause-told
 returns-in-Done-clause-told g c plan there =
     let is : view c.whole-hand.result ≡ view_of_keeper c.args.keeper = ap (λ s. s.me.0) (sym c.whole-hand.ensures) in (
       c.in-Done.hand,
-      subst (λ v. TakeHasTold {N = g.row.N} g.T.Tagged.numbers by_burst c.args.n c.args.ring plan v (Done c.in-Done.hand c.in-Done.moved) c.take_burst_into.new.into)
+      subst (λ v. TakeHasTold {N = g.row.N} g.T.Tagged.numbers by_burst c.args.n c.args.ring plan v (Done c.in-Done.hand c.in-Done.moved)
+          c.take_burst_into.new.into)
           is (c.in-Done.ensures.told plan there),
       ap (λ s. s.me.0) c.keep_back.ensures.seat,
     )
@@ -43,7 +44,8 @@ pub returns-in-Refused-clause-told : goal.returns-in-Refused-clause-told
 returns-in-Refused-clause-told g c plan there =
     let is : view c.whole-hand.result ≡ view_of_keeper c.args.keeper = ap (λ s. s.me.0) (sym c.whole-hand.ensures) in (
       c.in-Refused.hand,
-      subst (λ v. TakeHasTold {N = g.row.N} g.T.Tagged.numbers by_burst c.args.n c.args.ring plan v (Refused c.in-Refused.hand c.in-Refused.fault) c.take_burst_into.new.into)
+      subst (λ v. TakeHasTold {N = g.row.N} g.T.Tagged.numbers by_burst c.args.n c.args.ring plan v (Refused c.in-Refused.hand c.in-Refused.fault)
+          c.take_burst_into.new.into)
           is (c.in-Refused.ensures.told plan there),
       ap (λ s. s.me.0) c.keep_back-in-Refused.ensures.seat,
     )

@@ -66,7 +66,8 @@ returns-in-Done-clause-told g c plan there =
     let is : view c.whole-hand.result ≡ view_of_keeper c.args.keeper =
     ap (λ s. s.me.0) (sym c.whole-hand.ensures) ∙ ap (λ s. s.me.0) c.may_put.ensures.same.0 in (
       c.in-Done.hand,
-      subst (λ v. PutHasTold {N = g.row.N} g.T.Tagged.numbers by_burst c.args.ring plan v c.args.list.now (Done c.in-Done.hand c.in-Done.moved) c.put_own_burst_from.new.list)
+      subst (λ v. PutHasTold {N = g.row.N} g.T.Tagged.numbers by_burst c.args.ring plan v c.args.list.now (Done c.in-Done.hand c.in-Done.moved)
+          c.put_own_burst_from.new.list)
           is (c.in-Done.ensures.told plan there),
       ap (λ s. s.me.0) c.keep_back.ensures.seat,
     )

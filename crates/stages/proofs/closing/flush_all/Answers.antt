@@ -18,7 +18,8 @@ loop-i-preserved g c =
     record {
       many = search rules;
       told = one_told g.W.Write.contents i c.args.writers.now.items now was c.flush.new.self c.loop-i.invariant.told at c.in-Ok.ensures.ok;
-      works = fails_later c.args.writers.now.items now (slice_set now i c.flush.new.self) None c.loop-i.invariant.works (one_works now i was c.flush.new.self at c.in-Ok.ensures.worked);
+      works = fails_later c.args.writers.now.items now (slice_set now i c.flush.new.self) None c.loop-i.invariant.works
+          (one_works now i was c.flush.new.self at c.in-Ok.ensures.worked);
     }
 
 pub returns-in-Err-clause-cut : goal.returns-in-Err-clause-cut

@@ -26,7 +26,8 @@ returns-clause-outputs g c =
           let one : ((all : List Fate) → fates_of g.J.Run.forwarding g.J.Run.room g.J.Run.input ≡ Some all → c.next-next.result ≡ length all)
           → (all : List Fate) → fates_of g.J.Run.forwarding g.J.Run.room g.J.Run.input ≡ Some all
           → AreOutputs g.W.Write.contents g.J.Run.before g.J.Run.resolution all c.close-devices.result.0.items =
-          λ many all known. outputs g.W.Write.contents g.J.Run.before g.J.Run.resolution all sink.window.next sink.outputs.writers.items c.close-devices.result.0.items
+          λ many all known. outputs g.W.Write.contents g.J.Run.before g.J.Run.resolution all sink.window.next sink.outputs.writers.items
+          c.close-devices.result.0.items
           (sink.texts all known told.0) told.1 (take_all sink.window.next all (omega (arith, many all known, c.next-next.ensures))) in
           rw w.told-is (on_ok w.summed-told.result one w.summed-told.ensures.all)
     ]
@@ -43,10 +44,12 @@ returns-clause-begun g c all known =
         begun_before g.W.Write.contents g.J.Run.before g.J.Run.resolution all c.args.sink.outputs.writers.items c.close-devices.result.0.items
         (c.args.sink.begun all p known was) (c.close-devices.ensures.still p was).1
     at None was (Some p) is =
-        begun_texts g.W.Write.contents g.J.Run.before g.J.Run.resolution all c.args.sink.window.next c.args.sink.outputs.writers.items c.close-devices.result.0.items
+        begun_texts g.W.Write.contents g.J.Run.before g.J.Run.resolution all c.args.sink.window.next c.args.sink.outputs.writers.items
+        c.close-devices.result.0.items
         (c.args.sink.texts all known was) (c.close-devices.ensures.cut was p is)
     at None was None is =
-        told_begun g.W.Write.contents g.J.Run.before g.J.Run.resolution all c.args.sink.window.next c.args.sink.outputs.writers.items c.close-devices.result.0.items
+        told_begun g.W.Write.contents g.J.Run.before g.J.Run.resolution all c.args.sink.window.next c.args.sink.outputs.writers.items
+        c.close-devices.result.0.items
         (c.args.sink.texts all known was) (c.close-devices.ensures.told is).1
 
 pub returns-clause-why : goal.returns-clause-why
@@ -55,16 +58,20 @@ returns-clause-why g c =
       | in-Some-Ok w ↦ rw w.told-is (failed_at w.in-Some-Ok.port w.in-Some-Ok.is-0)
       | in-Some-Err w ↦
           rw w.told-is (subst (WhyFaulted g.J.Run.failures c.args.sink.window.next c.args.stamped c.close-devices.result.0.items) (sym w.lowest.ensures)
-          (subst (λ s. WhyFaulted g.J.Run.failures c.args.sink.window.next s c.close-devices.result.0.items (lowest_of w.in-Some-Err.port w.in-Some-Err.fault)) (sym w.in-Some-Err.is-1)
+          (subst (λ s. WhyFaulted g.J.Run.failures c.args.sink.window.next s c.close-devices.result.0.items
+          (lowest_of w.in-Some-Err.port w.in-Some-Err.fault)) (sym w.in-Some-Err.is-1)
           (why_lowest g.J.Run g.J.Run.failures c.args.sink.window.next c.close-devices.result.0.items w.in-Some-Err.port w.in-Some-Err.fault
           (failed_at w.in-Some-Err.port w.in-Some-Err.is-0))))
       | in-None-Err w ↦
-          rw w.told-is (subst (λ s. WhyFaulted g.J.Run.failures c.args.sink.window.next s c.close-devices.result.0.items w.in-None-Err.fault) (sym w.in-None-Err.is-1)
+          rw w.told-is (subst (λ s. WhyFaulted g.J.Run.failures c.args.sink.window.next s c.close-devices.result.0.items w.in-None-Err.fault)
+          (sym w.in-None-Err.is-1)
           (why_reason g.J.Run g.J.Run.failures c.args.sink.window.next c.close-devices.result.0.items w.in-None-Err.fault
           (λ p is. absurd (cc (sym w.in-None-Err.is-0 ∙ (c.close-devices.ensures.still p (c.requires.failed p (w.in-None-Err.is-1 ∙ ap Err is))).0)))))
       | in-None-Ok w ↦
-          rw w.told-is (subst (λ s. IfErr w.summed-told.result (WhyFaulted g.J.Run.failures c.args.sink.window.next s c.close-devices.result.0.items)) (sym w.in-None-Ok.is-1)
-          (if_err w.summed-told.result (λ fault because. why_window g.J.Run g.J.Run.failures c.args.sink.window.next c.close-devices.result.0.items w.in-None-Ok.stamped fault
+          rw w.told-is (subst (λ s. IfErr w.summed-told.result (WhyFaulted g.J.Run.failures c.args.sink.window.next s c.close-devices.result.0.items))
+          (sym w.in-None-Ok.is-1)
+          (if_err w.summed-told.result (λ fault because. why_window g.J.Run g.J.Run.failures c.args.sink.window.next c.close-devices.result.0.items
+          w.in-None-Ok.stamped fault
           because.0 (subst (λ n. n ≢ w.in-None-Ok.stamped.count) c.next-next.ensures because.1)) w.summed-told.ensures.why))
     ]
   where
@@ -75,7 +82,8 @@ returns-clause-why g c =
     once (Some p) was =
         let s = c.close-devices.ensures.still p was in
         subst (λ f. FailedOnce g.J.Run.failures f c.close-devices.result.0.items) (sym s.0)
-        (subst (FailedOnce g.J.Run.failures (Some p)) (sym s.1) (subst (λ f. FailedOnce g.J.Run.failures f (devices_of c.args.sink.outputs.writers.items)) was c.args.sink.failures))
+        (subst (FailedOnce g.J.Run.failures (Some p)) (sym s.1) (subst
+        (λ f. FailedOnce g.J.Run.failures f (devices_of c.args.sink.outputs.writers.items)) was c.args.sink.failures))
 
     failed_at : (p : ℕ) → c.close-devices.result.1 ≡ Some p → FailedAt g.J.Run.failures p c.close-devices.result.0.items
     failed_at p is = (

@@ -17,7 +17,12 @@ returns-clause-all g c all known =
 pub returns-clause-counts : goal.returns-clause-counts
 returns-clause-counts g c i known =
     let all = fates g.J.Run.forwarding g.J.Run.room i.packets in
-    let outs : fates_of g.J.Run.forwarding g.J.Run.room g.J.Run.input ≡ Some all = ap (option_map (λ j. fates g.J.Run.forwarding g.J.Run.room j.packets)) known in
-    let whole : take c.args.next all ≡ all = take_all c.args.next all (omega (arith, c.if-next-stamped.false, c.args.stamped.all i known, length-map (stamped g.J.Run.room i.packets) (fate g.J.Run.forwarding))) in
-    let one = c.requires.counted all outs ∙ ap (λ l. counts_of (length g.J.Run.before) 0 (verdicts l)) whole in
-    (c.gather.ensures ∙ ((λ k. plus (one k) (c.args.stamped.over i known k)) ∙ gathered_shares (length g.J.Run.before) (verdicts all) (oversize g.J.Run.room i.packets)), c.args.stamped.end i known)
+    let outs : fates_of g.J.Run.forwarding g.J.Run.room g.J.Run.input ≡ Some all = ap
+    (option_map (λ j. fates g.J.Run.forwarding g.J.Run.room j.packets)) known in
+    let whole : take c.args.next all ≡ all = take_all c.args.next all
+    (omega (arith, c.if-next-stamped.false, c.args.stamped.all i known, length-map (stamped g.J.Run.room i.packets) (fate g.J.Run.forwarding))) in
+    let one = c.requires.counted all outs ∙ ap (λ l. counts_of (length g.J.Run.before) 0 (verdicts l)) whole in (
+      c.gather.ensures ∙ ((λ k. plus (one k) (c.args.stamped.over i known k)) ∙ gathered_shares (length g.J.Run.before) (verdicts all)
+          (oversize g.J.Run.room i.packets)),
+      c.args.stamped.end i known,
+    )

@@ -22,12 +22,14 @@ loop-turn-init g c =
 
 pub returns-in-Err : goal.returns-in-Err
 returns-in-Err g c = record {
-  why = unfed_since g.J.Run.input c.args.reader.now c.loop-turn.reader c.look.new.reader c.in-Err.fault c.loop-turn.invariant.no_read_failed c.in-Err.ensures.why;
+  why = unfed_since g.J.Run.input c.args.reader.now c.loop-turn.reader c.look.new.reader c.in-Err.fault c.loop-turn.invariant.no_read_failed
+      c.in-Err.ensures.why;
 }
 
 pub returns-in-Err-obtain : goal.returns-in-Err-obtain
 returns-in-Err-obtain g c = record {
-  why = subst (WhyUnfed g.J.Run.input c.args.reader.now c.look.new.reader) (sym c.told.ensures) (unfed_by_ring g.J.Run.input c.args.reader.now c.look.new.reader c.in-Err-obtain.ring);
+  why = subst (WhyUnfed g.J.Run.input c.args.reader.now c.look.new.reader) (sym c.told.ensures)
+      (unfed_by_ring g.J.Run.input c.args.reader.now c.look.new.reader c.in-Err-obtain.ring);
 }
 
 pub returns-in-Err-read_record : goal.returns-in-Err-read_record

@@ -6,7 +6,8 @@ use Rattle.stages.proofs.longest.longest_chain.Goals as goal
 pub loop-before-init : goal.loop-before-init
 loop-before-init c =
     let n = length c.pop.new.self.items in
-    let m = last-made c.args.headroom c.min-size.result c.segments_for-count.result c.pop.new.self.items c.in-Some.whole (sym c.in-Some.ensures.items ∙ c.in_ok-list.ensures.made) in
+    let m = last-made c.args.headroom c.min-size.result c.segments_for-count.result c.pop.new.self.items c.in-Some.whole
+    (sym c.in-Some.ensures.items ∙ c.in_ok-list.ensures.made) in
     let e : 1 ≡ c.segments_for-count.result - n = omega (arith, m.0) in
     record { list = m.1; fewer = omega (arith, m.0); whole = m.2 ∙ ap (row c.args.headroom c.min-size.result n) e }
 
@@ -14,8 +15,12 @@ pub chain-requires : goal.chain-requires
 chain-requires c =
     let i = c.loop-before.invariant in
     let items = c.pop-in-loop-before.new.self.items in
-    let m = last-made c.args.headroom c.min-size.result (length c.loop-before.list.items) items c.in-Some-pop.before (sym c.in-Some-pop.ensures.items ∙ i.list) in
-    record { apart = joined-apart c.args.headroom c.min-size.result (length items) (length c.loop-before.list.items) c.segments_for-count.result c.in-Some-pop.before c.loop-before.whole m.0 i.fewer m.2 i.whole }
+    let m = last-made c.args.headroom c.min-size.result (length c.loop-before.list.items) items c.in-Some-pop.before
+    (sym c.in-Some-pop.ensures.items ∙ i.list) in
+    record {
+      apart = joined-apart c.args.headroom c.min-size.result (length items) (length c.loop-before.list.items) c.segments_for-count.result
+          c.in-Some-pop.before c.loop-before.whole m.0 i.fewer m.2 i.whole;
+    }
 
 pub loop-before-smaller : goal.loop-before-smaller
 loop-before-smaller c =
@@ -25,7 +30,8 @@ pub loop-before-preserved : goal.loop-before-preserved
 loop-before-preserved c =
     let i = c.loop-before.invariant in
     let items = c.pop-in-loop-before.new.self.items in
-    let m = last-made c.args.headroom c.min-size.result (length c.loop-before.list.items) items c.in-Some-pop.before (sym c.in-Some-pop.ensures.items ∙ i.list) in
+    let m = last-made c.args.headroom c.min-size.result (length c.loop-before.list.items) items c.in-Some-pop.before
+    (sym c.in-Some-pop.ensures.items ∙ i.list) in
     record {
       list = m.1;
       fewer = omega (arith, m.0, i.fewer);
@@ -37,7 +43,8 @@ pub unreachable-requires-in-Err : goal.unreachable-requires-in-Err
 unreachable-requires-in-Err c =
     let i = c.loop-before.invariant in
     let items = c.pop-in-loop-before.new.self.items in
-    let m = last-made c.args.headroom c.min-size.result (length c.loop-before.list.items) items c.in-Some-pop.before (sym c.in-Some-pop.ensures.items ∙ i.list) in
+    let m = last-made c.args.headroom c.min-size.result (length c.loop-before.list.items) items c.in-Some-pop.before
+    (sym c.in-Some-pop.ensures.items ∙ i.list) in
     let many : 64 < length c.in-Some-pop.before + length c.loop-before.whole = c.in-Err.ensures.refused.0 refl in
     absurd (omega (
       arith,
@@ -59,6 +66,7 @@ returns c =
     let none : length c.loop-before.list.items ≡ 0 = omega (arith, c.in_default-pop.ensures.cases.0, c.loop-before.list.ok.0) in
     let many : count - length c.loop-before.list.items ≡ count = omega (arith, none) in
     let space : space_of c.loop-before.whole ≡ count * size =
-    ap space_of i.whole ∙ (row-space c.args.headroom size (length c.loop-before.list.items) (count - length c.loop-before.list.items) ∙ ap (λ k. k * size) many) in
+    ap space_of i.whole ∙ (row-space c.args.headroom size (length c.loop-before.list.items) (count - length c.loop-before.list.items) ∙ ap
+    (λ k. k * size) many) in
     let same : count * size ≡ count * min c.min-longest.result 65536 = ap (λ k. count * k) c.min-size.ensures in
     omega (arith, space, same, c.segments_for-count.ensures.enough, c.min-longest.ensures)

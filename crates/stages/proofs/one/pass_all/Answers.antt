@@ -48,7 +48,8 @@ loop-turn-preserved g c =
     let told = subst (Looks g.R.Read.remaining g.J.Run.input g.J.Run.room (length g.J.Run.before) c.look.new.reader c.loop-turn.progress c.look.new.progress)
     c.in-Ok-Record.field-0-is c.in-Ok-Record.ensures.told in
     let at = c.in-Ok-Some in
-    let found = some-so _ at.packet (λ packet. (packet.seq ≡ c.look.new.progress.count) × HasSameSegments packet.chain c.loop-turn.chain) at.field-0-is at.ensures.packet in
+    let found = some-so _ at.packet (λ packet. (packet.seq ≡ c.look.new.progress.count) × HasSameSegments packet.chain c.loop-turn.chain) at.field-0-is
+    at.ensures.packet in
     let count = on_some _ at.packet at.field-0-is at.ensures.count in
     let before = ap (λ p. p.count) told.1 in
     record {

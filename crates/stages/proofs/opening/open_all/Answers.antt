@@ -14,15 +14,21 @@ use Rattle.stages.proofs.opening.open_all.Goals as goal
 pub loop-device-preserved : goal.loop-device-preserved
 loop-device-preserved g c =
     let i = c.loop-device.invariant in
-    let P = λ (w : Writer g.row.W.Denot). Appends (told g.W.Write.contents (sink_of w)) (text g.W.Write.contents w) (file_header c.args.resolution) × (fault_of w ≡ None) in
+    let P = λ (w : Writer g.row.W.Denot). Appends (told g.W.Write.contents (sink_of w)) (text g.W.Write.contents w) (file_header c.args.resolution) ×
+    (fault_of w ≡ None) in
     let writer = c.in-Ok.writer in
     let device = c.in-Some.device in
     let popped : c.loop-device.devices.items ≡ c.pop.new.self.items ++ device ∷ [] =
     c.pop.ensures.items ∙ ap (λ o. c.pop.new.self.items ++ option_to_list o) c.in-Some.is in
-    let here : P writer = (subst (λ (d : Counted g.row.W.Denot). Appends (told g.W.Write.contents d) (text g.W.Write.contents writer) (file_header c.args.resolution)) (sym c.in-Ok.ensures.device) c.in-Ok.ensures.text, c.in-Ok.ensures.begins) in
+    let here : P writer = (
+      subst (λ (d : Counted g.row.W.Denot). Appends (told g.W.Write.contents d) (text g.W.Write.contents writer)
+          (file_header c.args.resolution)) (sym c.in-Ok.ensures.device) c.in-Ok.ensures.text,
+      c.in-Ok.ensures.begins,
+    ) in
     record {
       all = ap (λ l. c.pop.new.self.items ++ reverse (devices_of l)) c.push_reserved.ensures.items
-          ∙ handed_on sink_of c.loop-device.devices.items c.pop.new.self.items c.args.devices.items device c.loop-device.writers.items writer i.all popped c.in-Ok.ensures.device;
+          ∙ handed_on sink_of c.loop-device.devices.items c.pop.new.self.items c.args.devices.items device c.loop-device.writers.items writer i.all
+          popped c.in-Ok.ensures.device;
       fresh = subst (AreFresh g.W.Write.contents c.args.resolution) (sym c.push_reserved.ensures.items)
           (each_append P c.loop-device.writers.items (writer ∷ []) i.fresh (each_alone P writer here));
       room = search rules;
@@ -32,7 +38,8 @@ loop-device-preserved g c =
 pub invariant_of-result : goal.invariant_of-result
 invariant_of-result g c =
     record {
-      well = λ well q w got. each_reverse (λ (v : Writer g.row.W.Denot). fault_of v ≡ None) c.loop-device.writers.items (λ n v is. (c.loop-device.invariant.fresh n v is).1) q w
+      well = λ well q w got. each_reverse (λ (v : Writer g.row.W.Denot). fault_of v ≡ None) c.loop-device.writers.items
+          (λ n v is. (c.loop-device.invariant.fresh n v is).1) q w
           (ap (λ l. slice_get l q) (sym c.reverse.ensures.items) ∙ got);
       port = λ p bad. absurd (cc bad);
     }
@@ -48,5 +55,6 @@ returns-clause-devices g c =
 
 pub returns-clause-fresh : goal.returns-clause-fresh
 returns-clause-fresh g c q w got =
-    let P = λ (w : Writer g.row.W.Denot). Appends (told g.W.Write.contents (sink_of w)) (text g.W.Write.contents w) (file_header c.args.resolution) × (fault_of w ≡ None) in
+    let P = λ (w : Writer g.row.W.Denot). Appends (told g.W.Write.contents (sink_of w)) (text g.W.Write.contents w) (file_header c.args.resolution) ×
+    (fault_of w ≡ None) in
     each_reverse P c.loop-device.writers.items c.loop-device.invariant.fresh q w (ap (λ l. slice_get l q) (sym c.reverse.ensures.items) ∙ got)

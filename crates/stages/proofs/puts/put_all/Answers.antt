@@ -50,7 +50,8 @@ returns-then-not-wants_room-clause-refused g c =
     let known = ring_at (rings_of c.args.f.now) c.args.ring c.requires.ring in
     let some : 0 < length c.loop.list = search rules in (
       c.in-Refused.ensures.made,
-      refused_worn g.T.Tagged.numbers g.row.N by_burst c.args.ring known.0 (view c.loop.hand) c.in-Refused.back c.in-Refused.refusal c.loop.list c.put_own_burst_from.new.list
+      refused_worn g.T.Tagged.numbers g.row.N by_burst c.args.ring known.0 (view c.loop.hand) c.in-Refused.back c.in-Refused.refusal c.loop.list
+          c.put_own_burst_from.new.list
           (c.in-Refused.ensures.told known.0 known.1) c.in-Refused.ensures.settled c.in-Refused.ensures.finished (c.wants_room.ensures (search rules)) some
           (omega (arith, c.len.ensures.value, c.len.ensures.fits)) c.loop.hand.share.well (i.yours known.0 known.1),
     )

@@ -21,7 +21,8 @@ invariant_of-packet g c =
     let body : TakesBody g.R.Read.remaining c.args.reader.now c.body.new.self (bytes_of c.body.new.chain) = search rules in
     let takes : (length packet.bytes ≡ head.captured) × Takes g.R.Read.remaining c.args.reader.now c.body.new.self packet =
     some-so (pending_of c.args.reader.now) head
-    (λ h. (length (bytes_of c.body.new.chain) ≡ h.captured) × Takes g.R.Read.remaining c.args.reader.now c.body.new.self (packet_of h (bytes_of c.body.new.chain)))
+    (λ h. (length (bytes_of c.body.new.chain) ≡ h.captured) × Takes g.R.Read.remaining c.args.reader.now c.body.new.self
+    (packet_of h (bytes_of c.body.new.chain)))
     (ap head_of c.requires.pending) body in
     record {
       is = read_is g.R.Read.remaining g.J.Run.input g.J.Run.room (length g.J.Run.before) c.args.reader.now c.body.new.self c.args.progress.now packet
@@ -36,7 +37,8 @@ returns-clause-read g c =
     let body : TakesBody g.R.Read.remaining c.args.reader.now c.body.new.self (bytes_of c.body.new.chain) = search rules in
     let takes : (length packet.bytes ≡ head.captured) × Takes g.R.Read.remaining c.args.reader.now c.body.new.self packet =
     some-so (pending_of c.args.reader.now) head
-    (λ h. (length (bytes_of c.body.new.chain) ≡ h.captured) × Takes g.R.Read.remaining c.args.reader.now c.body.new.self (packet_of h (bytes_of c.body.new.chain)))
+    (λ h. (length (bytes_of c.body.new.chain) ≡ h.captured) × Takes g.R.Read.remaining c.args.reader.now c.body.new.self
+    (packet_of h (bytes_of c.body.new.chain)))
     (ap head_of c.requires.pending) body in
     read_one g.R.Read.remaining g.J.Run.input g.J.Run.room (length g.J.Run.before) c.args.reader.now c.body.new.self c.args.progress.now _ packet
     c.requires.read c.body.ensures.file.0 takes.1 (omega (arith, takes.0, c.requires.fits)) refl refl

@@ -58,5 +58,6 @@ returns-in-Ok-open_all-clause-why g c =
     if_err c.run_opened.result.2
     (λ fault why. why_whole (order_of c.in-Ok.reader) (resolution_of c.in-Ok.reader) g.R.Read.remaining (rest g.R.Read.remaining c.in-Ok.reader)
     (map failures_of (devices_of c.in-Ok-open_all.outputs.writers.items)) c.args.reader c.run_opened.result.0 c.in-Ok.reader c.args.writers.items
-    c.run_opened.result.1.items fault c.in-Ok.ensures.header c.in-Ok.ensures.rest c.in-Ok.ensures.well (ap (map failures_of) c.in-Ok-open_all.ensures.devices) why)
+    c.run_opened.result.1.items fault c.in-Ok.ensures.header c.in-Ok.ensures.rest c.in-Ok.ensures.well
+    (ap (map failures_of) c.in-Ok-open_all.ensures.devices) why)
     c.run_opened.ensures.why

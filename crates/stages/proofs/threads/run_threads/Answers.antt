@@ -56,7 +56,8 @@ returns-in-Ok-open_all-clause-why g c =
     if_err c.run_started.result.2
     (λ fault why. why_of_threads (order_of c.in-Ok.reader) (resolution_of c.in-Ok.reader) g.R.Read.remaining (rest g.R.Read.remaining c.in-Ok.reader)
     (map failures_of (devices_of c.in-Ok-open_all.outputs.writers.items)) c.args.reader c.run_started.result.0 c.in-Ok.reader c.args.writers.items
-    c.run_started.result.1.items fault c.in-Ok.ensures.header c.in-Ok.ensures.rest c.in-Ok.ensures.well (ap (map failures_of) c.in-Ok-open_all.ensures.devices) why)
+    c.run_started.result.1.items fault c.in-Ok.ensures.header c.in-Ok.ensures.rest c.in-Ok.ensures.well
+    (ap (map failures_of) c.in-Ok-open_all.ensures.devices) why)
     c.run_started.ensures.why
 
 pub returns-in-Err-clause-why : goal.returns-in-Err-clause-why

@@ -56,7 +56,8 @@ returns-in-Err-default-Worn-clause-worn g c =
     let r = e.ensures.refused in
     let why = r.2 known.0 known.1 in (
       r.0,
-      worn_at packet_numbers 256 by_burst c.args.burst 1 Take known.0 (rings_of c.args.f.now) (view c.loop.hand) (view e.back) e.field-0-1 why.0 why.1 r.0.1 known.1 e.field-0-1-is,
+      worn_at packet_numbers 256 by_burst c.args.burst 1 Take known.0 (rings_of c.args.f.now) (view c.loop.hand) (view e.back) e.field-0-1 why.0 why.1
+          r.0.1 known.1 e.field-0-1-is,
     )
 
 pub loop-preserved : goal.loop-preserved
@@ -68,6 +69,7 @@ loop-preserved g c =
       iterator = (tt, tt);
       hand = r.0;
       into = r.1;
-      party = (refused_kept packet_numbers 256 by_burst c.args.burst 1 Take known.0 (view c.loop.hand) (view c.in-Err.back) c.in-Err.field-0-1 (r.2 known.0 known.1).0).party
+      party = (refused_kept packet_numbers 256 by_burst c.args.burst 1 Take known.0 (view c.loop.hand) (view c.in-Err.back) c.in-Err.field-0-1
+          (r.2 known.0 known.1).0).party
           ∙ c.loop.invariant.party;
     }

@@ -37,7 +37,8 @@ invariant_of-self g c =
     let back = c.keep_back in
     record {
       here = refl;
-      free = free_at f back.result l.ring (keeper_from f c.in-Ok.hand back.result back.ensures.seat c.in-Ok.ensures.kept.0) (free_of f l.hand k l.ring was c.requires.local l.free);
+      free = free_at f back.result l.ring (keeper_from f c.in-Ok.hand back.result back.ensures.seat c.in-Ok.ensures.kept.0)
+          (free_of f l.hand k l.ring was c.requires.local l.free);
       small = l.small;
       room = l.room;
       within = omega (arith, ap length c.in-Ok.ensures.kept.1);
@@ -67,7 +68,8 @@ invariant_of-self-in-Err g c =
     let back = c.keep_back-in-Err in
     record {
       here = refl;
-      free = free_at f back.result l.ring (keeper_from f c.in-Err.hand back.result back.ensures.seat c.in-Err.ensures.same.0) (free_of f l.hand k l.ring was c.requires.local l.free);
+      free = free_at f back.result l.ring (keeper_from f c.in-Err.hand back.result back.ensures.seat c.in-Err.ensures.same.0)
+          (free_of f l.hand k l.ring was c.requires.local l.free);
       small = l.small;
       room = l.room;
       within = omega (arith, ap length c.in-Err.ensures.same.1, l.within);
@@ -82,7 +84,8 @@ returns-in-Ok-clause-told g c plan there =
     let k = c.in-Some.keeper in
     let was : l.hand ≡ Some k = search rules in (
       c.in-Ok.hand,
-      subst (λ v. Flushes tags g.row.N l.ring plan v l.cache (Ok c.in-Ok.hand) c.empty.new.cache) (view_at tags l.hand k c.whole-hand.result was c.whole-hand.ensures)
+      subst (λ v. Flushes tags g.row.N l.ring plan v l.cache (Ok c.in-Ok.hand) c.empty.new.cache)
+          (view_at tags l.hand k c.whole-hand.result was c.whole-hand.ensures)
           (c.in-Ok.ensures.told plan there),
       ap (λ s. s.me.0) c.keep_back.ensures.seat,
     )
@@ -95,7 +98,8 @@ returns-in-Err-clause-told g c plan there =
     let was : l.hand ≡ Some k = search rules in (
       refl,
       c.in-Err.hand,
-      subst (λ v. Flushes tags g.row.N l.ring plan v l.cache (Err c.in-Err.hand) c.empty.new.cache) (view_at tags l.hand k c.whole-hand.result was c.whole-hand.ensures)
+      subst (λ v. Flushes tags g.row.N l.ring plan v l.cache (Err c.in-Err.hand) c.empty.new.cache)
+          (view_at tags l.hand k c.whole-hand.result was c.whole-hand.ensures)
           (c.in-Err.ensures.told plan there),
       ap (λ s. s.me.0) c.keep_back-in-Err.ensures.seat,
     )

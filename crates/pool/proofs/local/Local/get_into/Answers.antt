@@ -57,12 +57,14 @@ invariant_of-self g c =
     let back = c.keep_back in
     record {
       here = refl;
-      free = free_at f back.result l.ring (keeper_from f c.in-Ok.hand back.result back.ensures.seat c.in-Ok.ensures.kept) (free_of f l.hand k l.ring was c.requires.local l.free);
+      free = free_at f back.result l.ring (keeper_from f c.in-Ok.hand back.result back.ensures.seat c.in-Ok.ensures.kept)
+          (free_of f l.hand k l.ring was c.requires.local l.free);
       small = l.small;
       room = l.room;
       within = omega (arith, c.in-Ok.ensures.within);
       kept = back.ensures.kept;
-      single = (later_own tags (view c.in-Ok.hand) c.fetch.new.into c.fetch.new.cache (c.in-Ok.ensures.own (hand_own tags l.hand k c.whole-hand.result l.cache was c.whole-hand.ensures l.kept l.single))).1;
+      single = (later_own tags (view c.in-Ok.hand) c.fetch.new.into c.fetch.new.cache
+          (c.in-Ok.ensures.own (hand_own tags l.hand k c.whole-hand.result l.cache was c.whole-hand.ensures l.kept l.single))).1;
     }
 
 pub invariant_of-self-in-Err : goal.invariant_of-self-in-Err
@@ -75,7 +77,8 @@ invariant_of-self-in-Err g c =
     let back = c.keep_back-in-Err in
     record {
       here = refl;
-      free = free_at f back.result l.ring (keeper_from f c.in-Err.hand back.result back.ensures.seat c.in-Err.ensures.same.0) (free_of f l.hand k l.ring was c.requires.local l.free);
+      free = free_at f back.result l.ring (keeper_from f c.in-Err.hand back.result back.ensures.seat c.in-Err.ensures.same.0)
+          (free_of f l.hand k l.ring was c.requires.local l.free);
       small = l.small;
       room = l.room;
       within = omega (arith, ap length c.in-Err.ensures.same.1, l.within);

@@ -67,7 +67,8 @@ invariant_of-result g c =
     record {
       here = refl;
       free = subst (λ (v : View g.row.T.Denot). IsFreeRing v.plans c.args.ring)
-          (ap (λ s. s.me.0) (sym c.keeper-keeper.ensures.seat) ∙ sym (same_view tags c.keeper-keeper.result c.keep.new.self c.keep.ensures.same)) c.requires.free;
+          (ap (λ s. s.me.0) (sym c.keeper-keeper.ensures.seat) ∙ sym (same_view tags c.keeper-keeper.result c.keep.new.self c.keep.ensures.same))
+          c.requires.free;
       small = fits.0;
       room = fits.1;
       within = omega (arith, c.if-len-size.false, c.len.ensures.value);

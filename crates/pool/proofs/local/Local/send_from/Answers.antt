@@ -9,7 +9,13 @@ send-keeper-requires g c =
     let k = c.in-Some.keeper in
     let was : l.hand ≡ Some k = search rules in (
       search rules,
-      (search rules, (mine_of c.args.f.now l.hand k was c.requires.local, (c.requires.ring, (keeps_of g.T.Tagged.numbers l.hand k l.cache was l.kept, l.single)))),
+      (
+        search rules,
+        (
+          mine_of c.args.f.now l.hand k was c.requires.local,
+          (c.requires.ring, (keeps_of g.T.Tagged.numbers l.hand k l.cache was l.kept, l.single)),
+        ),
+      ),
     )
 
 pub invariant_of-self : goal.invariant_of-self
@@ -33,5 +39,6 @@ returns-clause-told g c plan there =
     let l = c.args.self.now in
     let k = c.in-Some.keeper in
     let was : l.hand ≡ Some k = search rules in
-    subst (λ o. Sends g.T.Tagged.numbers g.row.N c.args.ring plan o (Some c.send-keeper.result.0) l.cache c.args.list.now c.send-keeper.result.1 c.send-keeper.new.list) (sym was)
+    subst (λ o. Sends g.T.Tagged.numbers g.row.N c.args.ring plan o (Some c.send-keeper.result.0) l.cache c.args.list.now c.send-keeper.result.1
+    c.send-keeper.new.list) (sym was)
     (c.send-keeper.ensures.told plan there)

@@ -20,7 +20,8 @@ invariant_of-result g c =
           (c.forward-verdict.ensures.verdict ∙ ap (λ f. (f bytes x.wire).verdict) c.requires.rules)
           (λ k. record { seconds = x.seconds; fraction = x.fraction; wire = x.wire; bytes = frame k });
       port = subst (HasPort (length g.J.Run.before)) (sym c.forward-verdict.ensures.verdict)
-          (subst (λ n. HasPort n (forwarded c.args.table.now.members c.args.ports.now bytes x.wire).verdict) many (sent_by_a_port c.args.table.now.members c.args.ports.now bytes x.wire));
+          (subst (λ n. HasPort n (forwarded c.args.table.now.members c.args.ports.now bytes x.wire).verdict) many
+          (sent_by_a_port c.args.table.now.members c.args.ports.now bytes x.wire));
     }
 
 pub returns-clause-judged : goal.returns-clause-judged

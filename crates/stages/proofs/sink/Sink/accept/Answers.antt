@@ -17,7 +17,8 @@ invariant_of-self g c =
       bounded = subst (λ n. records_of sink.counts ≤ n) (sym a.1) sink.bounded;
       ports = sink.ports;
       many = sink.many;
-      texts = subst (λ n. HasTexts g.W.Write.contents g.J.Run.before g.J.Run.resolution outs n sink.outputs.failed sink.outputs.writers.items) (sym a.1) sink.texts;
+      texts = subst (λ n. HasTexts g.W.Write.contents g.J.Run.before g.J.Run.resolution outs n sink.outputs.failed sink.outputs.writers.items) (sym a.1)
+          sink.texts;
       begun = sink.begun;
       failures = sink.failures;
     }

@@ -35,15 +35,20 @@ invariant_of-self-2 g c =
       keyed = λ n y is. all_next (λ k z. z.seq ≡ k) sink.window sink.keyed n y (subst (λ w. map.get w.held n ≡ Some y) after is);
       counted = subst (λ n. IsTally outs (length g.J.Run.before) n c.add.new.self) (sym further)
           (tally_turn outs (length g.J.Run.before) sink.window.next o sink.counts c.add.new.self here sink.counted
-          (subst (λ n. (oversize : ℕ) (vs : List Verdict) → sink.counts ≡ counts_of n oversize vs → c.add.new.self ≡ counts_of n oversize (vs ++ x.verdict ∷ [])) sink.ports c.add.ensures.counted));
+          (subst (λ n. (oversize : ℕ) (vs : List Verdict) → sink.counts ≡ counts_of n oversize vs → c.add.new.self ≡ counts_of n oversize
+          (vs ++ x.verdict ∷ [])) sink.ports c.add.ensures.counted));
       bounded = search rules;
       ports = search rules;
       many = c.pass.ensures.many ∙ sink.many;
-      texts = subst (λ n. HasTexts g.W.Write.contents g.J.Run.before g.J.Run.resolution outs n c.pass.new.self.failed c.pass.new.self.writers.items) (sym further)
-          (texts_turn g.W.Write.contents g.J.Run.before g.J.Run.resolution outs sink.window.next o sink.outputs.failed c.pass.new.self.failed sink.outputs.writers.items c.pass.new.self.writers.items
+      texts = subst (λ n. HasTexts g.W.Write.contents g.J.Run.before g.J.Run.resolution outs n c.pass.new.self.failed c.pass.new.self.writers.items)
+          (sym further)
+          (texts_turn g.W.Write.contents g.J.Run.before g.J.Run.resolution outs sink.window.next o sink.outputs.failed c.pass.new.self.failed
+          sink.outputs.writers.items c.pass.new.self.writers.items
           here sink.texts (λ p e. ap (λ u. u.failed) (c.pass.ensures.still p e) ∙ e) c.pass.ensures.longer);
-      begun = begun_turn g.W.Write.contents g.J.Run.before g.J.Run.resolution outs sink.window.next o sink.outputs.failed c.pass.new.self.failed sink.outputs.writers.items c.pass.new.self.writers.items
+      begun = begun_turn g.W.Write.contents g.J.Run.before g.J.Run.resolution outs sink.window.next o sink.outputs.failed c.pass.new.self.failed
+          sink.outputs.writers.items c.pass.new.self.writers.items
           here sink.texts sink.begun (λ p e. ap (λ u. u.writers.items) (c.pass.ensures.still p e)) c.pass.ensures.cut;
-      failures = failures_turn g.J.Run.failures sink.outputs.failed c.pass.new.self.failed sink.outputs.writers.items c.pass.new.self.writers.items sink.failures
+      failures = failures_turn g.J.Run.failures sink.outputs.failed c.pass.new.self.failed sink.outputs.writers.items c.pass.new.self.writers.items
+          sink.failures
           (λ p e. (ap (λ u. u.failed) (c.pass.ensures.still p e) ∙ e, ap (λ u. u.writers.items) (c.pass.ensures.still p e))) c.pass.ensures.failures;
     }

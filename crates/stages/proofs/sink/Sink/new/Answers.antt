@@ -20,12 +20,20 @@ invariant_of-result g c =
     let writers = c.args.outputs.writers in
     let next : 0 ≡ window.next = sym (ap (λ w. w.next) made) in
     let many : vec_len writers ≡ length g.J.Run.before =
-    omega (arith, writers.ok.0, ap length c.requires.before, length-map (devices_of writers.items) (told g.W.Write.contents), length-map writers.items (sink_of {W = g.row.W.Denot})) in
+    omega (
+      arith,
+      writers.ok.0,
+      ap length c.requires.before,
+      length-map (devices_of writers.items) (told g.W.Write.contents),
+      length-map writers.items
+          (sink_of {W = g.row.W.Denot}),
+    ) in
     let ports : c.len.result ≡ length g.J.Run.before = omega (arith, many, c.len.ensures) in
     record {
       keyed = λ n x is. all_empty (λ k z. z.seq ≡ k) 0 n x (subst (λ w. map.get w.held n ≡ Some x) made is);
       counted = subst (λ n. IsTally outs (length g.J.Run.before) n c.new-counts.result) next
-          (subst (λ t. IsTally outs (length g.J.Run.before) 0 t) (ap (λ n. counts_of n 0 []) (sym ports) ∙ sym c.new-counts.ensures) (fresh_tally outs (length g.J.Run.before)));
+          (subst (λ t. IsTally outs (length g.J.Run.before) 0 t) (ap (λ n. counts_of n 0 []) (sym ports) ∙ sym c.new-counts.ensures)
+          (fresh_tally outs (length g.J.Run.before)));
       bounded = omega (arith, ap records_of c.new-counts.ensures, no_records c.len.result, next);
       ports = ap (λ t. length t.sent) c.new-counts.ensures ∙ (counted_ports c.len.result ∙ ports);
       many = many;
