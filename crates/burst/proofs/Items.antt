@@ -1,5 +1,6 @@
 -- Lists of options whose entries are all there.
-use Rattle.std.proofs.Common.{◌≡◌, ◌<◌, ℕ, zero, suc, take, drop, get_or, List, [], ◌∷◌, ◌++◌, map, length, sym, refl, ap, ◌∙◌, Option, Some, None, IsSome, IfNone, arith, ◌↔◌, rules}
+use Rattle.std.proofs.Common.{◌≡◌, ◌<◌, ℕ, zero, suc, take, drop, get_or, List, [], ◌∷◌, ◌++◌, map, length, sym, refl, ap, ◌∙◌, Option, Some, None, IsSome}
+use Rattle.std.proofs.Common.{IfNone, arith, ◌↔◌, rules}
 use Rattle.std.specs.Prelude.{reverse, slice_get}
 use Rattle.std.specs.Option.{option_to_list}
 use Rattle.std.proofs.lemmas.List.{length-map, map-append, length-append, reverse-append, reverse-reverse}

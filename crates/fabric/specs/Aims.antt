@@ -13,8 +13,8 @@ use Rattle.fabric.specs.Starts.{MayAsk, Probes}
 use Rattle.fabric.specs.Views.{IsKept}
 
 module _ {T : Type 0} {N : ℕ} (tags : T → List ℕ) where
-  -- its two steps found q of a side, by which it may reserve so many positions, and its count may be asked for; v is its
-  -- view before
+  -- its two steps found q of a side, by which it may reserve so many positions, and its count may be asked for; v is
+  -- its view before
   pub record Aims (most : ℕ) (how : How) (n : ℕ) (side : Side) (r : Ring T N) (v : View T)
       (s : Seat (Option T) (View T))
       (q : Probe) (count : ℕ) : Type 0 where

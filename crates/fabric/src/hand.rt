@@ -7,7 +7,7 @@ ghost use Rattle.fabric.specs.Owned.{IsRow};
 ghost use Rattle.fabric.specs.Views.{span_of};
 
 use crate::owned::Owned;
-use crate::ring::{Place, Ring};
+use crate::ring::{Positions, Ring};
 use atomic_table::Seat;
 use burst::Tagged;
 use fabric_laws::View;
@@ -42,7 +42,7 @@ pub struct Hand<T: Tagged> {
 pub struct PutOpen<'f, T: Tagged, const N: usize> {
     pub(crate) ring: Ring<'f, T, N>,
     pub(crate) share: Share<T>,
-    pub(crate) place: Place,
+    pub(crate) place: Positions,
     pub ghost table: { share.seat.table_id ≡ ring.fabric.now.table.shared.table_id },
     pub ghost plans: { (share.seat.me.0.plans ≡ ring.fabric.now.plan.rings.items)
         × (share.seat.me.0.pool ≡ ring.fabric.now.plan.buffers) },
@@ -57,7 +57,7 @@ pub struct PutOpen<'f, T: Tagged, const N: usize> {
 pub struct TakeSpan<'f, T: Tagged, const N: usize> {
     pub(crate) ring: Ring<'f, T, N>,
     pub(crate) share: Share<T>,
-    pub(crate) place: Place,
+    pub(crate) place: Positions,
     pub ghost table: { share.seat.table_id ≡ ring.fabric.now.table.shared.table_id },
     pub ghost plans: { (share.seat.me.0.plans ≡ ring.fabric.now.plan.rings.items)
         × (share.seat.me.0.pool ≡ ring.fabric.now.plan.buffers) },

@@ -36,6 +36,5 @@ pub use fabric::Fabric;
 pub use hand::{Hand, PutOpen, SettleFault, StartFault, TakeSpan};
 pub use keeper::Keeper;
 pub use make::{OpenFault, Opened};
-pub use plan::FabricPlan;
 pub use split::SplitFault;
 pub use take::TakeOpen;

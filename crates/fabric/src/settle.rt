@@ -14,7 +14,7 @@ ghost use Rattle.fabric.specs.Settles.{IsCount};
 ghost use Rattle.fabric.specs.Slots.{values};
 ghost use Rattle.fabric.specs.Views.{span_of};
 
-use crate::ring::{Place, Ring};
+use crate::ring::{Positions, Ring};
 use crate::slots::skip;
 use atomic_table::Seat;
 use burst::{Cells, Tagged};
@@ -34,7 +34,7 @@ pub(crate) fn is_count(mode: Mode, k: usize, count: usize) -> bool
 
 impl<T: Tagged, const N: usize> Ring<'_, T, N> {
     /// Moves the items into the first slots of a put span.
-    fn offer(&self, seat: &mut Seat<Option<T>, View<T>>, place: Place, cells: &mut Cells<T, N>)
+    fn offer(&self, seat: &mut Seat<Option<T>, View<T>>, place: Positions, cells: &mut Cells<T, N>)
         requires table { seat.old.table_id ≡ self.now.fabric.now.table.shared.table_id }
         requires fits { length cells.old ≤ place.count }
         requires slots { seat.old.me.1 ≡ slots_of self.now place.start (replicate place.count None) }
@@ -52,7 +52,7 @@ impl<T: Tagged, const N: usize> Ring<'_, T, N> {
     pub(crate) fn withdraw(
         &self,
         seat: &mut Seat<Option<T>, View<T>>,
-        place: Place,
+        place: Positions,
         cells: &mut Cells<T, N>,
     )
         requires table { seat.old.table_id ≡ self.now.fabric.now.table.shared.table_id }
@@ -72,7 +72,7 @@ impl<T: Tagged, const N: usize> Ring<'_, T, N> {
     pub(crate) fn publish(
         &self,
         seat: &mut Seat<Option<T>, View<T>>,
-        place: Place,
+        place: Positions,
         cells: &mut Cells<T, N>,
     ) -> Option<u64>
         requires seat { IsSeated self.now seat.old }
@@ -115,7 +115,7 @@ impl<T: Tagged, const N: usize> Ring<'_, T, N> {
     fn keep(
         &self,
         seat: &mut Seat<Option<T>, View<T>>,
-        place: Place,
+        place: Positions,
         k: usize,
         cells: &mut Cells<T, N>,
     )
@@ -136,7 +136,7 @@ impl<T: Tagged, const N: usize> Ring<'_, T, N> {
     pub(crate) fn dequeue(
         &self,
         seat: &mut Seat<Option<T>, View<T>>,
-        place: Place,
+        place: Positions,
         k: usize,
         cells: &mut Cells<T, N>,
     ) -> Option<u64>

@@ -3,7 +3,7 @@ ghost use Rattle.std.specs.Prelude.{◌≡◌, ◌<◌, ◌↔◌, ℕ, IfOk, If
 ghost use Rattle.ringcore_laws.specs.Sound.{holds};
 ghost use Rattle.fabric_laws.specs.Changes.{kept, split_off};
 ghost use Rattle.fabric_laws.specs.Rule.{all_parts};
-ghost use Rattle.fabric.specs.Hands.{IsHandOf, IsSplitFault, view};
+ghost use Rattle.fabric.specs.Hands.{IsHandOf, RefusesSplit, view};
 
 use crate::fabric::Fabric;
 use crate::hand::{ALL_PARTS, Hand, Share};
@@ -53,7 +53,7 @@ impl<T: Tagged> Hand<T> {
         ensures split { IfOk result (λ h. IsHandOf fabric.now h.0 × (view h.0 ≡ kept (view self))
             × IsHandOf fabric.now h.1 × (view h.1 ≡ split_off (view self))) }
         ensures refused { IfErr result (λ e. IsHandOf fabric.now e.0 × (view e.0 ≡ view self)
-            × IsSplitFault (view self).parts e.1) }
+            × RefusesSplit (view self).parts e.1) }
     {
         if self.share.parts < 2 {
             return Err((self, SplitFault::TooMany));

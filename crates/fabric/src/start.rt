@@ -26,7 +26,7 @@ use crate::fabric::Fabric;
 use crate::hand::{Hand, PutOpen, Share, StartFault, TakeSpan};
 use crate::owned::Owned;
 use crate::plan::Shape;
-use crate::ring::{Place, Ring};
+use crate::ring::{Positions, Ring};
 use crate::steps::position;
 use atomic_table::Seat;
 use burst::{Burst, Tagged};
@@ -55,7 +55,7 @@ fn is_busy(mode: Mode, word: u64) -> bool
     }
 }
 
-/// Whether a request for `n` positions of a side is no lawful one.
+/// Whether a request for `n` positions of a side is to be refused with `BadCount`.
 #[inline]
 fn is_bad_count(shape: &Shape, owned: &Owned, side: Side, n: usize, most: usize) -> bool
     ensures bad { result ≡ true → (n ≡ 0) ⊎ ((most < n) ⊎ ((side ≡ Put) × (shape.now.plan.free ≡ true)
@@ -246,7 +246,7 @@ impl<T: Tagged, const N: usize> Fabric<T, N> {
                 StartFault::Contended(found),
             ));
         }
-        let place = Place {
+        let place = Positions {
             start: probe.start,
             count,
             left: probe.room - count as u64,
@@ -310,7 +310,7 @@ impl<T: Tagged, const N: usize> Fabric<T, N> {
                 StartFault::Contended(found),
             ));
         }
-        let place = Place {
+        let place = Positions {
             start: probe.start,
             count,
             left: probe.room - count as u64,

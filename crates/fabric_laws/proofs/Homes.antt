@@ -14,7 +14,7 @@ use Rattle.ringcore_laws.specs.RingSide.{RingSide, listed}
 use Rattle.ringcore_laws.specs.Sound.{SoundRing}
 use Rattle.ringcore_laws.proofs.RingLaws.{below_or_not, held_cases, length-listed, listed_settled, reserved_on, settled_on, slots_differ, takes_le_puts}
 use Rattle.fabric_laws.specs.Rule.{AtHome}
-use Rattle.fabric_laws.specs.Words.{slot_at, slot_count, slots_before, slots_of}
+use Rattle.fabric_laws.specs.Words.{slot_at, slot_count, slots_before, slots_in}
 use Rattle.fabric_laws.specs.Kinds.{run}
 use Rattle.fabric_laws.proofs.Cells.{before_rest, behind_items, behind_many, get_dropped, get_left, get_right, get_taken, item_in_front, item_of, length-cells}
 use Rattle.fabric_laws.proofs.Cells.{length-many, one_of_many}
@@ -22,49 +22,49 @@ use Rattle.fabric_laws.proofs.Slots.{AreApart, emptied, emptied_else, filled, fi
 
 -- 1. Slots of rings
 
-pub before_fits : (plans : List RingPlan) (r : ℕ) (plan : RingPlan) → slice_get plans r ≡ Some plan → slots_before plans r + slots_of plan ≤ slot_count plans
+pub before_fits : (plans : List RingPlan) (r : ℕ) (plan : RingPlan) → slice_get plans r ≡ Some plan → slots_before plans r + slots_in plan ≤ slot_count plans
 before_fits [] r plan h = absurd (let u : None ≡ Some plan = h in cc)
-before_fits (x ∷ xs) zero plan h = let same : x ≡ plan = (let u : Some x ≡ Some plan = h in cc) in omega (arith, sum_by-cons slots_of x xs, ap slots_of same)
-before_fits (x ∷ xs) (suc r) plan h = omega (arith, sum_by-cons slots_of x xs, before_fits xs r plan h)
+before_fits (x ∷ xs) zero plan h = let same : x ≡ plan = (let u : Some x ≡ Some plan = h in cc) in omega (arith, sum_by-cons slots_in x xs, ap slots_in same)
+before_fits (x ∷ xs) (suc r) plan h = omega (arith, sum_by-cons slots_in x xs, before_fits xs r plan h)
 
 before_apart : (plans : List RingPlan) (r q : ℕ) (plan : RingPlan) → slice_get plans r ≡ Some plan → r < q
-    → slots_before plans r + slots_of plan ≤ slots_before plans q
+    → slots_before plans r + slots_in plan ≤ slots_before plans q
 before_apart [] r q plan h lt = absurd (let u : None ≡ Some plan = h in cc)
 before_apart (x ∷ xs) zero zero plan h lt = absurd (omega arith)
-before_apart (x ∷ xs) zero (suc q) plan h lt = let same : x ≡ plan = (let u : Some x ≡ Some plan = h in cc) in omega (arith, ap slots_of same)
+before_apart (x ∷ xs) zero (suc q) plan h lt = let same : x ≡ plan = (let u : Some x ≡ Some plan = h in cc) in omega (arith, ap slots_in same)
 before_apart (x ∷ xs) (suc r) zero plan h lt = absurd (omega arith)
 before_apart (x ∷ xs) (suc r) (suc q) plan h lt = omega (arith, before_apart xs r q plan h (omega arith))
 
 -- two rings have no slot in common
 pub rings_apart : (plans : List RingPlan) (r q : ℕ) (plan plan' : RingPlan) (i j : ℕ) → slice_get plans r ≡ Some plan → slice_get plans q ≡ Some plan' → r ≢ q
-    → 0 < slots_of plan → 0 < slots_of plan'
+    → 0 < slots_in plan → 0 < slots_in plan'
     → slot_at plans r plan i ≢ slot_at plans q plan' j
 rings_apart plans r q plan plan' i j at at' apart pos pos' e =
-    let one : i % slots_of plan < slots_of plan = mod-lt i pos in
-    let two : j % slots_of plan' < slots_of plan' = mod-lt j pos' in
+    let one : i % slots_in plan < slots_in plan = mod-lt i pos in
+    let two : j % slots_in plan' < slots_in plan' = mod-lt j pos' in
     elim (below_or_not r q) [
       | inl lt ↦ omega (arith, before_apart plans r q plan at lt)
       | inr ge ↦ omega (arith, before_apart plans q r plan' at' (omega arith))
     ]
 
-pub slot_inside : (plans : List RingPlan) (r : ℕ) (plan : RingPlan) (p : ℕ) → slice_get plans r ≡ Some plan → 0 < slots_of plan
+pub slot_inside : (plans : List RingPlan) (r : ℕ) (plan : RingPlan) (p : ℕ) → slice_get plans r ≡ Some plan → 0 < slots_in plan
     → slot_at plans r plan p < slot_count plans
-slot_inside plans r plan p at pos = let one : p % slots_of plan < slots_of plan = mod-lt p pos in omega (arith, before_fits plans r plan at)
+slot_inside plans r plan p at pos = let one : p % slots_in plan < slots_in plan = mod-lt p pos in omega (arith, before_fits plans r plan at)
 
 -- positions of one turn of a ring have slots of their own
-pub turn_apart : (plans : List RingPlan) (r : ℕ) (plan : RingPlan) (low p q : ℕ) → low ≤ p → p < low + slots_of plan → low ≤ q → q < low + slots_of plan
+pub turn_apart : (plans : List RingPlan) (r : ℕ) (plan : RingPlan) (low p q : ℕ) → low ≤ p → p < low + slots_in plan → low ≤ q → q < low + slots_in plan
     → slot_at plans r plan p ≡ slot_at plans r plan q → p ≡ q
 turn_apart plans r plan low p q lp hp lq hq e =
-    slots_differ (slots_of plan) low p q lp hp lq hq (let u : p % slots_of plan ≡ q % slots_of plan = omega arith in u)
+    slots_differ (slots_in plan) low p q lp hp lq hq (let u : p % slots_in plan ≡ q % slots_in plan = omega arith in u)
 
-pub run_apart : (plans : List RingPlan) (r : ℕ) (plan : RingPlan) (p n : ℕ) → n ≤ slots_of plan → AreApart (slot_at plans r plan) p n
+pub run_apart : (plans : List RingPlan) (r : ℕ) (plan : RingPlan) (p n : ℕ) → n ≤ slots_in plan → AreApart (slot_at plans r plan) p n
 run_apart plans r plan p n fits j k lj lk e =
     let same : p + j ≡ p + k = turn_apart plans r plan p (p + j) (p + k) (omega arith) (omega arith) (omega arith) (omega arith) e in
     omega arith
 
 -- a position of the turn that is none of the run has none of its slots
-off_run : (plans : List RingPlan) (r : ℕ) (plan : RingPlan) (low start n q : ℕ) → low ≤ start → start + n ≤ low + slots_of plan → low ≤ q
-    → q < low + slots_of plan → (q < start) ⊎ (start + n ≤ q)
+off_run : (plans : List RingPlan) (r : ℕ) (plan : RingPlan) (low start n q : ℕ) → low ≤ start → start + n ≤ low + slots_in plan → low ≤ q
+    → q < low + slots_in plan → (q < start) ⊎ (start + n ≤ q)
     → (k : ℕ) → k < n → slot_at plans r plan q ≢ slot_at plans r plan (start + k)
 off_run plans r plan low start n q above below lq hq out k lt e =
     let same = turn_apart plans r plan low q (start + k) lq hq (omega arith) (omega arith) e in
@@ -88,7 +88,7 @@ module _ {T : Type 0} where
       abbrev out : List (maybe.Option (Option T))
       out = emptied hs (run slot span.start ys)
 
-      stays : (p : ℕ) → takes.len ≤ span.start → span.start + span.count ≤ takes.len + slots_of plan → takes.len ≤ p → p < takes.len + slots_of plan
+      stays : (p : ℕ) → takes.len ≤ span.start → span.start + span.count ≤ takes.len + slots_in plan → takes.len ≤ p → p < takes.len + slots_in plan
           → (p < span.start) ⊎ (span.start + span.count ≤ p) → get_elem? out (slot p) ≡ get_elem? hs (slot p)
       stays p above fits lp hp off =
           emptied_else slot hs span.start ys (slot p) (λ k lt. off_run plans r plan takes.len span.start span.count p above fits lp hp off k (omega arith))
@@ -129,12 +129,12 @@ module _ {T : Type 0} where
       abbrev back : List (maybe.Option (Option T))
       back = filled slot hs span.start ys
 
-      stays_back : (p : ℕ) → takes.len ≤ span.start → span.start + span.count ≤ takes.len + slots_of plan → takes.len ≤ p → p < takes.len + slots_of plan
+      stays_back : (p : ℕ) → takes.len ≤ span.start → span.start + span.count ≤ takes.len + slots_in plan → takes.len ≤ p → p < takes.len + slots_in plan
           → (p < span.start) ⊎ (span.start + span.count ≤ p) → get_elem? back (slot p) ≡ get_elem? hs (slot p)
       stays_back p above fits lp hp off =
           filled_else slot hs span.start ys (slot p) (λ k lt. off_run plans r plan takes.len span.start span.count p above fits lp hp off k (omega arith))
 
-      comes_back : (k : ℕ) (y : Option T) → span.count ≤ slots_of plan → get_elem? ys k ≡ some y → get_elem? back (slot (span.start + k)) ≡ some (some y)
+      comes_back : (k : ℕ) (y : Option T) → span.count ≤ slots_in plan → get_elem? ys k ≡ some y → get_elem? back (slot (span.start + k)) ≡ some (some y)
       comes_back k y fits at =
           filled_here slot hs span.start ys k y (run_apart plans r plan span.start (length ys) (omega arith)) (λ j lt. inside (span.start + j)) at
 
@@ -233,16 +233,16 @@ module _ {T : Type 0} where
                   (omega (arith, sound.within_capacity)) off.0
                   ∙ home.full p x (omega arith) (omega (arith, off.1)) at
             ];
-        vacant = λ p le none lt. elim (below_or_not p (takes.len + slots_of plan)) [
+        vacant = λ p le none lt. elim (below_or_not p (takes.len + slots_in plan)) [
           | inl old ↦
               stays_back span take_cells take_many inside p (omega arith) (omega (arith, sound.within_capacity))
               (omega (arith, takes_le_puts plan.geometry puts takes sound)) old (inr (omega arith))
               ∙ home.vacant p le none old
           | inr new ↦
-              let k : ℕ = p - (takes.len + slots_of plan) in
-              let place : p ≡ (span.start + k) + slots_of plan = omega arith in
+              let k : ℕ = p - (takes.len + slots_in plan) in
+              let place : p ≡ (span.start + k) + slots_in plan = omega arith in
               let here : slot p ≡ slot (span.start + k) =
-              ap slot place ∙ ap (λ n. slots_before plans r + n) (mod_past (span.start + k) (slots_of plan) (omega arith)) in
+              ap slot place ∙ ap (λ n. slots_before plans r + n) (mod_past (span.start + k) (slots_in plan) (omega arith)) in
               ap (λ n. get_elem? (filled slot hs span.start take_cells) n) here
               ∙ comes_back span take_cells take_many inside k None (omega (arith, sound.within_capacity))
               (before_rest (length items) None (map Some (drop (length items) shown)) k (omega arith))

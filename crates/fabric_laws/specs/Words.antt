@@ -24,19 +24,19 @@ settled_word_at Multi ring side = tail_at ring side
 settled_word_at Hts ring side = own_at ring side
 
 -- how many slots a ring has
-abbrev pub slots_of : RingPlan → ℕ
-slots_of plan = plan.geometry.size
+abbrev pub slots_in : RingPlan → ℕ
+slots_in plan = plan.geometry.size
 
 -- how many slots all rings have
 abbrev pub slot_count : List RingPlan → ℕ
-slot_count plans = sum_by slots_of plans
+slot_count plans = sum_by slots_in plans
 
 -- the rings' slots lie one ring after the other: how many slots the rings before this one have
 abbrev pub slots_before : List RingPlan → ℕ → ℕ
 slots_before plans zero = 0
 slots_before [] (suc ring) = 0
-slots_before (plan ∷ plans) (suc ring) = slots_of plan + slots_before plans ring
+slots_before (plan ∷ plans) (suc ring) = slots_in plan + slots_before plans ring
 
 -- the slot of a position
 abbrev pub slot_at : List RingPlan → ℕ → RingPlan → ℕ → ℕ
-slot_at plans ring plan p = slots_before plans ring + p % slots_of plan
+slot_at plans ring plan p = slots_before plans ring + p % slots_in plan

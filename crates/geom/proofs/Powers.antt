@@ -63,7 +63,7 @@ mod_apart n a b some after near same =
       | inr down ↦ let less : n * (b / n) ≤ n * (a / n) = mul-le-mul_left n down in omega arith
     ]
 
--- the next power of two from a capacity's successor on is a lawful size
+-- the next power of two from a capacity's successor on is a size that a ring may have
 pub next_extent : (n p : ℕ) → 0 < n → n < 2 ^ 20 → IsPowerOfTwo p → n + 1 ≤ p → p / 2 < max 1 (n + 1) → IsExtent record { size = p; capacity = n }
 next_extent n p some small power lower upper =
     let e : p ≡ 2 ^ power.0 = power.1 in

@@ -98,7 +98,8 @@ others : (reason_of (tagged right) 38 ≡ None)
 unfolding ones_complement_sum header numbered right plain tagged optional reason_of
 others = (refl, refl, refl, refl, refl, refl, refl, refl)
 
--- types are told by both of their bytes: ARP, a type that ends as that of IPv4, one that begins as that of a tag, and the tags of 802.1ad and before it are others
+-- types are told by both of their bytes: ARP, a type that ends as that of IPv4, one that begins as that of a tag, and the tags of 802.1ad and before it are
+-- others
 before : ℕ → ℕ → List ℕ
 before high low = typed high low (0x00 ∷ 0x05 ∷ 0x08 ∷ 0x00 ∷ right)
 
@@ -118,7 +119,8 @@ beside : (reason_of (plain (header 0x35 0x14 0x40 0x74 0xd5)) 34 ≡ Some Reason
 unfolding ones_complement_sum header plain reason_of
 beside = (refl, refl, refl, refl)
 
--- a header whose other fields all are others: a service, an identification, a fragment in the middle with more behind it, TCP, and addresses of a private net and of a group
+-- a header whose other fields all are others: a service, an identification, a fragment in the middle with more behind it, TCP, and addresses of a private
+-- net and of a group
 foreign : ℕ → ℕ → ℕ → List ℕ
 foreign time high low =
     0x45 ∷ 0xb8 ∷ 0 ∷ 0x14 ∷ 0x12 ∷ 0x34 ∷ 0x20 ∷ 0xb9 ∷ time ∷ 0x06 ∷ high ∷ low ∷ 0xc0 ∷ 0xa8 ∷ 0x07 ∷ 0x09 ∷ 0xe0 ∷ 0 ∷ 0 ∷ 0xfb ∷ []

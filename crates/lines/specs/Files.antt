@@ -1,5 +1,6 @@
 -- Files of commands, answered one line after the other
-use Rattle.std.specs.Prelude.{ℕ, ◌-◌, ◌≡◌, ◌<◌, ◌≤◌, ◌&&◌, List, [], ◌∷◌, ◌++◌, length, take, slice_index_or, Bool, true, false, IsTrue, if◌then◌else◌}
+use Rattle.std.specs.Prelude.{ℕ, ◌-◌, ◌≡◌, ◌<◌, ◌≤◌, ◌&&◌, List, [], ◌∷◌, ◌++◌, length, take, slice_index_or, Bool}
+use Rattle.std.specs.Prelude.{true, false, IsTrue, if◌then◌else◌}
 use Rattle.lines.specs.Text.{Bytes, words_of, is_skipped}
 
 -- 1. A kind of command file: S is what the lines so far leave for the later ones

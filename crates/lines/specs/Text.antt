@@ -1,5 +1,6 @@
 -- The text of a command file: bytes, cut into lines, lines into words, and words that are numbers
-use Rattle.std.specs.Prelude.{ℕ, not, ◌+◌, ◌-◌, ◌*◌, ◌^◌, ◌==◌, ◌&&◌, ◌||◌, nat_lt, nat_le, Bool, List, [], ◌∷◌, map, filter, length, fold, slice_index, Option, Some, None, if◌then◌else◌}
+use Rattle.std.specs.Prelude.{ℕ, not, ◌+◌, ◌-◌, ◌*◌, ◌^◌, ◌==◌, ◌&&◌, ◌||◌, nat_lt, nat_le, Bool, List, [], ◌∷◌, map}
+use Rattle.std.specs.Prelude.{filter, length, fold, slice_index, Option, Some, None, if◌then◌else◌}
 use Rattle.std.specs.List.{slice_split, list_all}
 use Rattle.std.specs.Borrow.{Bor}
 use Rattle.std.specs.Str.Lines.{strip_carriage_return}
@@ -11,8 +12,8 @@ Bytes = List ℕ
 abbrev pub texts : List (Bor Bytes) → List Bytes
 texts words = map (λ word. word.now) words
 
--- lines end with 0x0a, and one 0x0d before the end of a line is dropped; what follows the last 0x0a is a line too, often
--- an empty one
+-- lines end with 0x0a, and one 0x0d before the end of a line is dropped; what follows the last 0x0a is a line too,
+-- often an empty one
 abbrev pub lines_of : Bytes → List Bytes
 lines_of bytes = map strip_carriage_return (slice_split (λ b. b == 10) bytes)
 

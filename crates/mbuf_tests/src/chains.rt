@@ -35,6 +35,7 @@ fn makes_numbered_segments(rt: HostRuntime) -> Result<(), Fail> {
         let mut number = 0u32;
         for chain in make(rt.alloc(), count, 128, 64)? {
             is_fresh(&rt, &chain, number);
+            // Saturating here: no clause bounds it, and it stays small.
             number = number.saturating_add(1);
         }
         assert_eq!(rt; number, count);

@@ -163,6 +163,7 @@ fn again_at_last(deck: &mut Deck, new: u32, held: &mut Vec<Vec<u8>>) -> Option<u
 fn many_at_last(deck: &mut Deck, held: &mut Vec<Vec<u8>>) -> Option<usize> {
     let mut all = 0usize;
     for id in 1..MANY {
+        // Saturating here: no clause bounds it, and it stays small.
         all = all.saturating_add(again_at_last(deck, id, held)?);
     }
     Some(all)

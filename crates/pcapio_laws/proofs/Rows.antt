@@ -139,7 +139,7 @@ high_link =
 header_of : (rest : List ℕ) → HasHeader (behind_header rest) Little Micro
 header_of rest = record { whole = omega arith; magic = refl; version = (refl, refl); link = refl }
 
--- 262144 captured bytes are lawful, of which the file has none
+-- 262144 captured bytes are allowed, of which the file has none
 pub longest : IsCase (behind_header (record_header_of 0 0 4 0)) (microsecond [] true)
 longest =
     let left : length (record_header_of 0 0 4 0) ≡ 16 = refl in

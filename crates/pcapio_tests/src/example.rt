@@ -42,6 +42,7 @@ pub fn capture(alloc: Global, most: u32) -> Result<Vec<u8>, AllocError> {
             for field in [number, 5, size, size] {
                 file.extend_from_slice(&field.to_le_bytes())?;
             }
+            // Saturating here: no clause bounds it, and it stays small.
             let len = file.len().saturating_add(size as usize);
             file.resize(len, (number % 251) as u8)?;
         }

@@ -2,36 +2,23 @@
 //! over the words and the standard streams alone.
 #![tactic(auto)]
 
-mod command_line;
-mod fault;
-mod help;
-mod program;
-mod ring_answer;
-mod ring_command;
-mod ring_text;
-mod run_answer;
-#[cfg(test)]
-mod tests;
-
-use program::program;
-pub use ring_text::ring_text;
+use program::{behind_name, out_of_memory, program};
 use std::alloc::AllocError;
 use std::env;
 use std::io::ErrorKind;
 use std::process::ExitCode;
-pub use steps::steps_text;
 
 /// What a refused command line ends with.
 const REFUSED: u8 = 2;
 
 fn main(rt: HostRuntime) -> ExitCode {
     let words = match env::args(&rt) {
-        Ok(words) => command_line::behind_name(rt.alloc(), words),
+        Ok(words) => behind_name(rt.alloc(), words),
         Err(error) if error.kind() == ErrorKind::OutOfMemory => Err(AllocError),
         Err(_) => return ExitCode::from(REFUSED),
     };
     let Ok(words) = words else {
-        return ExitCode::from(program::out_of_memory(&mut rt.stderr()));
+        return ExitCode::from(out_of_memory(&mut rt.stderr()));
     };
     let status = program(
         &rt,

@@ -6,7 +6,7 @@ use Rattle.burst.specs.declared.tagged.Tagged.{Ghosts}
 use Rattle.fabric.specs.declared.hand.Hand.{Hand}
 use Rattle.pool.specs.Asks.{Fetches}
 use Rattle.pool.specs.Calls.{GetTells, SameAnswer}
-use Rattle.pool.specs.Locals.{cache_of, ring_of, size_of, view_of}
+use Rattle.pool.specs.Locals.{cache_of, ring_of, cache_size, view_of}
 use Rattle.pool.specs.declared.local.Local.{Local}
 use Rattle.pool.specs.declared.faults.PoolFault.{PoolFault}
 
@@ -28,7 +28,7 @@ module _ {T : Type 0} {G : Ghosts T} {N : ℕ} (tags : T → List ℕ) (plan : R
   ]
 
   none_given : (X : Type 0) (e : PoolFault) (n : ℕ) (items : List T) (answer : Result (Hand T G) (Hand T G × PoolFault))
-      → Fetches tags N (ring_of l) plan (size_of l) (view_of l) n (cache_of l) answer items (cache_of m) → SameAnswer tags plan l m {X = X} answer (Err e)
+      → Fetches tags N (ring_of l) plan (cache_size l) (view_of l) n (cache_of l) answer items (cache_of m) → SameAnswer tags plan l m {X = X} answer (Err e)
       → items ≡ []
   none_given X e n items (Ok h) fetches same = absurd same
   none_given X e n items (Err h) fetches same = fetches.2.0
@@ -42,7 +42,7 @@ module _ {T : Type 0} {G : Ghosts T} {N : ℕ} (tags : T → List ℕ) (plan : R
         inr (
           miss.0,
           miss.1,
-          subst (λ x. Fetches tags N (ring_of l) plan (size_of l) (view_of l) n (cache_of l) miss.1 x (cache_of m)) none miss.2,
+          subst (λ x. Fetches tags N (ring_of l) plan (cache_size l) (view_of l) n (cache_of l) miss.1 x (cache_of m)) none miss.2,
           same_err X Y e miss.1 miss.3,
         )
   ]

@@ -7,7 +7,7 @@ use Rattle.fabric.specs.declared.hand.Hand.{Hand}
 use Rattle.fabric.specs.Settles.{AreNotOwnBuffers, AreOwnBuffers}
 use Rattle.fabric.specs.Hands.{view}
 use Rattle.pool.specs.Asks.{Fetches, Flushes, Spills}
-use Rattle.pool.specs.Locals.{cache_of, ring_of, size_of, view_of}
+use Rattle.pool.specs.Locals.{cache_of, ring_of, cache_size, view_of}
 use Rattle.pool.specs.declared.local.Local.{Local}
 use Rattle.pool.specs.Caches.{cached_after_get, cached_after_put, put_on_ring, taken_by_get, threshold}
 use Rattle.pool.specs.declared.faults.PoolFault.{PoolFault}
@@ -34,8 +34,8 @@ module _ {T : Type 0} where
   answer_of (Err e) = Err e.1
 
 module _ {T : Type 0} (tags : T → List ℕ) (v : View T) (size : ℕ) where
-  -- A put into the cache alone, with what is left of the list. Items that aren't the hand's to put beside what is cached
-  -- are refused before the count of them is looked at
+  -- A put into the cache alone, with what is left of the list. Items that aren't the hand's to put beside what is
+  -- cached are refused before the count of them is looked at
   abbrev pub PutsCached : {X : Type 0} → List T → List T → Result X PoolFault → List T → List T → Type 0
   PutsCached cache list (Ok x) rest later =
       AreOwnBuffers tags v (cache ++ list) × (length (cache ++ list) ≤ threshold size)
@@ -73,30 +73,30 @@ module _ {T : Type 0} {G : Ghosts T} {N : ℕ} (tags : T → List ℕ) (plan : R
       ((n ≤ length (cache_of l)) × IsOk result × (view_of m ≡ view_of l)
       × (items ≡ taken_by_get n (cache_of l) []) × (cache_of m ≡ cached_after_get n (cache_of l) []))
       ⊎ ((length (cache_of l) < n) × (answer : Result (Hand T G) (Hand T G × PoolFault))
-      × Fetches tags N (ring_of l) plan (size_of l) (view_of l) n (cache_of l) answer items (cache_of m)
+      × Fetches tags N (ring_of l) plan (cache_size l) (view_of l) n (cache_of l) answer items (cache_of m)
       × SameAnswer answer result)
 
   -- What a put of a list answers, with what is left of the list. Items that aren't the hand's to put beside what is
   -- cached are refused before anything else; where the threshold isn't passed, nothing is asked of the ring
-  abbrev pub PutTells : {X : Type 0} → List T → Result X PoolFault → List T → Type 0
-  PutTells list (Ok x) rest =
+  abbrev pub PutBackTells : {X : Type 0} → List T → Result X PoolFault → List T → Type 0
+  PutBackTells list (Ok x) rest =
       AreOwnBuffers tags (view_of l) (cache_of l ++ list) × (rest ≡ [])
-      × (cache_of m ≡ cached_after_put (size_of l) (cache_of l) list)
-      × (((length (cache_of l ++ list) ≤ threshold (size_of l)) × (view_of m ≡ view_of l))
-      ⊎ ((threshold (size_of l) < length (cache_of l ++ list)) × (h : Hand T G)
-      × Spills tags N (ring_of l) plan (view_of l) (put_on_ring (size_of l) (cache_of l) list) (Ok h)
+      × (cache_of m ≡ cached_after_put (cache_size l) (cache_of l) list)
+      × (((length (cache_of l ++ list) ≤ threshold (cache_size l)) × (view_of m ≡ view_of l))
+      ⊎ ((threshold (cache_size l) < length (cache_of l ++ list)) × (h : Hand T G)
+      × Spills tags N (ring_of l) plan (view_of l) (put_on_ring (cache_size l) (cache_of l) list) (Ok h)
       × (view_of m ≡ view h)))
-  PutTells list (Err NotYours) rest =
+  PutBackTells list (Err NotYours) rest =
       AreNotOwnBuffers tags (view_of l) (cache_of l ++ list) × (rest ≡ list) × (cache_of m ≡ cache_of l)
       × (view_of m ≡ view_of l)
-  PutTells list (Err Worn) rest =
+  PutBackTells list (Err Worn) rest =
       AreOwnBuffers tags (view_of l) (cache_of l ++ list) × (rest ≡ list) × (cache_of m ≡ cache_of l)
-      × (threshold (size_of l) < length (cache_of l ++ list)) × (h : Hand T G)
-      × Spills tags N (ring_of l) plan (view_of l) (put_on_ring (size_of l) (cache_of l) list) (Err h)
+      × (threshold (cache_size l) < length (cache_of l ++ list)) × (h : Hand T G)
+      × Spills tags N (ring_of l) plan (view_of l) (put_on_ring (cache_size l) (cache_of l) list) (Err h)
       × (view_of m ≡ view h)
-  PutTells list (Err Short) rest = ⊥
-  PutTells list (Err CacheFull) rest = ⊥
-  PutTells list (Err BadSize) rest = ⊥
+  PutBackTells list (Err Short) rest = ⊥
+  PutBackTells list (Err CacheFull) rest = ⊥
+  PutBackTells list (Err BadSize) rest = ⊥
 
   -- what a flush answers
   abbrev pub FlushTells : {X : Type 0} → Result X PoolFault → Type 0

@@ -13,8 +13,8 @@ module _ {T : Type 0} {G : Ghosts T} {N : ℕ} where
   abbrev pub cache_of : Local T N G → List T
   cache_of l = l.cache
 
-  abbrev pub size_of : Local T N G → ℕ
-  size_of l = l.size
+  abbrev pub cache_size : Local T N G → ℕ
+  cache_size l = l.size
 
   -- the free ring
   abbrev pub ring_of : Local T N G → ℕ

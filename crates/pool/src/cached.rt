@@ -2,7 +2,7 @@
 ghost use Rattle.std.specs.Prelude.{◌≡◌, ◌++◌, [], IfOk};
 ghost use Rattle.fabric.specs.Settles.{AreOwnBuffers};
 ghost use Rattle.pool.specs.Calls.{GetsCached, PutsCached};
-ghost use Rattle.pool.specs.Locals.{HasSameHand, SameRing, cache_of, size_of, view_of};
+ghost use Rattle.pool.specs.Locals.{HasSameHand, SameRing, cache_of, cache_size, view_of};
 
 use crate::faults::PoolFault;
 use crate::keeping::give;
@@ -37,7 +37,7 @@ impl<T: Tagged, const N: usize> Local<T, N> {
     #[inline]
     pub fn put_cached_from(&mut self, list: &mut Burst<T, N>) -> Result<(), PoolFault>
         ensures same { SameRing self.old self.new × HasSameHand self.old self.new }
-        ensures told { PutsCached T.numbers (view_of self.old) (size_of self.old) (cache_of self.old) list.old result
+        ensures told { PutsCached T.numbers (view_of self.old) (cache_size self.old) (cache_of self.old) list.old result
             list.new (cache_of self.new) }
     {
         let keeper = match &mut self.hand {

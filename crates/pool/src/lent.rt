@@ -2,7 +2,7 @@
 ghost use Rattle.std.specs.Prelude.{◌≡◌, ◌+◌, ◌<◌, ◌≤◌, ◌++◌, [], length, IfOk, IfErr};
 ghost use Rattle.fabric.specs.Hands.{OnRing};
 ghost use Rattle.fabric.specs.Settles.{AreOwnBuffers};
-ghost use Rattle.pool.specs.Calls.{FlushTells, GetTells, PutTells};
+ghost use Rattle.pool.specs.Calls.{FlushTells, GetTells, PutBackTells};
 ghost use Rattle.pool.specs.Locals.{IsLocalOf, SameRing, cache_of, ring_of, view_of};
 
 use crate::asks::{empty, fetch};
@@ -73,7 +73,7 @@ impl<T: Tagged, const N: usize> Local<T, N> {
         ensures local { IsLocalOf f.now self.new }
         ensures same { SameRing self.old self.new }
         ensures told { OnRing f.now (ring_of self.old)
-            (λ plan. PutTells T.numbers plan self.old self.new list.old result list.new) }
+            (λ plan. PutBackTells T.numbers plan self.old self.new list.old result list.new) }
     {
         let before = self.cache.len();
         let may = match &mut self.hand {

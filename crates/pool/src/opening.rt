@@ -4,7 +4,7 @@ ghost use Rattle.fabric.specs.Hands.{SameHand, view};
 ghost use Rattle.pool.specs.Caches.{threshold};
 ghost use Rattle.pool.specs.Calls.{RefusesCache};
 ghost use Rattle.pool.specs.Hands.{IsFreeRing};
-ghost use Rattle.pool.specs.Locals.{HasHand, cache_of, ring_of, size_of};
+ghost use Rattle.pool.specs.Locals.{HasHand, cache_of, ring_of, cache_size};
 ghost use Rattle.pool.specs.declared.faults.PoolFault.TheVariants.{BadSize};
 
 use crate::faults::PoolFault;
@@ -30,7 +30,7 @@ impl<T: Tagged, const N: usize> Local<T, N> {
     /// back.
     pub fn new(hand: Hand<T>, ring: usize, size: usize) -> Result<Local<T, N>, (Hand<T>, PoolFault)>
         requires free { IsFreeRing (view hand).plans ring }
-        ensures made { IfOk result (λ l. HasHand hand l × (ring_of l ≡ ring) × (size_of l ≡ size)) }
+        ensures made { IfOk result (λ l. HasHand hand l × (ring_of l ≡ ring) × (cache_size l ≡ size)) }
         ensures empty { IfOk result (λ l. cache_of l ≡ []) }
         ensures fits { IfOk result (λ l. (size ≤ 512) × (threshold size + 64 ≤ N)) }
         ensures refused { IfErr result (λ e. (e.0 ≡ hand) × (e.1 ≡ BadSize)) }
@@ -58,7 +58,7 @@ impl<T: Tagged, const N: usize> Local<T, N> {
         size: usize,
     ) -> Result<Local<T, N>, (Hand<T>, Burst<T, N>, PoolFault)>
         requires free { IsFreeRing (view hand).plans ring }
-        ensures made { IfOk result (λ l. HasHand hand l × (ring_of l ≡ ring) × (size_of l ≡ size)) }
+        ensures made { IfOk result (λ l. HasHand hand l × (ring_of l ≡ ring) × (cache_size l ≡ size)) }
         ensures cached { IfOk result (λ l. cache_of l ≡ items) }
         ensures fits { IfOk result (λ l. (size ≤ 512) × (threshold size + 64 ≤ N)) }
         ensures back { IfErr result (λ e. SameHand hand e.0 × (e.1 ≡ items)) }

@@ -2,8 +2,8 @@
 ghost use Rattle.std.specs.Prelude.{◌≡◌, ◌<◌, ◌≤◌, ◌++◌, length, IfOk};
 ghost use Rattle.fabric.specs.Hands.{OnRing};
 ghost use Rattle.fabric.specs.Settles.{AreOwnBuffers};
-ghost use Rattle.pool.specs.Calls.{GetTells, GetsCached, PutTells, PutsCached, answer_of, given, handed_back};
-ghost use Rattle.pool.specs.Locals.{HasSameHand, IsLocalOf, SameRing, cache_of, ring_of, size_of, view_of};
+ghost use Rattle.pool.specs.Calls.{GetTells, GetsCached, PutBackTells, PutsCached, answer_of, given, handed_back};
+ghost use Rattle.pool.specs.Locals.{HasSameHand, IsLocalOf, SameRing, cache_of, ring_of, cache_size, view_of};
 
 use crate::faults::PoolFault;
 use crate::local::Local;
@@ -47,7 +47,7 @@ impl<T: Tagged, const N: usize> Local<T, N> {
         ensures local { IsLocalOf f.now self.new }
         ensures same { SameRing self.old self.new }
         ensures told { OnRing f.now (ring_of self.old)
-            (λ plan. PutTells T.numbers plan self.old self.new items (answer_of result) (handed_back result)) }
+            (λ plan. PutBackTells T.numbers plan self.old self.new items (answer_of result) (handed_back result)) }
     {
         let mut list = items;
         match self.put_from(rt, f, &mut list) {
@@ -72,7 +72,7 @@ impl<T: Tagged, const N: usize> Local<T, N> {
     /// `put_cached_from` a list by value, which comes back at a refusal.
     pub fn put_cached(&mut self, items: Burst<T, N>) -> Result<(), (Burst<T, N>, PoolFault)>
         ensures same { SameRing self.old self.new × HasSameHand self.old self.new }
-        ensures told { PutsCached T.numbers (view_of self.old) (size_of self.old) (cache_of self.old) items
+        ensures told { PutsCached T.numbers (view_of self.old) (cache_size self.old) (cache_of self.old) items
             (answer_of result) (handed_back result) (cache_of self.new) }
     {
         let mut list = items;

@@ -16,8 +16,8 @@ use Rattle.ringapi.specs.declared.answers.TakeAnswer.{TakeAnswer}
 use Rattle.ringapi.specs.declared.answers.TakeAnswer.TheVariants as taken
 
 module _ {T : Type 0} {G : Ghosts T} {N : ℕ} (tags : T → List ℕ) (ring : ℕ) (plan : RingPlan) where
-  -- The last attempt of a put, which is the one that is answered. Its start had the view v before it, with the spans and
-  -- buffers that the hand has still; an open span had the view v before the settle that came too early
+  -- The last attempt of a put, which is the one that is answered. Its start had the view v before it, with the spans
+  -- and buffers that the hand has still; an open span had the view v before the settle that came too early
   abbrev pub IsTruePut : PutAnswer T N G → Type 0
   IsTruePut (put.Done h moved) = ⊤
   IsTruePut (put.Refused h (Start e)) =

@@ -29,13 +29,13 @@ PassesBy BadCount = ⊥
 
 module _ {T : Type 0} where
   -- a span of a side, settled with these items
-  abbrev pub settled_span : ℕ → Side → ℕ → List T → Settled T
-  settled_span ring side start items = record { ring = ring; side = side; start = start; items = items }
+  abbrev pub settlement : ℕ → Side → ℕ → List T → Settled T
+  settlement ring side start items = record { ring = ring; side = side; start = start; items = items }
 
   -- one span was settled, with these items
   abbrev pub HasSettled : ℕ → Side → List T → View T → View T → Type 0
   HasSettled ring side items v w =
-      (start : ℕ) × (w.party.settled ≡ settled_span ring side start items ∷ v.party.settled)
+      (start : ℕ) × (w.party.settled ≡ settlement ring side start items ∷ v.party.settled)
 
   -- nothing was settled
   abbrev pub SettledNothing : View T → View T → Type 0

@@ -1,5 +1,6 @@
 -- What stands right after the opening
-use Rattle.std.proofs.Common.{ℕ, zero, suc, ◌+◌, ◌<◌, ◌≤◌, ◌≡◌, ◌≢◌, ◌∙◌, ◌⊎◌, inl, inr, List, [], ◌∷◌, ◌++◌, length, arith, true, false, Bool, ◌&&◌, cond, refl, ap}
+use Rattle.std.proofs.Common.{ℕ, zero, suc, ◌+◌, ◌<◌, ◌≤◌, ◌≡◌, ◌≢◌, ◌∙◌, ◌⊎◌, inl, inr, List, [], ◌∷◌, ◌++◌, length, arith, true, false, Bool, ◌&&◌, cond}
+use Rattle.std.proofs.Common.{refl, ap}
 use Rattle.std.proofs.Common.{sym, subst}
 use Rattle.std.specs.Prelude.{map, slice_get, slice_index, slice_index_or, None, Some, nat_lt, ◌==◌, ◌-◌, if◌then◌else◌}
 use Rattle.std.specs.List.{filter, list_all, range_with_len, sum_by}

@@ -19,7 +19,7 @@ use Rattle.ringcore_laws.proofs.RunLaws.{one_span_each, run_kept}
 use Rattle.ringcore_laws.proofs.RefusalLaws.{puts_find_room}
 use Rattle.ringcore.proofs.Planned.{plans_counted}
 use Rattle.ringcore.specs.Histories.{History, IsPlanned, IsRight, AgreesWith, StepExists, actors_of, opening_of, pool_size, followed_by}
-use Rattle.ringcore.specs.Planned.{plans_of, rings_of}
+use Rattle.ringcore.specs.Planned.{plans_of, world_rings}
 
 pub after_all-append : (actors : List Actor) (xs ys : List Event) → after_all actors (xs ++ ys) ≡ after_all (after_all actors xs) ys
 after_all-append actors [] ys = refl
@@ -52,9 +52,9 @@ right_followed h events right more =
 pub step_followed : (old new : World) (h : History) (actor : ℕ) (step : Step) (reply : Reply)
     → (plans_of new) ≡ (plans_of old)
     → ((pool : ℕ) (actors : List Actor) → AllFit (plans_of old) pool → Invariant (plans_of old) pool actors
-    → ListsAgree (plans_of old) pool (rings_of old) old.places.items old.members.items actors
+    → ListsAgree (plans_of old) pool (world_rings old) old.places.items old.members.items actors
     → (reply ≡ reply_to (plans_of old) pool actors actor step)
-    × ListsAgree (plans_of old) pool (rings_of new) new.places.items new.members.items (after actors record { actor = actor; step = step; reply = reply }))
+    × ListsAgree (plans_of old) pool (world_rings new) new.places.items new.members.items (after actors record { actor = actor; step = step; reply = reply }))
     → AgreesWith old h → IsRight h
     → (reply ≡ reply_to h.plans (pool_size h) (actors_of h) actor step)
     × AgreesWith new (followed_by h (record { actor = actor; step = step; reply = reply } ∷ []))
@@ -62,16 +62,16 @@ pub step_followed : (old new : World) (h : History) (actor : ℕ) (step : Step) 
 step_followed old new h actor step reply same goes agree right =
     let e : Event = record { actor = actor; step = step; reply = reply } in
     let there = subst (λ (ps : List RingPlan). (pool : ℕ) (actors : List Actor) → AllFit ps pool → Invariant ps pool actors
-    → ListsAgree ps pool (rings_of old) old.places.items old.members.items actors
+    → ListsAgree ps pool (world_rings old) old.places.items old.members.items actors
     → (reply ≡ reply_to ps pool actors actor step)
-    × ListsAgree ps pool (rings_of new) new.places.items new.members.items (after actors record { actor = actor; step = step; reply = reply }))
+    × ListsAgree ps pool (world_rings new) new.places.items new.members.items (after actors record { actor = actor; step = step; reply = reply }))
     agree.plans goes in
     let now = there (pool_size h) (actors_of h) right.plan.rings (right_kept h right) agree.lists in (
       now.0,
       record {
         plans = same ∙ agree.plans;
         lists =
-            subst (λ (v : List Actor). ListsAgree h.plans (pool_size h) (rings_of new) new.places.items new.members.items v)
+            subst (λ (v : List Actor). ListsAgree h.plans (pool_size h) (world_rings new) new.places.items new.members.items v)
             (sym (after_all-append (opening_of h) h.events (e ∷ []))) now.1;
       },
       right_followed h (e ∷ []) right (now.0, tt),
@@ -81,25 +81,25 @@ step_followed old new h actor step reply same goes agree right =
 pub run_followed : (old new : World) (h : History) (entries : List (ℕ × Step)) (replies : List Reply)
     → (plans_of new) ≡ (plans_of old)
     → ((pool : ℕ) (actors : List Actor) → AllFit (plans_of old) pool → Invariant (plans_of old) pool actors
-    → ListsAgree (plans_of old) pool (rings_of old) old.places.items old.members.items actors
-    → RunsTo (plans_of old) pool actors entries replies [] (rings_of new) new.places.items new.members.items)
+    → ListsAgree (plans_of old) pool (world_rings old) old.places.items old.members.items actors
+    → RunsTo (plans_of old) pool actors entries replies [] (world_rings new) new.places.items new.members.items)
     → AgreesWith old h → IsRight h
     → (length replies ≡ length entries) × AgreesWith new (followed_by h (events_of entries replies)) × IsRight (followed_by h (events_of entries replies))
 run_followed old new h entries replies same goes agree right =
     let there = subst (λ (ps : List RingPlan). (pool : ℕ) (actors : List Actor) → AllFit ps pool → Invariant ps pool actors
-    → ListsAgree ps pool (rings_of old) old.places.items old.members.items actors
-    → RunsTo ps pool actors entries replies [] (rings_of new) new.places.items new.members.items) agree.plans goes in
+    → ListsAgree ps pool (world_rings old) old.places.items old.members.items actors
+    → RunsTo ps pool actors entries replies [] (world_rings new) new.places.items new.members.items) agree.plans goes in
     let run = there (pool_size h) (actors_of h) right.plan.rings (right_kept h right) agree.lists in
     let whole : run.done ≡ entries = sym (append-nil run.done) ∙ run.split in
     let ran = subst (λ (d : List (ℕ × Step)). IsRun h.plans (pool_size h) (actors_of h) (events_of d replies)) whole run.right in
     let left =
-    subst (λ (d : List (ℕ × Step)). ListsAgree h.plans (pool_size h) (rings_of new) new.places.items new.members.items
+    subst (λ (d : List (ℕ × Step)). ListsAgree h.plans (pool_size h) (world_rings new) new.places.items new.members.items
     (after_all (actors_of h) (events_of d replies))) whole run.agree in (
       run.count ∙ ap length whole,
       record {
         plans = same ∙ agree.plans;
         lists =
-            subst (λ (v : List Actor). ListsAgree h.plans (pool_size h) (rings_of new) new.places.items new.members.items v)
+            subst (λ (v : List Actor). ListsAgree h.plans (pool_size h) (world_rings new) new.places.items new.members.items v)
             (sym (after_all-append (opening_of h) h.events (events_of entries replies))) left;
       },
       right_followed h (events_of entries replies) right ran,

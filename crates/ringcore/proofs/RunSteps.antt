@@ -19,7 +19,7 @@ use Rattle.ringcore.specs.Histories.{IsUnchanged, LeavesBeginning, actors_of, op
 use Rattle.ringcore.proofs.Rightness.{after_all-append, right_followed, right_kept}
 use Rattle.ringcore.proofs.Unchanged.{same_agree}
 use Rattle.ringcore.specs.Runs.{events_of, RunsTo}
-use Rattle.ringcore.specs.Planned.{plans_of, rings_of}
+use Rattle.ringcore.specs.Planned.{plans_of, world_rings}
 
 events_more : (done : List (ℕ × Step)) (replies : List Reply) (e : ℕ × Step) (r : Reply) → length replies ≡ length done
     → events_of (done ++ e ∷ []) (replies ++ r ∷ []) ≡ events_of done replies ++ record { actor = e.0; step = e.1; reply = r } ∷ []
@@ -78,32 +78,32 @@ pub run_goes_on : (plans : List RingPlan) (old new : World) (pool : ℕ) (actors
     (left rest : List (ℕ × Step)) (i : ℕ) (step : Step) (r : Reply)
     → (plans_of old) ≡ plans → left ≡ (i, step) ∷ rest
     → ((pool : ℕ) (now : List Actor) → AllFit (plans_of old) pool → Invariant (plans_of old) pool now
-    → ListsAgree (plans_of old) pool (rings_of old) old.places.items old.members.items now
+    → ListsAgree (plans_of old) pool (world_rings old) old.places.items old.members.items now
     → (r ≡ reply_to (plans_of old) pool now i step)
-    × ListsAgree (plans_of old) pool (rings_of new) new.places.items new.members.items (after now record { actor = i; step = step; reply = r }))
-    → AllFit plans pool → RunsTo plans pool actors entries replies left (rings_of old) old.places.items old.members.items
-    → RunsTo plans pool actors entries (replies ++ r ∷ []) rest (rings_of new) new.places.items new.members.items
+    × ListsAgree (plans_of old) pool (world_rings new) new.places.items new.members.items (after now record { actor = i; step = step; reply = r }))
+    → AllFit plans pool → RunsTo plans pool actors entries replies left (world_rings old) old.places.items old.members.items
+    → RunsTo plans pool actors entries (replies ++ r ∷ []) rest (world_rings new) new.places.items new.members.items
 run_goes_on plans old new pool actors entries replies left rest i step r same first goes fits run =
     let there = subst (λ (ps : List RingPlan). (pool : ℕ) (now : List Actor) → AllFit ps pool → Invariant ps pool now
-    → ListsAgree ps pool (rings_of old) old.places.items old.members.items now
+    → ListsAgree ps pool (world_rings old) old.places.items old.members.items now
     → (r ≡ reply_to ps pool now i step)
-    × ListsAgree ps pool (rings_of new) new.places.items new.members.items (after now record { actor = i; step = step; reply = r })) same goes in
-    run_more plans pool actors entries replies rest (rings_of old) (rings_of new) old.places.items new.places.items old.members.items new.members.items
+    × ListsAgree ps pool (world_rings new) new.places.items new.members.items (after now record { actor = i; step = step; reply = r })) same goes in
+    run_more plans pool actors entries replies rest (world_rings old) (world_rings new) old.places.items new.places.items old.members.items new.members.items
     i step r fits
-    (subst (λ (v : List (ℕ × Step)). RunsTo plans pool actors entries replies v (rings_of old) old.places.items old.members.items) first run)
+    (subst (λ (v : List (ℕ × Step)). RunsTo plans pool actors entries replies v (world_rings old) old.places.items old.members.items) first run)
     (λ now kept agrees. there pool now fits kept agrees)
 
 -- the same run, where the lists differ only in the room that was made in them
 pub run_unchanged : (plans : List RingPlan) (old new : World) (pool : ℕ) (actors : List Actor) (entries : List (ℕ × Step)) (replies : List Reply)
-    (rest : List (ℕ × Step)) → IsUnchanged old new → RunsTo plans pool actors entries replies rest (rings_of old) old.places.items old.members.items
-    → RunsTo plans pool actors entries replies rest (rings_of new) new.places.items new.members.items
+    (rest : List (ℕ × Step)) → IsUnchanged old new → RunsTo plans pool actors entries replies rest (world_rings old) old.places.items old.members.items
+    → RunsTo plans pool actors entries replies rest (world_rings new) new.places.items new.members.items
 run_unchanged plans old new pool actors entries replies rest same run = record {
   done = run.done;
   split = run.split;
   count = run.count;
   right = run.right;
   kept = run.kept;
-  agree = same_agree plans pool (rings_of old) (rings_of new) old.places.items new.places.items old.members.items new.members.items _
+  agree = same_agree plans pool (world_rings old) (world_rings new) old.places.items new.places.items old.members.items new.members.items _
       (same.1, same.2, same.3) run.agree;
 }
 
@@ -128,21 +128,21 @@ events_are plans pool actors (s ∷ done) (r ∷ replies) same run =
 -- a list of steps that was not done to its end, of a world that is what a right history leaves
 pub beginning_followed : (old new : World) (entries : List (ℕ × Step)) → (plans_of new) ≡ (plans_of old)
     → ((pool : ℕ) (actors : List Actor) → AllFit (plans_of old) pool → Invariant (plans_of old) pool actors
-    → ListsAgree (plans_of old) pool (rings_of old) old.places.items old.members.items actors
+    → ListsAgree (plans_of old) pool (world_rings old) old.places.items old.members.items actors
     → (replies : List Reply) × (rest : List (ℕ × Step))
-    × RunsTo (plans_of old) pool actors entries replies rest (rings_of new) new.places.items new.members.items)
+    × RunsTo (plans_of old) pool actors entries replies rest (world_rings new) new.places.items new.members.items)
     → LeavesBeginning old new entries
 beginning_followed old new entries same goes h agree right =
     let there = subst (λ (ps : List RingPlan). (pool : ℕ) (actors : List Actor) → AllFit ps pool → Invariant ps pool actors
-    → ListsAgree ps pool (rings_of old) old.places.items old.members.items actors
+    → ListsAgree ps pool (world_rings old) old.places.items old.members.items actors
     → (replies : List Reply) × (rest : List (ℕ × Step))
-    × RunsTo ps pool actors entries replies rest (rings_of new) new.places.items new.members.items) agree.plans goes in
+    × RunsTo ps pool actors entries replies rest (world_rings new) new.places.items new.members.items) agree.plans goes in
     let found = there (pool_size h) (actors_of h) right.plan.rings (right_kept h right) agree.lists in
     let replies = found.0 in
     let run = found.2 in
     let events = events_are h.plans (pool_size h) (actors_of h) run.done replies run.count run.right in
     let ran = subst (λ (es : List Event). IsRun h.plans (pool_size h) (actors_of h) es) events run.right in
-    let left = subst (λ (es : List Event). ListsAgree h.plans (pool_size h) (rings_of new) new.places.items new.members.items
+    let left = subst (λ (es : List Event). ListsAgree h.plans (pool_size h) (world_rings new) new.places.items new.members.items
     (after_all (actors_of h) es)) events run.agree in
     let more = history_of h.plans (pool_size h) (actors_of h) run.done in (
       run.done,
@@ -151,7 +151,7 @@ beginning_followed old new entries same goes h agree right =
       record {
         plans = same ∙ agree.plans;
         lists =
-            subst (λ (v : List Actor). ListsAgree h.plans (pool_size h) (rings_of new) new.places.items new.members.items v)
+            subst (λ (v : List Actor). ListsAgree h.plans (pool_size h) (world_rings new) new.places.items new.members.items v)
             (sym (after_all-append (opening_of h) h.events more)) left;
       },
       right_followed h more right ran,

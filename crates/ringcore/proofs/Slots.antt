@@ -12,7 +12,7 @@ use Rattle.std.specs.Prelude.{IsSome}
 use Rattle.std.specs.List.{flat_map}
 use Rattle.std.specs.Option.{option_to_list}
 use Rattle.geom.specs.Extent.{Extent, IsExtent}
-use Rattle.ringcore.specs.Fifo.{rotated, queued, IsLaidOut}
+use Rattle.ringcore.specs.Fifo.{slots_from, queued, IsLaidOut}
 
 -- a number below two laps wraps once at most
 wraps_once : (n i : ℕ) → i < n + n → ((i < n) × (i % n ≡ i)) ⊎ ((n ≤ i) × (i % n ≡ i - n))
@@ -23,9 +23,9 @@ wraps_once n i below =
     ]
 
 -- a write n slots behind the front, around the end, is a write at place n
-pub rotated-set : {A : Type 0} (xs : List A) (k n i : ℕ) (v : A) → k < length xs → n < length xs → i ≡ (k + n) % length xs
-    → rotated k (set xs i v) ≡ set (rotated k xs) n v
-rotated-set xs k n i v front there at =
+pub slots_from-set : {A : Type 0} (xs : List A) (k n i : ℕ) (v : A) → k < length xs → n < length xs → i ≡ (k + n) % length xs
+    → slots_from k (set xs i v) ≡ set (slots_from k xs) n v
+slots_from-set xs k n i v front there at =
     let tail_length = length-drop k xs in
     elim (wraps_once (length xs) (k + n) (omega arith)) [
       | inl low ↦
@@ -42,9 +42,9 @@ rotated-set xs k n i v front there at =
     ]
 
 -- a write at the front, seen from the next slot
-pub rotated-next : {A : Type 0} (xs : List A) (k i : ℕ) (v : A) → k < length xs → i ≡ (k + 1) % length xs
-    → rotated i (set xs k v) ≡ (drop (suc k) xs ++ take k xs) ++ v ∷ []
-rotated-next xs k i v front at =
+pub slots_from-next : {A : Type 0} (xs : List A) (k i : ℕ) (v : A) → k < length xs → i ≡ (k + 1) % length xs
+    → slots_from i (set xs k v) ≡ (drop (suc k) xs ++ take k xs) ++ v ∷ []
+slots_from-next xs k i v front at =
     elim (wraps_once (length xs) (k + 1) (omega arith)) [
       | inl low ↦
           let e : i ≡ k + 1 = at ∙ low.1 in
@@ -65,13 +65,13 @@ present [] (suc k) = present [] k
 present (y ∷ ys) k = ap (λ rest. y ∷ rest) (present ys k)
 
 pub queued-laid : {T : Type 0} (slots : List (Option T)) (front k : ℕ) (ys : List T)
-    → rotated front slots ≡ map Some ys ++ replicate k None → queued front slots ≡ ys
+    → slots_from front slots ≡ map Some ys ++ replicate k None → queued front slots ≡ ys
 queued-laid slots front k ys laid = ap (flat_map option_to_list) laid ∙ present ys k
 
 -- the slots as one row of items and then nothing
 pub laid_from : {T : Type 0} (e : Extent) (slots : List (Option T)) (front count : ℕ) (ys : List T)
     → IsExtent e → length slots ≡ e.size → front < e.size → length ys ≡ count → count ≤ e.capacity
-    → rotated front slots ≡ map Some ys ++ replicate (e.size - count) None → IsLaidOut e slots front count
+    → slots_from front slots ≡ map Some ys ++ replicate (e.size - count) None → IsLaidOut e slots front count
 laid_from e slots front count ys extent sized within counted bounded laid =
     let items = queued-laid slots front (e.size - count) ys laid in
     record {
@@ -96,7 +96,7 @@ vacant_more n k some h =
 
 pushed_row : {T : Type 0} (e : Extent) (slots : List (Option T)) (front count i : ℕ) (x : T)
     → IsLaidOut e slots front count → count < e.capacity → i ≡ (front + count) % e.size
-    → rotated front (set slots i (Some x)) ≡ map Some (queued front slots ++ x ∷ []) ++ replicate (e.size - (count + 1)) None
+    → slots_from front (set slots i (Some x)) ≡ map Some (queued front slots ++ x ∷ []) ++ replicate (e.size - (count + 1)) None
 pushed_row e slots front count i x old room at =
     let spare = old.extent.spare in
     let ys = queued front slots in
@@ -106,7 +106,7 @@ pushed_row e slots front count i x old room at =
     let there : count < length slots = omega arith in
     let row = old.laid ∙ ap (λ v. map Some ys ++ v) (vacant_one e.size count (omega arith)) in
     let at_end : length (map Some ys) ≡ count = length-map ys Some ∙ old.counted in
-    rotated-set slots front count i (Some x) near there place
+    slots_from-set slots front count i (Some x) near there place
     ∙ ap (λ r. set r count (Some x)) row
     ∙ ap (λ n. set (map Some ys ++ None ∷ replicate (e.size - (count + 1)) None) n (Some x)) (sym at_end)
     ∙ set-append_seam (map Some ys) None (replicate (e.size - (count + 1)) None) (Some x)
@@ -130,7 +130,7 @@ queued-pushed e slots front count i x old room at =
 
 -- the row from the front on, as the front slot and the others
 row-front : {T : Type 0} (slots : List (Option T)) (front : ℕ) (d : Option T) → front < length slots
-    → rotated front slots ≡ get_or slots front d ∷ (drop (suc front) slots ++ take front slots)
+    → slots_from front slots ≡ get_or slots front d ∷ (drop (suc front) slots ++ take front slots)
 row-front slots front d h = ap (λ r. r ++ take front slots) (drop-cons slots front d h)
 
 head_is : {A : Type 0} (x y : A) (xs ys : List A) → x ∷ xs ≡ y ∷ ys → x ≡ y
@@ -147,7 +147,7 @@ pub record Popped {T : Type 0} (e : Extent) (slots : List (Option T)) (front cou
 
 popped_by : {T : Type 0} (e : Extent) (slots : List (Option T)) (front count next : ℕ) (item : Option T) (ys : List T)
     → IsExtent e → length slots ≡ e.size → front < e.size → 0 < count → count ≤ e.capacity → next < e.size → length ys ≡ count
-    → rotated front slots ≡ map Some ys ++ replicate (e.size - count) None
+    → slots_from front slots ≡ map Some ys ++ replicate (e.size - count) None
     → next ≡ (front + 1) % e.size → item ≡ get_or slots front item → Popped e slots front count next item
 popped_by e slots front count next item [] extent sized within some bounded inside counted laid at item_is = absurd (omega arith)
 popped_by e slots front count next item (y ∷ ys) extent sized within some bounded inside counted laid at item_is =
@@ -159,8 +159,8 @@ popped_by e slots front count next item (y ∷ ys) extent sized within some boun
     item_is ∙ head_is (get_or slots front item) (Some y) (drop (suc front) slots ++ take front slots) (map Some ys ++ replicate k None) row in
     let rest = tail_is (get_or slots front item) (Some y) (drop (suc front) slots ++ take front slots) (map Some ys ++ replicate k None) row in
     let place : next ≡ (front + 1) % length slots = at ∙ ap (λ n. (front + 1) % n) (sym sized) in
-    let after : rotated next (set slots front None) ≡ map Some ys ++ replicate (e.size - (count - 1)) None =
-    rotated-next slots front next None near place
+    let after : slots_from next (set slots front None) ≡ map Some ys ++ replicate (e.size - (count - 1)) None =
+    slots_from-next slots front next None near place
     ∙ ap (λ r. r ++ None ∷ []) rest
     ∙ append_assoc (map Some ys) (replicate k None) (None ∷ [])
     ∙ ap (λ v. map Some ys ++ v) (vacant_more e.size count some (omega arith)) in

@@ -8,7 +8,7 @@ use Rattle.ringcore.specs.declared.member.Member.{Member}
 use Rattle.ringcore.specs.declared.world.World.{World}
 use Rattle.ringcore.specs.Agree.{ListsAgree}
 use Rattle.ringcore.specs.Histories.{AgreesWith, History, IsUnchanged, pool_size}
-use Rattle.ringcore.specs.Planned.{rings_of}
+use Rattle.ringcore.specs.Planned.{world_rings}
 
 pub same_agree : (plans : List RingPlan) (pool : ℕ) (rings new_rings : List Ring) (places new_places : List Place) (members new_members : List Member)
     (actors : List Actor) → (new_rings ≡ rings) × (new_places ≡ places) × (new_members ≡ members)
@@ -21,6 +21,6 @@ same_agree plans pool rings new_rings places new_places members new_members acto
 pub unchanged_agrees : (old new : World) → IsUnchanged old new → (h : History) → AgreesWith old h → AgreesWith new h
 unchanged_agrees old new same h agree = record {
   plans = same.0 ∙ agree.plans;
-  lists = same_agree h.plans (pool_size h) (rings_of old) (rings_of new) old.places.items new.places.items old.members.items new.members.items _
+  lists = same_agree h.plans (pool_size h) (world_rings old) (world_rings new) old.places.items new.places.items old.members.items new.members.items _
       (same.1, same.2, same.3) agree.lists;
 }

@@ -10,12 +10,12 @@ pub record Fifo (T : Type 0) : Type 0 where
   pub items : List T
 
 -- the slots from k on, around the end
-abbrev pub rotated : {A : Type 0} → ℕ → List A → List A
-rotated k slots = drop k slots ++ take k slots
+abbrev pub slots_from : {A : Type 0} → ℕ → List A → List A
+slots_from k slots = drop k slots ++ take k slots
 
 -- the items in the slots from k on, around the end
 abbrev pub queued : {T : Type 0} → ℕ → List (Option T) → List T
-queued k slots = flat_map option_to_list (rotated k slots)
+queued k slots = flat_map option_to_list (slots_from k slots)
 
 -- the slots from the front on are the items, one each, and then nothing
 pub record IsLaidOut {T : Type 0} (e : Extent) (slots : List (Option T)) (front count : ℕ) : Type 0 where
@@ -24,4 +24,4 @@ pub record IsLaidOut {T : Type 0} (e : Extent) (slots : List (Option T)) (front 
   pub within : front < e.size
   pub bounded : count ≤ e.capacity
   pub counted : length (queued front slots) ≡ count
-  pub laid : rotated front slots ≡ map Some (queued front slots) ++ replicate (e.size - count) None
+  pub laid : slots_from front slots ≡ map Some (queued front slots) ++ replicate (e.size - count) None

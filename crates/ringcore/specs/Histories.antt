@@ -10,7 +10,7 @@ use Rattle.ringcore.specs.Agree.{ListsAgree}
 use Rattle.ringcore.specs.Runs.{IsOnRing}
 use Rattle.ringcore.specs.Runs.{ExistAll}
 use Rattle.ringcore_laws.specs.declared.protocol.Step.{Step}
-use Rattle.ringcore.specs.Planned.{plans_of, rings_of}
+use Rattle.ringcore.specs.Planned.{plans_of, world_rings}
 
 pub record History : Type 0 where
   pub plans : List RingPlan
@@ -49,7 +49,7 @@ pub record IsRight (h : History) : Type 0 where
 -- the world's queued items, lengths, spans, looks and places of buffers are those that the history gives
 pub record AgreesWith (w : World) (h : History) : Type 0 where
   pub plans : plans_of w ≡ h.plans
-  pub lists : ListsAgree h.plans (pool_size h) (rings_of w) w.places.items w.members.items (actors_of h)
+  pub lists : ListsAgree h.plans (pool_size h) (world_rings w) w.places.items w.members.items (actors_of h)
 
 -- the world has the actor and the ring of a step
 abbrev pub StepExists : World → ℕ → Step → Type 0
@@ -65,7 +65,7 @@ IsPlanned h actor step = (actor < h.actors) × IsOnRing (length h.plans) step
 -- worlds that keep the same
 abbrev pub IsUnchanged : World → World → Type 0
 IsUnchanged old new =
-    (plans_of new ≡ plans_of old) × (rings_of new ≡ rings_of old)
+    (plans_of new ≡ plans_of old) × (world_rings new ≡ world_rings old)
     × (new.places.items ≡ old.places.items) × (new.members.items ≡ old.members.items)
 
 -- the new world is what the old one's history, followed by a beginning of the list, leaves

@@ -14,5 +14,5 @@ rings_in rings = map (λ r. r.ring) rings
 abbrev pub plans_of : World → List RingPlan
 plans_of w = plans_in w.rings.items
 
-abbrev pub rings_of : World → List Ring
-rings_of w = rings_in w.rings.items
+abbrev pub world_rings : World → List Ring
+world_rings w = rings_in w.rings.items

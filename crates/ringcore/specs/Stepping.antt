@@ -11,7 +11,7 @@ use Rattle.ringcore.specs.declared.member.Member.{Member}
 use Rattle.ringcore.specs.declared.world.World.{World}
 use Rattle.ringcore.specs.Agree.{ListsAgree}
 use Rattle.ringcore.specs.Runs.{RunsTo}
-use Rattle.ringcore.specs.Planned.{plans_of, rings_of}
+use Rattle.ringcore.specs.Planned.{plans_of, world_rings}
 
 -- there are as many actors and rings as before
 abbrev pub SameCounts : World → World → Type 0
@@ -22,7 +22,7 @@ abbrev pub SamePlans : World → World → Type 0
 SamePlans old new = plans_of new ≡ plans_of old
 
 abbrev pub SameRings : World → World → Type 0
-SameRings old new = (rings_of new ≡ rings_of old) × SamePlans old new
+SameRings old new = (world_rings new ≡ world_rings old) × SamePlans old new
 
 abbrev pub SameMembers : World → World → Type 0
 SameMembers old new = new.members.items ≡ old.members.items
@@ -35,20 +35,20 @@ abbrev pub MemberAt : World → ℕ → (Member → Type 0) → Type 0
 MemberAt w actor P = (m : Member) → slice_get w.members.items actor ≡ Some m → P m
 
 abbrev pub RingAt : World → ℕ → (Ring → Type 0) → Type 0
-RingAt w ring P = (r : Ring) → slice_get (rings_of w) ring ≡ Some r → P r
+RingAt w ring P = (r : Ring) → slice_get (world_rings w) ring ≡ Some r → P r
 
 abbrev pub FoundAt : World → ℕ → ℕ → (Member → RingPlan → Ring → Type 0) → Type 0
 FoundAt w actor ring P =
     (m : Member) (plan : RingPlan) (r : Ring) → slice_get w.members.items actor ≡ Some m
     → slice_get (plans_of w) ring ≡ Some plan
-    → slice_get (rings_of w) ring ≡ Some r → P m plan r
+    → slice_get (world_rings w) ring ≡ Some r → P m plan r
 
 -- the actor of this number is now this one, and nobody else changed; the same of a ring
 abbrev pub SetMember : World → World → ℕ → Member → Type 0
 SetMember old new actor m = new.members.items ≡ slice_set old.members.items actor m
 
 abbrev pub SetRing : World → World → ℕ → Ring → Type 0
-SetRing old new ring r = rings_of new ≡ slice_set (rings_of old) ring r
+SetRing old new ring r = world_rings new ≡ slice_set (world_rings old) ring r
 
 abbrev pub BothSet : World → World → ℕ → ℕ → (Member → Ring → Type 0) → Type 0
 BothSet old new actor ring P = (n : Member) × (y : Ring) × SetMember old new actor n × SetRing old new ring y × P n y
@@ -58,22 +58,22 @@ BothSet old new actor ring P = (n : Member) × (y : Ring) × SetMember old new a
 abbrev pub Answers : World → World → ℕ → Step → Reply → Type 0
 Answers old new actor step reply =
     (pool : ℕ) (actors : List Actor) → AllFit (plans_of old) pool → Invariant (plans_of old) pool actors
-    → ListsAgree (plans_of old) pool (rings_of old) old.places.items old.members.items actors
+    → ListsAgree (plans_of old) pool (world_rings old) old.places.items old.members.items actors
     → (reply ≡ reply_to (plans_of old) pool actors actor step)
-    × ListsAgree (plans_of old) pool (rings_of new) new.places.items new.members.items
+    × ListsAgree (plans_of old) pool (world_rings new) new.places.items new.members.items
     (after actors record { actor = actor; step = step; reply = reply })
 
 -- the same of entries that were answered so, but for the rest
 abbrev pub AnswersAll : World → World → List (ℕ × Step) → List Reply → List (ℕ × Step) → Type 0
 AnswersAll old new entries replies rest =
     (pool : ℕ) (actors : List Actor) → AllFit (plans_of old) pool → Invariant (plans_of old) pool actors
-    → ListsAgree (plans_of old) pool (rings_of old) old.places.items old.members.items actors
-    → RunsTo (plans_of old) pool actors entries replies rest (rings_of new) new.places.items new.members.items
+    → ListsAgree (plans_of old) pool (world_rings old) old.places.items old.members.items actors
+    → RunsTo (plans_of old) pool actors entries replies rest (world_rings new) new.places.items new.members.items
 
 -- the same of some beginning
 abbrev pub AnswersSome : World → World → List (ℕ × Step) → Type 0
 AnswersSome old new entries =
     (pool : ℕ) (actors : List Actor) → AllFit (plans_of old) pool → Invariant (plans_of old) pool actors
-    → ListsAgree (plans_of old) pool (rings_of old) old.places.items old.members.items actors
+    → ListsAgree (plans_of old) pool (world_rings old) old.places.items old.members.items actors
     → (replies : List Reply) × (rest : List (ℕ × Step))
-    × RunsTo (plans_of old) pool actors entries replies rest (rings_of new) new.places.items new.members.items
+    × RunsTo (plans_of old) pool actors entries replies rest (world_rings new) new.places.items new.members.items

@@ -77,6 +77,7 @@ pub fn go(world: &mut World, rows: &mut [Row]) -> Result<usize, AllocError> {
         if step(world, *actor, replace(next, LOOK))? != *wanted {
             return Ok(count);
         }
+        // Saturating here: no clause bounds it, and it stays small.
         count = count.saturating_add(1);
     }
     Ok(count)

@@ -32,7 +32,8 @@ pub macs : map mac_of (
     ∷ codes "020000000010"
     ∷ codes " 02:00:00:00:00:10"
     ∷ [] ∷ [])
-    ≡ Some (2 ∷ 0 ∷ 0 ∷ 0 ∷ 0 ∷ 16 ∷ []) ∷ Some (171 ∷ 205 ∷ 239 ∷ 9 ∷ 159 ∷ 160 ∷ []) ∷ None ∷ None ∷ None ∷ None ∷ None ∷ None ∷ None ∷ None ∷ None ∷ None ∷ None ∷ None ∷ []
+    ≡ Some (2 ∷ 0 ∷ 0 ∷ 0 ∷ 0 ∷ 16 ∷ []) ∷ Some (171 ∷ 205 ∷ 239 ∷ 9 ∷ 159 ∷ 160 ∷ [])
+    ∷ None ∷ None ∷ None ∷ None ∷ None ∷ None ∷ None ∷ None ∷ None ∷ None ∷ None ∷ None ∷ []
 macs = refl
 
 -- prefixes
@@ -59,11 +60,12 @@ pub prefixes : map prefix_in (
     ∷ codes "10.0.0.:/8"
     ∷ codes "10.0.0.0/:"
     ∷ [])
-    ≡ Some (167772160, 8) ∷ Some (167838211, 32) ∷ Some (4294967295, 1) ∷ Some (0, 10) ∷ None ∷ None ∷ None ∷ None ∷ None ∷ None ∷ None ∷ None ∷ None ∷ None ∷ None ∷ None ∷ None ∷ None ∷ None ∷ None ∷ None ∷ []
+    ≡ Some (167772160, 8) ∷ Some (167838211, 32) ∷ Some (4294967295, 1) ∷ Some (0, 10)
+    ∷ None ∷ None ∷ None ∷ None ∷ None ∷ None ∷ None ∷ None ∷ None ∷ None ∷ None ∷ None ∷ None ∷ None ∷ None ∷ None ∷ None ∷ []
 prefixes = refl
 
--- the table of numbers: the least and the greatest value, what is beside them on both sides, and an odd one between, each taken as it is written; and what is taken
--- where the key is missing
+-- the table of numbers: the least and the greatest value, what is beside them on both sides, and an odd one between, each taken as it is written; and what is
+-- taken where the key is missing
 abbrev numbers_at : Key → List ℕ → List (Result ℕ SettingsFault)
 numbers_at key ns = map (λ n. number_by key (Some (integer (pos n)))) ns
 

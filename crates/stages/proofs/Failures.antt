@@ -1,5 +1,6 @@
 -- How often the devices of a run failed, call by call.
-use Rattle.std.proofs.Common.{◌≡◌, ◌≢◌, ℕ, ◌+◌, ◌-◌, ◌^◌, ◌==◌, min, true, false, List, Option, Some, None, slice_get, slice_set, map, refl, sym, ap, ◌∙◌, subst, eq-eqb, ne_eqb}
+use Rattle.std.proofs.Common.{◌≡◌, ◌≢◌, ℕ, ◌+◌, ◌-◌, ◌^◌, ◌==◌, min, true, false, List, Option, Some, None, slice_get, slice_set, map, refl, sym, ap, ◌∙◌}
+use Rattle.std.proofs.Common.{subst, eq-eqb, ne_eqb}
 use Rattle.std.specs.Option.{option_map}
 use Rattle.std.proofs.lemmas.Option.{slice_get-map}
 use Rattle.pcapio.specs.Counted.{failures_of, HasFailed, HasNotFailed}

@@ -1,5 +1,6 @@
 -- Ports before the first packet: each has a file header to tell.
-use Rattle.std.proofs.Common.{◌≡◌, ℕ, zero, suc, ◌+◌, Bool, length, sum, arith, List, [], ◌++◌, Option, Some, slice_get, map, refl, sym, ap, ◌∙◌, subst, append-nil}
+use Rattle.std.proofs.Common.{◌≡◌, ℕ, zero, suc, ◌+◌, Bool, length, sum, arith, List, [], ◌++◌, Option, Some, slice_get, map, refl, sym, ap, ◌∙◌, subst}
+use Rattle.std.proofs.Common.{append-nil}
 use Rattle.std.specs.Io.KnownBytes.{Appends}
 use Rattle.std.proofs.lemmas.Option.{slice_get-map}
 use Rattle.std.specs.Option.{option_map}

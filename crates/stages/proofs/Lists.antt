@@ -1,5 +1,6 @@
 -- One element of a list is changed.
-use Rattle.std.proofs.Common.{◌≡◌, ◌≢◌, ℕ, zero, suc, ◌⊎◌, inl, inr, List, [], ◌∷◌, ◌++◌, Some, slice_get, slice_set, refl, sym, ap, ◌∙◌, subst, arith, append_assoc, map, length}
+use Rattle.std.proofs.Common.{◌≡◌, ◌≢◌, ℕ, zero, suc, ◌⊎◌, inl, inr, List, [], ◌∷◌, ◌++◌, Some, slice_get, slice_set, refl, sym, ap, ◌∙◌, subst, arith}
+use Rattle.std.proofs.Common.{append_assoc, map, length}
 use Rattle.std.specs.Prelude.{reverse}
 use Rattle.std.proofs.lemmas.List.{reverse-append, map-append}
 

@@ -1,5 +1,6 @@
 -- Packets up to an end mark, and what becomes of them, pair by pair.
-use Rattle.std.proofs.Common.{◌⊎◌, ◌≡◌, ℕ, zero, suc, ◌+◌, ◌≤◌, inl, inr, Bool, true, false, List, [], ◌∷◌, ◌++◌, length, take, slice_get, Some, refl, sym, ap, ◌∙◌, arith, ◌||◌}
+use Rattle.std.proofs.Common.{◌⊎◌, ◌≡◌, ℕ, zero, suc, ◌+◌, ◌≤◌, inl, inr, Bool, true, false, List, [], ◌∷◌, ◌++◌, length, take, slice_get, Some, refl, sym, ap}
+use Rattle.std.proofs.Common.{◌∙◌, arith, ◌||◌}
 use Rattle.stages_laws.specs.declared.run.Run.{Ghosts}
 use Rattle.stages.specs.declared.packet.Packet.{Packet}
 use Rattle.stages.specs.declared.packet.Packet.TheVariants.{Free, Before, After, Mark}

@@ -7,7 +7,7 @@ use Rattle.ringcore_laws.specs.declared.party.Settled.{Settled}
 use Rattle.fabric.specs.Settles.{AreYours}
 use Rattle.fabric_laws.specs.declared.view.View.{View}
 use Rattle.pool.specs.Asks.{HasMore}
-use Rattle.ringapi.specs.Views.{settled_span}
+use Rattle.ringapi.specs.Views.{settlement}
 use Rattle.stages_laws.specs.Output.{Forwarding}
 use Rattle.stages_laws.specs.declared.run.Run.{Ghosts}
 use Rattle.stages.specs.declared.packet.Packet.{Packet}
@@ -29,13 +29,13 @@ module _ {J : Type 0} {G : Ghosts J} where
   }
 
   turn : (u v w x : List (Settled (Packet J G))) (taken sent items out : List (Packet J G)) (start : ℕ) → Passes u v taken sent
-      → w ≡ settled_span 1 Take start items ∷ v → Puts 2 w x out → Passes u x (taken ++ items) (sent ++ out)
+      → w ≡ settlement 1 Take start items ∷ v → Puts 2 w x out → Passes u x (taken ++ items) (sent ++ out)
   turn u v w x taken sent items out start before took puts =
       passes_puts u w x (taken ++ items) sent out (passes_take u v w taken sent items start before took) puts
 
   -- no end mark came
   pub goes_on : (forwarding : Forwarding) (u v w x : List (Settled (Packet J G))) (taken sent items out : List (Packet J G)) (start : ℕ) → Passes u v taken sent
-      → AllPairs (IsJudged forwarding) taken sent → has_mark taken ≡ false → w ≡ settled_span 1 Take start items ∷ v → has_mark items ≡ false
+      → AllPairs (IsJudged forwarding) taken sent → has_mark taken ≡ false → w ≡ settlement 1 Take start items ∷ v → has_mark items ≡ false
       → AllPairs (IsJudged forwarding) items out → Puts 2 w x out
       → Passes u x (taken ++ items) (sent ++ out) × AllPairs (IsJudged forwarding) (taken ++ items) (sent ++ out) × (has_mark (taken ++ items) ≡ false)
   goes_on forwarding u v w x taken sent items out start before pairs clear took none judged puts = (
@@ -46,7 +46,7 @@ module _ {J : Type 0} {G : Ghosts J} where
 
   -- an end mark came, as the last
   pub worked : (forwarding : Forwarding) (u v w x : List (Settled (Packet J G))) (taken sent items out : List (Packet J G)) (start : ℕ) → Passes u v taken sent
-      → AllPairs (IsJudged forwarding) taken sent → has_mark taken ≡ false → w ≡ settled_span 1 Take start items ∷ v → until_mark items ≡ items
+      → AllPairs (IsJudged forwarding) taken sent → has_mark taken ≡ false → w ≡ settlement 1 Take start items ∷ v → until_mark items ≡ items
       → has_mark items ≡ true → AllPairs (IsJudged forwarding) items out → Puts 2 w x out → HasWorked forwarding u x
   worked forwarding u v w x taken sent items out start before pairs clear took cut marked judged puts =
       let end = ends_in_mark items cut marked in

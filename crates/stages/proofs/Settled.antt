@@ -1,5 +1,6 @@
 -- What whole puts and takes change of the view of a hand: the items that it settled, and those that are its own.
-use Rattle.std.proofs.Common.{◌≡◌, ℕ, ◌-◌, ◌<◌, ◌≤◌, List, [], ◌∷◌, ◌++◌, length, take, Bool, true, false, refl, sym, ap, ◌∙◌, subst, arith, append-nil, append_assoc}
+use Rattle.std.proofs.Common.{◌≡◌, ℕ, ◌-◌, ◌<◌, ◌≤◌, List, [], ◌∷◌, ◌++◌, length, take, Bool, true, false, refl, sym, ap, ◌∙◌, subst, arith, append-nil}
+use Rattle.std.proofs.Common.{append_assoc}
 use Rattle.std.specs.Prelude.{◌==◌, ◌&&◌, if◌then◌else◌}
 use Rattle.std.proofs.lemmas.Bool.Decides.{nat_tests}
 use Rattle.geom.specs.declared.plan.How.{How}
@@ -31,7 +32,7 @@ use Rattle.ringapi.specs.declared.answers.PutAnswer.TheVariants.{Done, Refused}
 use Rattle.ringapi.specs.declared.answers.Refusal.{Refusal}
 use Rattle.ringapi.specs.declared.answers.Refusal.TheVariants.{Start, NotYours}
 use Rattle.ringapi.specs.Puts.{IsUnfinishedPut, PutHasTold, PutSettles}
-use Rattle.ringapi.specs.Views.{HasSettled, settled_span}
+use Rattle.ringapi.specs.Views.{HasSettled, settlement}
 use Rattle.ringapi.proofs.Tries.{starts_kept}
 use Rattle.ringapi.proofs.Yours.{kept_yours, not_both}
 use Rattle.stages.specs.Passing.{Passes, Puts, settled_on}
@@ -55,16 +56,16 @@ module _ {T : Type 0} where
   }
 
   put_on : (ring start : ℕ) (items : List T) (v : List (Settled T))
-      → settled_on ring Put (settled_span ring Put start items ∷ v) ≡ settled_on ring Put v ++ items
+      → settled_on ring Put (settlement ring Put start items ∷ v) ≡ settled_on ring Put v ++ items
   put_on ring start items v = ap (λ b. settled_on ring Put v ++ (if b && true then items else [])) (same_number ring)
 
   put_off : (ring r start : ℕ) (items : List T) (v : List (Settled T))
-      → settled_on r Take (settled_span ring Put start items ∷ v) ≡ settled_on r Take v
+      → settled_on r Take (settlement ring Put start items ∷ v) ≡ settled_on r Take v
   put_off ring r start items v =
       ap (λ b. settled_on r Take v ++ (if b then items else [])) (and_none (ring == r)) ∙ append-nil (settled_on r Take v)
 
   pub puts_more : (ring : ℕ) (u v w : List (Settled T)) (sent items : List T) (start : ℕ) → Puts ring u v sent
-      → w ≡ settled_span ring Put start items ∷ v → Puts ring u w (sent ++ items)
+      → w ≡ settlement ring Put start items ∷ v → Puts ring u w (sent ++ items)
   puts_more ring u v w sent items start before more = record {
     puts = ap (settled_on ring Put) more
         ∙ (put_on ring start items v ∙ (ap (λ xs. xs ++ items) before.puts ∙ append_assoc (settled_on ring Put u) sent items));
@@ -84,7 +85,7 @@ module _ {T : Type 0} where
   }
 
   pub passes_take : (u v w : List (Settled T)) (taken sent items : List T) (start : ℕ) → Passes u v taken sent
-      → w ≡ settled_span 1 Take start items ∷ v → Passes u w (taken ++ items) sent
+      → w ≡ settlement 1 Take start items ∷ v → Passes u w (taken ++ items) sent
   passes_take u v w taken sent items start before more = record {
     takes = ap (settled_on 1 Take) more ∙ (ap (λ xs. xs ++ items) before.takes ∙ append_assoc (settled_on 1 Take u) taken items);
     puts = ap (settled_on 2 Put) more ∙ (append-nil (settled_on 2 Put v) ∙ before.puts);

@@ -12,7 +12,7 @@ use Rattle.fabric.specs.Hands.{IsHandOf, rings_of}
 use Rattle.fabric.specs.Keepers.{IsKeeperOf}
 use Rattle.pool.specs.declared.faults.PoolFault.{PoolFault}
 use Rattle.pool.specs.declared.local.Local.{Local}
-use Rattle.pool.specs.Calls.{PutTells}
+use Rattle.pool.specs.Calls.{PutBackTells}
 use Rattle.pool.specs.Hands.{IsHandIn, IsIn, view_in, IsFreeRing}
 use Rattle.pool.specs.Locals.{HasHand, IsLocalOf, cache_of, view_of}
 use Rattle.pool.proofs.Counts.{count_both}
@@ -67,5 +67,5 @@ module _ {T : Type 0} {G : Ghosts T} {N : ℕ} where
 
   -- a put that came through leaves nothing
   pub put_leaves : (tags : T → List ℕ) (plan : RingPlan) (l m : Local T N G) (list rest : List T)
-      → PutTells tags plan l m list (let r : Result (Unit {0}) PoolFault = Ok tt in r) rest → rest ≡ []
+      → PutBackTells tags plan l m list (let r : Result (Unit {0}) PoolFault = Ok tt in r) rest → rest ≡ []
   put_leaves tags plan l m list rest told = told.1

@@ -1,5 +1,6 @@
 -- How often the devices of a run's ports failed: as often as before, and the one that failed once more.
-use Rattle.std.specs.Prelude.{◌≡◌, ◌<◌, ℕ, ◌+◌, ◌-◌, ◌^◌, ◌==◌, min, List, length, Option, None, Some, slice_get, if◌then◌else◌}
+use Rattle.std.specs.Prelude.{◌≡◌, ◌<◌, ℕ, ◌+◌, ◌-◌, ◌^◌, ◌==◌, min, List, length, Option, None, Some, slice_get}
+use Rattle.std.specs.Prelude.{if◌then◌else◌}
 use Rattle.pcapio.specs.Counted.{failures_of}
 use Rattle.pcapio.specs.Writer.{sink_of}
 use Rattle.pcapio.specs.declared.counted.Counted.{Counted}

@@ -18,7 +18,8 @@ known_len (Some bytes) = length bytes
 abbrev pub IsBeginning : Option (List ℕ) → List ℕ → Type 0
 IsBeginning told whole = told ≡ Some (take (known_len told) whole)
 
--- each port has the text of these fates, part of it still in its writer's buffer, behind what its device was told before the run
+-- each port has the text of these fates, part of it still in its writer's buffer, behind what its device was told
+-- before the run
 abbrev pub AreTexts : {W : Type 0}
     → (W → Option (List ℕ)) → List (Option (List ℕ)) → Resolution → List Fate → List (Writer W) → Type 0
 AreTexts contents before resolution outs writers = (q : ℕ) (w : Writer _) (x : List ℕ) → slice_get writers q ≡ Some w

@@ -13,7 +13,7 @@ use Rattle.pool.specs.declared.faults.PoolFault.{PoolFault}
 use Rattle.pool.specs.declared.faults.PoolFault.TheVariants as pool
 use Rattle.pool.specs.declared.local.Local.{Local}
 use Rattle.pool.specs.Beside.{Receives, Sends}
-use Rattle.pool.specs.Calls.{PutTells}
+use Rattle.pool.specs.Calls.{PutBackTells}
 use Rattle.pool.specs.Locals.{cache_of, hand_of, ring_of}
 use Rattle.stages.specs.declared.fault.RingFault.{RingFault}
 use Rattle.stages.specs.declared.fault.RingFault.TheVariants.{Worn}
@@ -28,7 +28,7 @@ module _ {T : Type 0} {G : Ghosts T} {N : ℕ} (tags : T → List ℕ) (f : Fabr
   -- a put of segments
   abbrev pub KeepsBack : Local T N G → Local T N G → List T → List T → RingFault → Type 0
   KeepsBack l m list rest e = (fault : PoolFault) × (fault ≡ pool.Worn ↔ e ≡ Worn)
-      × OnRing f (ring_of l) (λ plan. PutTells tags plan l m list
+      × OnRing f (ring_of l) (λ plan. PutBackTells tags plan l m list
       (let r : Result (Unit {0}) PoolFault = Err fault in r) rest)
 
   -- the last of some puts of packets

@@ -8,7 +8,8 @@ use Rattle.stages_laws.specs.Input.{Input}
 use Rattle.stages.specs.Failing.{FailedAt}
 use Rattle.stages.specs.Turns.{EndsBad}
 use Rattle.stages.specs.declared.fault.RunFault.{RunFault}
-use Rattle.stages.specs.declared.fault.RunFault.TheVariants.{Memory, Thread, Read, Write, Capture as Refused, Window, Worn}
+use Rattle.stages.specs.declared.fault.RunFault.TheVariants.{Memory, Thread, Read, Write, Capture as Refused, Window}
+use Rattle.stages.specs.declared.fault.RunFault.TheVariants.{Worn}
 
 -- from the first record on: the input's device failed, or that of a port, and no other; or the input ends with a header
 -- that no record has. Of the other faults nothing is told

@@ -18,7 +18,8 @@ use Rattle.stages.specs.Ports.{AreOutputs, AreBeginnings}
 use Rattle.stages.specs.Turns.{EndsBad, IsEndless}
 use Rattle.stages.specs.declared.ending.Summary.{Summary}
 use Rattle.stages.specs.declared.fault.RunFault.{RunFault}
-use Rattle.stages.specs.declared.fault.RunFault.TheVariants.{Memory, Thread, Read, Write, Capture as Refused, Window, Worn}
+use Rattle.stages.specs.declared.fault.RunFault.TheVariants.{Memory, Thread, Read, Write, Capture as Refused, Window}
+use Rattle.stages.specs.declared.fault.RunFault.TheVariants.{Worn}
 
 -- what becomes of a frame by these settings
 abbrev pub forwarding_by : Settings → Forwarding
@@ -61,8 +62,8 @@ WhyStoppedAt input failures reader source devices Window = IsEndless input
 WhyStoppedAt input failures reader source devices Thread = ⊥
 WhyStoppedAt input failures reader source devices Worn = ⊥
 
--- why there is no summary: the input's device failed, or that of a port, and no other; the input is refused, or has more
--- records than can be numbered; or memory was refused
+-- why there is no summary: the input's device failed, or that of a port, and no other; the input is refused, or has
+-- more records than can be numbered; or memory was refused
 abbrev pub WhyNoSummary : {R W : Type 0} → (R → Option (List ℕ)) → Counted R → Counted R
     → List (Counted W) → List (Counted W) → RunFault → Type 0
 WhyNoSummary remaining reader source writers devices Memory = ⊤

@@ -1,4 +1,5 @@
--- What a run makes of the records of its input: which of them it takes, what becomes of each, and what each port is told.
+-- What a run makes of the records of its input: which of them it takes, what becomes of each, and what each port is
+-- told
 use Rattle.std.specs.Prelude.{ℕ, ◌*◌, nat_le, nat_lt, Bool, List, length, map}
 use Rattle.std.specs.List.{filter, count_by}
 use Rattle.counters.specs.Counted.{counts_of, is_sent_by}

@@ -89,6 +89,7 @@ impl Case {
 
 /// Puts a record of these bytes behind a file.
 fn put_frame(file: &mut Vec<u8>, first: &[u8], more: &[u8]) -> Result<(), AllocError> {
+    // Saturating here: no clause bounds it, and it stays small.
     let len = u32::try_from(first.len().saturating_add(more.len())).unwrap_or(0);
     for field in [1, 5, len, len] {
         file.extend_from_slice(&field.to_le_bytes())?;

@@ -17,6 +17,7 @@ pub struct Input<'a> {
 impl Read for Input<'_> {
     fn read(&mut self, buf: &mut [u8]) -> io::Result<usize> {
         let call = self.calls;
+        // Saturating here: no clause bounds it, and it stays small.
         self.calls = call.saturating_add(1);
         if call == self.fails {
             return Err(ErrorKind::Interrupted.into());

@@ -139,6 +139,7 @@ fn wait_for_segments<R: Abort + AllocGlobal + Threads + Wait + Sync>(
     let lines = format!(in rt.alloc(); "buffers = {buffers}\ncache = 0\nburst = 1")?;
     let text = TWO_PORTS.replacen(rt.alloc(), "buffers = 112", lines.as_str(), 1)?;
     let settings = Settings::read(rt.alloc(), text.as_str().as_bytes())?;
+    // Saturating here: no clause bounds it, and it stays small.
     let records = buffers.saturating_add(buffers / 2);
     let mut case = Case::new(rt.alloc(), 2)?;
     for record in 0..records {

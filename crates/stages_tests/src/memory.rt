@@ -37,6 +37,7 @@ fn run_at_last<R: Abort + AllocGlobal + Threads + Wait + Sync>(
                 Some(RunFault::Thread) => assert!(rt; workers > 0),
                 fault => assert_eq!(rt; fault, None),
             }
+            // Saturating here: no clause bounds it, and it stays small.
             refused = refused.saturating_add(1);
         }
         held.pop();

@@ -1,5 +1,6 @@
 -- The lines of a steps file: what forms they have
-use Rattle.std.specs.Prelude.{ℕ, ◌==◌, nat_le, Bool, true, false, List, [], ◌∷◌, length, Option, Some, None, Result, Ok, Err, if◌then◌else◌, codes}
+use Rattle.std.specs.Prelude.{ℕ, ◌==◌, nat_le, Bool, true, false, List, [], ◌∷◌, length, Option, Some, None, Result, Ok}
+use Rattle.std.specs.Prelude.{Err, if◌then◌else◌, codes}
 use Rattle.std.specs.Option.{option_map}
 use Rattle.std.specs.List.{slice_split}
 use Rattle.std.specs.Str.{bytes_eq}
@@ -15,7 +16,8 @@ use Rattle.geom.specs.declared.plan.RingPlan.{RingPlan}
 use Rattle.ringcore_laws.specs.declared.contents.Item.{Item}
 use Rattle.ringcore_laws.specs.declared.contents.Item.TheVariants.{Word, Buffers}
 use Rattle.ringcore_laws.specs.declared.protocol.Step.{Step}
-use Rattle.ringcore_laws.specs.declared.protocol.Step.TheVariants.{Look, Room, Reserve, SettlePut, SettleTake, Stash, Unstash}
+use Rattle.ringcore_laws.specs.declared.protocol.Step.TheVariants.{Look, Room, Reserve, SettlePut, SettleTake, Stash}
+use Rattle.ringcore_laws.specs.declared.protocol.Step.TheVariants.{Unstash}
 use Rattle.lines.specs.Text.{Bytes, number_of}
 use Rattle.lines.specs.Hows.{how_of}
 use Rattle.steps.specs.declared.command.PlanLine.{PlanLine}

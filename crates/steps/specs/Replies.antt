@@ -1,5 +1,6 @@
 -- The replies to the lines of a steps file
-use Rattle.std.specs.Prelude.{ℕ, ◌+◌, ◌-◌, ◌≡◌, ◌≤◌, nat_lt, not, ◌&&◌, List, [], ◌∷◌, ◌++◌, length, slice_get, Bool, true, false, Option, Some, None, is_some, IsTrue, ◌⊎◌, codes, decimal, if◌then◌else◌}
+use Rattle.std.specs.Prelude.{ℕ, ◌+◌, ◌-◌, ◌≡◌, ◌≤◌, nat_lt, not, ◌&&◌, List, [], ◌∷◌, ◌++◌, length, slice_get, Bool}
+use Rattle.std.specs.Prelude.{true, false, Option, Some, None, is_some, IsTrue, ◌⊎◌, codes, decimal, if◌then◌else◌}
 use Rattle.std.specs.Option.{unwrap_or}
 use Rattle.std.specs.List.{flat_map}
 use Rattle.geom.specs.Plan.{mode_of}
@@ -11,9 +12,11 @@ use Rattle.geom.specs.declared.plan.RingPlan.{RingPlan}
 use Rattle.ringcore_laws.specs.declared.contents.Item.{Item}
 use Rattle.ringcore_laws.specs.declared.contents.Item.TheVariants.{Word, Buffers}
 use Rattle.ringcore_laws.specs.declared.protocol.Step.{Step}
-use Rattle.ringcore_laws.specs.declared.protocol.Step.TheVariants.{Look, Room, Reserve, SettlePut, SettleTake, Stash, Unstash}
+use Rattle.ringcore_laws.specs.declared.protocol.Step.TheVariants.{Look, Room, Reserve, SettlePut, SettleTake, Stash}
+use Rattle.ringcore_laws.specs.declared.protocol.Step.TheVariants.{Unstash}
 use Rattle.ringcore_laws.specs.declared.protocol.Reply.{Reply}
-use Rattle.ringcore_laws.specs.declared.protocol.Reply.TheVariants.{Seen, Granted, Done, Busy, Contended, NoRoom, NotYet, Worn, NoSpan, BadCount, NotYours}
+use Rattle.ringcore_laws.specs.declared.protocol.Reply.TheVariants.{Seen, Granted, Done, Busy, Contended, NoRoom}
+use Rattle.ringcore_laws.specs.declared.protocol.Reply.TheVariants.{NotYet, Worn, NoSpan, BadCount, NotYours}
 use Rattle.ringcore_laws.specs.declared.protocol.Place.{Place}
 use Rattle.ringcore_laws.specs.declared.protocol.Place.TheVariants.{AtRing, Held, Cached, Nowhere}
 use Rattle.ringcore_laws.specs.History.{reply_to}

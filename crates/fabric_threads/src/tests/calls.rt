@@ -10,8 +10,8 @@ use super::rings::{
 };
 use super::rows::find_none;
 use super::spans::{
-    open_put, open_take, refused_put, refused_settle, refused_take, refused_taking, settled,
-    settled_take, word,
+    has_two, open_put, open_take, refused_put, refused_settle, refused_take, refused_taking,
+    settled, settled_take, word,
 };
 use super::ways::{by_cache, by_calls, by_peeks};
 use burst::Burst;
@@ -36,11 +36,6 @@ fn tells_its_plan(f: &Rings, modes: (Mode, Mode)) -> Result<(), Wrong>
         return Err(Wrong("another plan"));
     }
     Ok(())
-}
-
-/// Whether a hand has the buffers 0 and 1 alone.
-fn has_two(hand: &Hand<Ticket>) -> bool {
-    hand.owns(0) && hand.owns(1) && !hand.owns(2) && !hand.owns(4)
 }
 
 /// Reserves three items of the free ring.
@@ -150,7 +145,7 @@ fn synced(
     busy_take(f, hand, b)
 }
 
-/// Starts that ask for no lawful count: of 0 items, of more than a call may reserve, and on the free ring of more than
+/// Starts that ask for a refused count: of 0 items, of more than a call may reserve, and on the free ring of more than
 /// the hand has.
 fn bad_counts(f: &Rings, hand: Hand<Ticket>) -> Result<Hand<Ticket>, Wrong>
     requires hand { IsHandOf f.now hand }

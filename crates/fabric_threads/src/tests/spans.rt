@@ -1,4 +1,5 @@
-//! Spans that have to lie where they are expected, and starts and settles that have to be refused for one reason.
+//! Spans that have to lie where they are expected, starts and settles that have to be refused for one reason, and what a
+//! hand has.
 ghost use Rattle.std.specs.Prelude.{◌≡◌, ◌<◌, length, IfOk};
 ghost use Rattle.fabric.specs.Hands.{IsHandOf, put_fabric, rings_of, take_fabric, take_view};
 
@@ -11,6 +12,11 @@ use geom::{How, RESERVED};
 /// The word of a head/tail-sync side that is settled up to a position, with so many more reserved.
 pub(super) fn word(position: u64, reserved: u64) -> u64 {
     position.wrapping_mul(RESERVED).wrapping_add(reserved)
+}
+
+/// Whether a hand has the buffers 0 and 1 alone.
+pub(super) fn has_two(hand: &Hand<Ticket>) -> bool {
+    hand.owns(0) && hand.owns(1) && !hand.owns(2) && !hand.owns(4)
 }
 
 /// A start of a put that is refused for this reason.

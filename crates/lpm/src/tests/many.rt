@@ -102,6 +102,7 @@ fn add_depths(rt: &impl Abort, table: &mut Table, held: &mut Vec<Vec<u8>>) -> us
     for hop in 1..25 {
         let refused = add_at_last(rt, table, (addr, 8 + hop as u8, hop), held);
         assert_eq!(rt; lookup(table, addr), Some(hop), "hop {hop}");
+        // Saturating here: no clause bounds it, and it stays small.
         all = all.saturating_add(refused);
     }
     all

@@ -1,8 +1,5 @@
 use Rattle.std.proofs.Common.{◌≡◌, ℕ, ◌+◌, ◌-◌, ◌++◌, length, ◌==◌, Err, ap, sym, ◌∙◌, subst, arith, rules, tests}
-use Rattle.std.specs.List.{slice_split}
-use Rattle.std.specs.Str.Lines.{strip_carriage_return}
-use Rattle.std.proofs.lemmas.List.{length-map, length_push}
-use Rattle.std.proofs.lemmas.Iterator.Consumers.{YieldsList-turn, YieldsList-end}
+use Rattle.std.proofs.lemmas.List.{length_push}
 use Rattle.std.proofs.lemmas.Iterator.Splits.{YieldsList-from_slice_split}
 use Rattle.std.proofs.lemmas.Result.{on_ok_weaker}
 use Rattle.lines.specs.Text.{Bytes, lines_of}
@@ -10,7 +7,7 @@ use Rattle.lines.specs.Files.{left_by, IsAnsweredTo, IsFirstBad}
 use Rattle.steps.specs.Replies.{State, steps_file, IsJudgedAt, IsJudgedBy}
 use Rattle.steps.specs.Standing.{Keeps}
 use Rattle.lines.specs.declared.fault.TextFault.TheVariants.{BadLine, BadPlan}
-use Rattle.lines.proofs.Lines.{line_there, at_number}
+use Rattle.lines.proofs.Lines.{all_lines, this_line}
 use Rattle.lines.proofs.Runs.{answered_more, left_more, first_bad}
 use Rattle.steps.proofs.Judged.{judged_by, judged_at, bad_plan, bad_plan_last, none_replied}
 use Rattle.steps.proofs.text.steps_text.Goals as goal
@@ -21,9 +18,9 @@ returns-in_err-answer_line-clause-first_bad c = λ n fault.
     let number = c.loop-line.number in
     let line = c.without_return.result.now in
     let road = YieldsList-from_slice_split _ (λ b. b == 10) bytes (search rules) (search rules) (search rules) (λ x b q k. search (rules, tests)) in
-    let turn = YieldsList-turn road c.loop-line.yielded _ c.loop-line.yielded_by _ _ c.in-Some.line c.in-Some.is c.next.ensures.steps in
-    let part = at_number bytes c.in-Some.line.now (length c.loop-line.yielded) number c.loop-line.invariant.0 turn in
-    let here = line_there bytes c.in-Some.line.now line number part c.without_return.ensures in
+    let here =
+    this_line bytes road c.loop-line.yielded c.loop-line.yielded_by number c.loop-line.invariant.0 _ _ c.next.ensures.steps
+    c.in-Some.line c.in-Some.is line c.without_return.ensures in
     let refused : c.answer_line.result ≡ Err (BadLine n) = search rules in
     let told = c.answer_line.ensures.number n refused in
     let stands = c.loop-line.invariant.2 in
@@ -40,9 +37,9 @@ returns-in_err-answer_line-clause-bad_plan c = λ fault.
     let number = c.loop-line.number in
     let line = c.without_return.result.now in
     let road = YieldsList-from_slice_split _ (λ b. b == 10) bytes (search rules) (search rules) (search rules) (λ x b q k. search (rules, tests)) in
-    let turn = YieldsList-turn road c.loop-line.yielded _ c.loop-line.yielded_by _ _ c.in-Some.line c.in-Some.is c.next.ensures.steps in
-    let part = at_number bytes c.in-Some.line.now (length c.loop-line.yielded) number c.loop-line.invariant.0 turn in
-    let here = line_there bytes c.in-Some.line.now line number part c.without_return.ensures in
+    let here =
+    this_line bytes road c.loop-line.yielded c.loop-line.yielded_by number c.loop-line.invariant.0 _ _ c.next.ensures.steps
+    c.in-Some.line c.in-Some.is line c.without_return.ensures in
     let refused : c.answer_line.result ≡ Err BadPlan = search rules in
     let told = c.answer_line.ensures.plan refused (left_by steps_file number (lines_of bytes)) c.loop-line.invariant.2 in
     (number, bad_plan (lines_of bytes) number line c.args.out.now.items c.loop-line.out.items here.0 here.1 c.loop-line.invariant.1 told.0 told.1)
@@ -62,9 +59,9 @@ loop-line-preserved c =
     let so_far = c.loop-line.invariant in
     let line = c.without_return.result.now in
     let road = YieldsList-from_slice_split _ (λ b. b == 10) bytes (search rules) (search rules) (search rules) (λ x b q k. search (rules, tests)) in
-    let turn = YieldsList-turn road c.loop-line.yielded _ c.loop-line.yielded_by _ _ c.in-Some.line c.in-Some.is c.next.ensures.steps in
-    let part = at_number bytes c.in-Some.line.now (length c.loop-line.yielded) number so_far.0 turn in
-    let here = line_there bytes c.in-Some.line.now line number part c.without_return.ensures in
+    let here =
+    this_line bytes road c.loop-line.yielded c.loop-line.yielded_by number so_far.0 _ _ c.next.ensures.steps
+    c.in-Some.line c.in-Some.is line c.without_return.ensures in
     let answered = c.in_ok-answer_line.ensures in
     let longer = length_push c.loop-line.yielded c.in-Some.line in
     let before = so_far.0 in
@@ -85,9 +82,8 @@ pub returns-clause-ok : goal.returns-clause-ok
 returns-clause-ok c =
     let bytes = c.args.bytes.now in
     let road = YieldsList-from_slice_split _ (λ b. b == 10) bytes (search rules) (search rules) (search rules) (λ x b q k. search (rules, tests)) in
-    let end = YieldsList-end road c.loop-line.yielded _ c.loop-line.yielded_by _ _ c.in-None.is c.next.ensures.steps in
-    let all : c.loop-line.number ≡ length (lines_of bytes) =
-    c.loop-line.invariant.0 ∙ end.1 ∙ sym (length-map (slice_split (λ b. b == 10) bytes) strip_carriage_return) in
+    let all =
+    all_lines bytes road c.loop-line.yielded c.loop-line.yielded_by c.loop-line.number c.loop-line.invariant.0 _ _ c.next.ensures.steps c.in-None.is in
     let stands = subst (λ (k : ℕ). Keeps c.loop-line.stage (left_by steps_file k (lines_of bytes))) all c.loop-line.invariant.2 in
     let answered = subst (λ (k : ℕ). IsAnsweredTo steps_file k (lines_of bytes) c.args.out.now.items c.loop-line.out.items) all c.loop-line.invariant.1 in
     on_ok_weaker c.judge.result (λ lawful. (answered, lawful (left_by steps_file (length (lines_of bytes)) (lines_of bytes)) stands)) c.judge.ensures.ok
@@ -96,9 +92,8 @@ pub returns-clause-bad_plan : goal.returns-clause-bad_plan
 returns-clause-bad_plan c = λ refused.
     let bytes = c.args.bytes.now in
     let road = YieldsList-from_slice_split _ (λ b. b == 10) bytes (search rules) (search rules) (search rules) (λ x b q k. search (rules, tests)) in
-    let end = YieldsList-end road c.loop-line.yielded _ c.loop-line.yielded_by _ _ c.in-None.is c.next.ensures.steps in
-    let all : c.loop-line.number ≡ length (lines_of bytes) =
-    c.loop-line.invariant.0 ∙ end.1 ∙ sym (length-map (slice_split (λ b. b == 10) bytes) strip_carriage_return) in
+    let all =
+    all_lines bytes road c.loop-line.yielded c.loop-line.yielded_by c.loop-line.number c.loop-line.invariant.0 _ _ c.next.ensures.steps c.in-None.is in
     let told = c.judge.ensures.plan refused (left_by steps_file c.loop-line.number (lines_of bytes)) c.loop-line.invariant.2 in
     (c.loop-line.number, bad_plan_last (lines_of bytes) c.loop-line.number c.args.out.now.items c.loop-line.out.items all c.loop-line.invariant.1 told)
 

@@ -1,7 +1,7 @@
-use Rattle.std.proofs.Common.{◌-◌, ◌<◌, ◌++◌, Some, ap, append-nil, arith, length, map, refl, rules, subst, sym, ◌∙◌}
+use Rattle.std.proofs.Common.{◌-◌, ◌<◌, Some, ap, arith, length, map, refl, rules, subst, sym, ◌∙◌}
 use Rattle.geom.specs.declared.plan.Side.TheVariants.{Take}
 use Rattle.ringcore_laws.specs.History.{position_of}
-use Rattle.fabric_laws.specs.Kinds.{IsHeldOnce, run}
+use Rattle.fabric_laws.specs.Kinds.{IsHeldOnce}
 use Rattle.fabric_laws.specs.Words.{slot_at}
 use Rattle.burst.specs.Items.{somes}
 use Rattle.fabric.specs.Owned.{IsRow}
@@ -10,7 +10,7 @@ use Rattle.fabric.specs.declared.hand.StartFault.TheVariants.{Contended}
 use Rattle.fabric.specs.Hands.{rings_of, view}
 use Rattle.fabric.specs.Views.{span_of}
 use Rattle.fabric.proofs.Told.{refused_kept, ring_at, started_party}
-use Rattle.fabric.proofs.Settling.{packed_from, row_held, row_values, somes_of}
+use Rattle.fabric.proofs.Settling.{packed_from, row_held, row_values, slots_won, somes_of}
 use Rattle.fabric.proofs.Truths.{lost_true}
 use Rattle.fabric.proofs.Starting.{contended, row_opened, same_ring, shape_at, started, well_opened}
 use Rattle.fabric.proofs.fabric.Fabric.try_start_take_into.Goals as goal
@@ -91,9 +91,7 @@ withdraw-requires g c =
     let p = c.index.result.now.plan in
     let won = c.reserve_take-found.ensures.won c.if-found-probe.false in
     let slot = slot_at f.plan.rings.items c.args.ring p in
-    let has = won.3
-    ∙ (ap (λ l. run slot (position_of p.take c.in-Ok.aim.1.word) (map Some won.0) ++ l) a.no_slots
-    ∙ (append-nil (run slot (position_of p.take c.in-Ok.aim.1.word) (map Some won.0)) ∙ ap (λ n. run slot n (map Some won.0)) (sym a.found.1))) in
+    let has = slots_won slot c.in-Ok.aim.1.start (position_of p.take c.in-Ok.aim.1.word) won.0 _ _ a.found.1 a.no_slots won.3 in
     let blank = c.into.invariant ∙ ap (map Some) (c.into.view_is ∙ c.requires.empty) in (
       search rules,
       (
@@ -144,9 +142,7 @@ invariant_of-into g c =
     let p = c.index.result.now.plan in
     let won = c.reserve_take-found.ensures.won c.if-found-probe.false in
     let slot = slot_at f.plan.rings.items c.args.ring p in
-    let has = won.3
-    ∙ (ap (λ l. run slot (position_of p.take c.in-Ok.aim.1.word) (map Some won.0) ++ l) a.no_slots
-    ∙ (append-nil (run slot (position_of p.take c.in-Ok.aim.1.word) (map Some won.0)) ∙ ap (λ n. run slot n (map Some won.0)) (sym a.found.1))) in
+    let has = slots_won slot c.in-Ok.aim.1.start (position_of p.take c.in-Ok.aim.1.word) won.0 _ _ a.found.1 a.no_slots won.3 in
     packed_from c.withdraw.new.cells won.0 (c.withdraw.ensures.cells
     ∙ row_values slot c.in-Ok.aim.1.start c.in-Ok.aim.2 won.0 won.1 c.reserve_take-found.new.seat.me.1 has)
 
@@ -163,9 +159,7 @@ returns-clause-started g c =
     let won = c.reserve_take-found.ensures.won c.if-found-probe.false in
     let is = c.withdraw.ensures.seat.1 ∙ won.2 in
     let slot = slot_at f.plan.rings.items c.args.ring p in
-    let has = won.3
-    ∙ (ap (λ l. run slot (position_of p.take q.word) (map Some won.0) ++ l) a.no_slots
-    ∙ (append-nil (run slot (position_of p.take q.word) (map Some won.0)) ∙ ap (λ n. run slot n (map Some won.0)) (sym a.found.1))) in
+    let has = slots_won slot q.start (position_of p.take q.word) won.0 _ _ a.found.1 a.no_slots won.3 in
     let items =
     ap somes (c.withdraw.ensures.cells ∙ row_values slot q.start m won.0 won.1 c.reserve_take-found.new.seat.me.1 has)
     ∙ somes_of won.0 in (

@@ -5,7 +5,7 @@ use Rattle.ringcore_laws.specs.declared.protocol.Reply.{Reply}
 use Rattle.ringcore.specs.Runs.{ExistAll, RunsTo}
 use Rattle.ringcore.proofs.RunSteps.{on_err_of, run_goes_on, run_unchanged}
 use Rattle.ringcore.proofs.world.World.run_all.Goals as goal
-use Rattle.ringcore.specs.Planned.{plans_of, rings_of}
+use Rattle.ringcore.specs.Planned.{plans_of, world_rings}
 
 pub loop-actor-preserved : goal.loop-actor-preserved
 loop-actor-preserved c =
@@ -19,7 +19,7 @@ loop-actor-preserved c =
           (subst (λ (v : ℕ). ExistAll (vec_len old.members) v c.pop_front.new.self.items) (sym counts.1) all.2),
       c.in_ok-reply.ensures.plans ∙ c.loop-actor.invariant.1,
       λ pool actors fits k agree.
-          subst (λ (v : List Reply). RunsTo (plans_of c.args.self.now) pool actors c.args.entries.items v c.pop_front.new.self.items (rings_of new)
+          subst (λ (v : List Reply). RunsTo (plans_of c.args.self.now) pool actors c.args.entries.items v c.pop_front.new.self.items (world_rings new)
           new.places.items new.members.items)
           (sym c.in_ok-push.ensures.items)
           (run_goes_on (plans_of c.args.self.now) old new pool actors c.args.entries.items c.loop-actor.replies.items c.loop-actor.rest.items

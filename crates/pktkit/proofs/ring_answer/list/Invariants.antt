@@ -1,6 +1,0 @@
-use Rattle.std.proofs.Common.{◌≡◌, ◌++◌, map, take}
-use Rattle.pktkit.specs.RingReplies.{words_text}
-use Rattle.pktkit.proofs.ring_answer.list.Given as goal
-
-abbrev pub invariant-loop-item : goal.invariant-loop-item
-invariant-loop-item l = l.reply.items ≡ l.initial.reply.items ++ words_text (map (λ item. item.now) (take l.item-index l.items))

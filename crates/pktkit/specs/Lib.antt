@@ -1,2 +1,0 @@
-pub mod RingCommands
-pub mod RingReplies

@@ -1,0 +1,13 @@
+//! The program `pktkit` without its `main`: what the words of its command line ask for, files, devices, faults and
+//! statuses. A crate of its own, so that its tests stand above it and know it by its contracts.
+#![tactic(auto)]
+
+mod command_line;
+mod entry;
+mod fault;
+mod help;
+mod run_answer;
+
+pub use command_line::behind_name;
+pub use entry::{out_of_memory, program};
+pub use fault::Fault;

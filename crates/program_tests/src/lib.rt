@@ -1,0 +1,5 @@
+//! Worked runs of the program, as tests: a crate above it, so that it is known by its contracts alone and proved once.
+#![tactic(auto)]
+
+#[cfg(test)]
+mod tests;
