@@ -1,11 +1,9 @@
 //! The forms of the lines of a steps file.
 
 use super::{expect_replies, expect_steps};
+use lines::TextFault::BadLine;
 use std::process::Abort;
-use std::rt::Files;
-use std::sync::Wait;
 use std::test::Fail;
-use std::thread::Threads;
 
 #[test]
 fn numbers_blanks_and_modes(rt: HostRuntime) -> Result<(), Fail> {
@@ -21,20 +19,13 @@ fn numbers_blanks_and_modes(rt: HostRuntime) -> Result<(), Fail> {
         ("place 002", "ring 0 at 0"),
         ("place 18446744073709551615", "nowhere"),
     ];
-    expect_replies(&rt, "pktkit_numbers_blanks_and_modes.steps", plan, &lines)
+    expect_replies(&rt, plan, &lines)
 }
 
 /// Tests that each of these lines has no form: a file of it alone is refused at line 1.
-fn expect_no_form<R: Abort + Files + AllocGlobal + Threads + Wait + Sync>(
-    rt: &R,
-    name: &str,
-    lines: &[&str],
-) -> Result<(), Fail>
-where
-    R::File: Send,
-{
+fn expect_no_form<R: Abort + AllocGlobal>(rt: &R, lines: &[&str]) -> Result<(), Fail> {
     for line in lines {
-        expect_steps(rt, name, line, 1, "", "pktkit: line 1\n")?;
+        expect_steps(rt, line, "", Some(BadLine(1)))?;
     }
     Ok(())
 }
@@ -58,7 +49,7 @@ fn plan_lines_of_no_form(rt: HostRuntime) -> Result<(), Fail> {
         "give 0 b0",
         "give x 0",
     ];
-    expect_no_form(&rt, "pktkit_plan_lines_of_no_form.steps", &lines)
+    expect_no_form(&rt, &lines)
 }
 
 #[test]
@@ -98,12 +89,11 @@ fn step_lines_of_no_form(rt: HostRuntime) -> Result<(), Fail> {
         "place b0",
         "count",
     ];
-    expect_no_form(&rt, "pktkit_step_lines_of_no_form.steps", &lines)
+    expect_no_form(&rt, &lines)
 }
 
 #[test]
 fn an_item_of_64_buffers(rt: HostRuntime) -> Result<(), Fail> {
-    let name = "pktkit_an_item_of_64_buffers.steps";
     let plan =
         "ring exact 1 multi\nactors 1\n0 look 0 put\n0 room 0 put\n0 reserve 0 put bulk 1\n0 settle 0 put b0";
     let mut text = String::from_str(rt.alloc(), plan)?;
@@ -112,7 +102,7 @@ fn an_item_of_64_buffers(rt: HostRuntime) -> Result<(), Fail> {
     }
     let replies = "seen 0\nseen 0\ngranted 0 1 left 0\n";
     let refused = format!(in rt.alloc(); "{replies}notyours\n")?;
-    expect_steps(&rt, name, text.as_str(), 0, refused.as_str(), "")?;
+    expect_steps(&rt, text.as_str(), refused.as_str(), None)?;
     text.push_str("+7")?;
-    expect_steps(&rt, name, text.as_str(), 1, replies, "pktkit: line 6\n")
+    expect_steps(&rt, text.as_str(), replies, Some(BadLine(6)))
 }

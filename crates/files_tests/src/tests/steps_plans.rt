@@ -1,6 +1,7 @@
 //! Plans of steps files: when they are unlawful, and what is told first.
 
 use super::{expect_replies, expect_steps};
+use lines::TextFault::{BadLine, BadPlan};
 use std::test::Fail;
 
 #[test]
@@ -28,28 +29,20 @@ fn unlawful_plans(rt: HostRuntime) -> Result<(), Fail> {
         "actors 1\n0 stash 0\nno line\n",
     ];
     for plan in plans {
-        expect_steps(
-            &rt,
-            "pktkit_unlawful_plans.steps",
-            plan,
-            1,
-            "",
-            "pktkit: plan\n",
-        )?;
+        expect_steps(&rt, plan, "", Some(BadPlan))?;
     }
     Ok(())
 }
 
 #[test]
 fn the_most_rings_and_actors(rt: HostRuntime) -> Result<(), Fail> {
-    let name = "pktkit_the_most_rings_and_actors.steps";
     let mut text = String::from_str(rt.alloc(), "actors 64\n")?;
     for _ in 0..64 {
         text.push_str("ring exact 1 hts multi free\n")?;
     }
-    expect_replies(&rt, name, text.as_str(), &[("63 look 63 take", "seen 0")])?;
+    expect_replies(&rt, text.as_str(), &[("63 look 63 take", "seen 0")])?;
     text.push_str("ring exact 1 multi\n")?;
-    expect_steps(&rt, name, text.as_str(), 1, "", "pktkit: plan\n")
+    expect_steps(&rt, text.as_str(), "", Some(BadPlan))
 }
 
 #[test]
@@ -64,21 +57,13 @@ fn lines_at_fault_before_the_plan(rt: HostRuntime) -> Result<(), Fail> {
         "give 0\n0 look 0 put\n",
     ];
     for text in texts {
-        expect_steps(
-            &rt,
-            "pktkit_lines_at_fault.steps",
-            text,
-            1,
-            "",
-            "pktkit: line 1\n",
-        )?;
+        expect_steps(&rt, text, "", Some(BadLine(1)))?;
     }
     Ok(())
 }
 
 #[test]
 fn lines_at_fault_after_the_plan(rt: HostRuntime) -> Result<(), Fail> {
-    let name = "pktkit_lines_after_the_plan.steps";
     let plan = "# a plan\nring power 4 multi\nactors 1\nplace 0\n";
     let faults = [
         "actors 1",
@@ -94,14 +79,7 @@ fn lines_at_fault_after_the_plan(rt: HostRuntime) -> Result<(), Fail> {
     ];
     for fault in faults {
         let text = format!(in rt.alloc(); "{plan}0 look 0 put\n\n{fault}\n0 room 0 put\n")?;
-        expect_steps(
-            &rt,
-            name,
-            text.as_str(),
-            1,
-            "nowhere\nseen 0\n",
-            "pktkit: line 7\n",
-        )?;
+        expect_steps(&rt, text.as_str(), "nowhere\nseen 0\n", Some(BadLine(7)))?;
     }
     Ok(())
 }
@@ -109,5 +87,5 @@ fn lines_at_fault_after_the_plan(rt: HostRuntime) -> Result<(), Fail> {
 #[test]
 fn a_plan_without_steps(rt: HostRuntime) -> Result<(), Fail> {
     let text = "ring power 4 multi\nactors 2\ngive 1 1 0\n";
-    expect_steps(&rt, "pktkit_a_plan_without_steps.steps", text, 0, "", "")
+    expect_steps(&rt, text, "", None)
 }

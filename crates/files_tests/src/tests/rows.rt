@@ -1,6 +1,6 @@
 //! Worked files, whose replies were computed by hand from the rules of the ring.
 
-use super::expect;
+use super::expect_ring;
 use std::test::Fail;
 
 /// A file, and its replies.
@@ -51,7 +51,7 @@ const ROWS: [Worked; 7] = [
 #[test]
 fn worked_files(rt: HostRuntime) -> Result<(), Fail> {
     for (file, replies) in ROWS {
-        expect(&rt, file, 0, replies, "")?;
+        expect_ring(&rt, file, replies, None)?;
     }
     Ok(())
 }

@@ -201,7 +201,7 @@ const ROWS: [Worked; 10] = [
 #[test]
 fn worked_steps(rt: HostRuntime) -> Result<(), Fail> {
     for (plan, lines) in ROWS {
-        expect_replies(&rt, "pktkit_worked_steps.steps", plan, lines)?;
+        expect_replies(&rt, plan, lines)?;
     }
     Ok(())
 }

@@ -94,13 +94,11 @@ const SETTLES_AND_PLACES: [Row; 26] = [
 
 #[test]
 fn looks_that_end(rt: HostRuntime) -> Result<(), Fail> {
-    let name = "pktkit_looks_that_end.steps";
-    expect_replies(&rt, name, HTS, &BUSY_AND_CONTENDED)?;
-    expect_replies(&rt, name, MULTI, &REFUSED_RESERVES)
+    expect_replies(&rt, HTS, &BUSY_AND_CONTENDED)?;
+    expect_replies(&rt, MULTI, &REFUSED_RESERVES)
 }
 
 #[test]
 fn the_order_of_a_settles_tests(rt: HostRuntime) -> Result<(), Fail> {
-    let name = "pktkit_the_order_of_a_settles_tests.steps";
-    expect_replies(&rt, name, TWO_RINGS, &SETTLES_AND_PLACES)
+    expect_replies(&rt, TWO_RINGS, &SETTLES_AND_PLACES)
 }

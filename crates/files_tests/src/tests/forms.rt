@@ -1,86 +1,84 @@
 //! The forms of lines: ends of lines, blanks, comments, numbers and items; and files of many lines and items.
 
-use super::{expect, expect_steps};
+use super::{expect_ring, expect_steps};
+use lines::TextFault;
+use lines::TextFault::BadLine;
 use std::alloc::{AllocError, Global};
 use std::test::Fail;
 
-/// A file, its replies, and the line that is at fault, where there is one.
-type Form = (&'static [u8], &'static str, &'static str);
+/// A file, its replies, and its fault, where there is one.
+type Form = (&'static [u8], &'static str, Option<TextFault>);
 
 const FORMS: [Form; 22] = [
     // Ends of lines.
     (
         b"ring power 4\r\ncount\r\n",
         "ring size 4 capacity 3\ncount 0 free 3\n",
-        "",
+        None,
     ),
     (
         b"ring power 4\ncount",
         "ring size 4 capacity 3\ncount 0 free 3\n",
-        "",
+        None,
     ),
-    (b"ring power 4\r", "ring size 4 capacity 3\n", ""),
-    (b"count\n\n \t \n\r\ncount\n", "no ring\nno ring\n", ""),
+    (b"ring power 4\r", "ring size 4 capacity 3\n", None),
+    (b"count\n\n \t \n\r\ncount\n", "no ring\nno ring\n", None),
     // A second 0x0d belongs to a word.
-    (b"count\n\r\r\n", "no ring\n", "pktkit: line 2\n"),
-    (b"", "", ""),
+    (b"count\n\r\r\n", "no ring\n", Some(BadLine(2))),
+    (b"", "", None),
     // Blanks and comments.
     (
         b"\t ring \t power\t4  \n  # put\n#\xff\x00\n\tcount\n",
         "ring size 4 capacity 3\ncount 0 free 3\n",
-        "",
+        None,
     ),
     // '#' begins a comment as the first byte of a line's first word alone.
     (
         b"ring power 4\nput bulk #a b#\ntake burst 2\n",
         "ring size 4 capacity 3\nput 2 left 1\ntake 2 left 0 #a b#\n",
-        "",
+        None,
     ),
-    (b"ring power 4 # four\n", "", "pktkit: line 1\n"),
+    (b"ring power 4 # four\n", "", Some(BadLine(1))),
     // Vertical tab, form feed and bytes above 0x7f part no words.
-    (b"count\x0b\n", "", "pktkit: line 1\n"),
-    (b"count\n\xc2\xa0count\n", "no ring\n", "pktkit: line 2\n"),
+    (b"count\x0b\n", "", Some(BadLine(1))),
+    (b"count\n\xc2\xa0count\n", "no ring\n", Some(BadLine(2))),
     // Numbers.
     (
         b"ring power 00000000000000000008\n",
         "ring size 8 capacity 7\n",
-        "",
+        None,
     ),
-    (
-        b"ring power 000000000000000000008\n",
-        "",
-        "pktkit: line 1\n",
-    ),
+    (b"ring power 000000000000000000008\n", "", Some(BadLine(1))),
     (
         b"ring power 18446744073709551615\n",
         "refused 3 TooLarge\n",
-        "",
+        None,
     ),
-    (b"ring power 18446744073709551616\n", "", "pktkit: line 1\n"),
-    (b"ring power 99999999999999999999\n", "", "pktkit: line 1\n"),
+    (b"ring power 18446744073709551616\n", "", Some(BadLine(1))),
+    (b"ring power 99999999999999999999\n", "", Some(BadLine(1))),
     (
         b"ring exact 2\ntake burst 18446744073709551615\n",
         "ring size 4 capacity 2\ntake 0 left 0\n",
-        "",
+        None,
     ),
     // Items.
     (
         b"ring exact 1\nput bulk !23456789012345678901234567890~\ntake bulk 1\n",
         "ring size 2 capacity 1\nput 1 left 0\ntake 1 left 0 !23456789012345678901234567890~\n",
-        "",
+        None,
     ),
     (
         b"ring exact 1\nput bulk 123456789012345678901234567890123\ntake bulk 1\n",
         "ring size 2 capacity 1\n",
-        "pktkit: line 2\n",
+        Some(BadLine(2)),
     ),
-    (b"put bulk a\x7f\n", "", "pktkit: line 1\n"),
-    (b"put bulk \x80\n", "", "pktkit: line 1\n"),
+    (b"put bulk a\x7f\n", "", Some(BadLine(1))),
+    (b"put bulk \x80\n", "", Some(BadLine(1))),
     // The form of a line doesn't depend on the ring.
     (
         b"put bulk a\nput bulk a\x01\n",
         "no ring\n",
-        "pktkit: line 2\n",
+        Some(BadLine(2)),
     ),
 ];
 
@@ -111,10 +109,10 @@ const NO_FORM: [&'static str; 20] = [
 #[test]
 fn forms_of_lines(rt: HostRuntime) -> Result<(), Fail> {
     for (file, replies, fault) in FORMS {
-        expect(&rt, file, u8::from(!fault.is_empty()), replies, fault)?;
+        expect_ring(&rt, file, replies, fault)?;
     }
     for line in NO_FORM {
-        expect(&rt, line.as_bytes(), 1, "", "pktkit: line 1\n")?;
+        expect_ring(&rt, line.as_bytes(), "", Some(BadLine(1)))?;
     }
     Ok(())
 }
@@ -147,7 +145,7 @@ fn many_lines_and_items(rt: HostRuntime) -> Result<(), Fail> {
     let replies = format!(in rt.alloc();
         "ring size 512 capacity 300\nput 300 left 0\ntake 300 left 0{items}\n{told}"
     )?;
-    expect(&rt, file.as_bytes(), 0, replies.as_str(), "")
+    expect_ring(&rt, file.as_bytes(), replies.as_str(), None)
 }
 
 #[test]
@@ -163,6 +161,5 @@ fn many_buffers(rt: HostRuntime) -> Result<(), Fail> {
         "seen 0\nseen 0\ngranted 0 300 left 0\ndone 300\nseen 0\nseen 300\n\
         granted 0 300 left 0\ndone 300{items}\n"
     )?;
-    let name = "pktkit_many_buffers.steps";
-    expect_steps(&rt, name, file.as_str(), 0, replies.as_str(), "")
+    expect_steps(&rt, file.as_str(), replies.as_str(), None)
 }
