@@ -1,5 +1,5 @@
-//! Spans that have to lie where they are expected, starts and settles that have to be refused for one reason, and what a
-//! hand has.
+//! Spans that have to lie where they are expected, starts and settles that have to be refused for one reason, and what
+//! a hand has.
 ghost use Rattle.std.specs.Prelude.{◌≡◌, ◌<◌, length, IfOk};
 ghost use Rattle.fabric.specs.Hands.{IsHandOf, put_fabric, rings_of, take_fabric, take_view};
 
