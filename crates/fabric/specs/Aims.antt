@@ -1,16 +1,19 @@
--- What is so of a hand that is about to reserve
-use Rattle.std.specs.Prelude.{◌≡◌, ℕ, ◌+◌, ◌<◌, ◌≤◌, List, [], Option, None}
+-- What is so of a hand that is about to reserve, and once it has reserved
+use Rattle.std.specs.Prelude.{◌≡◌, ℕ, ◌+◌, ◌<◌, ◌≤◌, List, [], length, Option, None, Some}
 use Rattle.atomic_table.specs.declared.shared.Seat.{Seat}
 use Rattle.geom.specs.declared.plan.How.{How}
 use Rattle.geom.specs.declared.plan.Side.{Side}
+use Rattle.geom.specs.declared.plan.Side.TheVariants.{Put, Take}
 use Rattle.geom.specs.declared.word.TheConstants.{LAST}
 use Rattle.geom.specs.Plan.{granted}
+use Rattle.ringcore_laws.specs.Party.{with_open}
 use Rattle.fabric_laws.specs.declared.view.View.{View}
+use Rattle.fabric.specs.declared.ring.Positions.{Positions}
 use Rattle.fabric.specs.declared.ring.Ring.{Ring}
 use Rattle.fabric.specs.declared.start.Probe.{Probe}
-use Rattle.fabric.specs.Rings.{IsSeated}
-use Rattle.fabric.specs.Starts.{MayAsk, Probes}
-use Rattle.fabric.specs.Views.{IsKept}
+use Rattle.fabric.specs.Rings.{IsSeated, slot_values, slots_of}
+use Rattle.fabric.specs.Starts.{MayAsk, Probes, Starts}
+use Rattle.fabric.specs.Views.{IsKept, span_of}
 
 module _ {T : Type 0} {N : ℕ} (tags : T → List ℕ) where
   -- its two steps found q of a side, by which it may reserve so many positions, and its count may be asked for; v is
@@ -28,4 +31,18 @@ module _ {T : Type 0} {N : ℕ} (tags : T → List ℕ) where
     pub few : count ≤ n
     pub room : count ≤ q.room
     pub last : q.start + count ≤ LAST
+    pub may : MayAsk tags most n side r.shape.plan v
+
+  -- these positions of a side are its open span, and their slots are all that it has; v is its view before
+  pub record HasStarted (most : ℕ) (how : How) (n : ℕ) (side : Side) (r : Ring T N) (v : View T)
+      (s : Seat (Option T) (View T))
+      (place : Positions) : Type 0 where
+    pub seated : IsSeated r s
+    pub starts : Starts tags how n r.index side r.shape.plan v place.start place.count place.left s.me.0.shown s.me.0
+    pub span : s.me.0.party.span ≡ Some (span_of r.index side place.start place.count)
+    pub party : s.me.0.party ≡ with_open v.party (span_of r.index side place.start place.count)
+    pub slots : s.me.1 ≡ slots_of r place.start (slot_values side place.count s.me.0.shown)
+    pub empty : side ≡ Put → s.me.0.shown ≡ []
+    pub full : side ≡ Take → length s.me.0.shown ≡ place.count
+    pub fits : place.count ≤ most
     pub may : MayAsk tags most n side r.shape.plan v

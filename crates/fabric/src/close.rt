@@ -4,10 +4,12 @@ ghost use Rattle.geom.specs.declared.word.TheConstants.{LAST};
 ghost use Rattle.fabric_laws.specs.Closing.{reach_of};
 ghost use Rattle.fabric.specs.Closed.{IsAll, IsLast, left, ring_count};
 ghost use Rattle.fabric.specs.Hands.{IsHandOf, pool_of, rings_of, view};
+ghost use Rattle.fabric.specs.Rests.{LiesAt};
 
 use crate::closed::Closed;
 use crate::fabric::Fabric;
 use crate::hand::{Hand, Share};
+use crate::plan::Shape;
 use crate::steps::{own_word, position, settled_word};
 use burst::Tagged;
 use geom::{Mode, RESERVED, Side};
@@ -31,6 +33,16 @@ fn further(mode: Mode, word: u64) -> u64
         Mode::Multi => word + 1,
         Mode::Hts => word + RESERVED,
     }
+}
+
+/// Where what is left of a ring lies: from the position `first`, by the take side's own word at `own`, to `end`.
+#[derive(Clone, Copy)]
+pub struct Rest {
+    pub(crate) shape: Shape,
+    pub(crate) own: usize,
+    pub(crate) word: u64,
+    pub(crate) first: u64,
+    pub(crate) end: u64,
 }
 
 impl<T: Tagged, const N: usize> Fabric<T, N> {
@@ -59,6 +71,26 @@ impl<T: Tagged, const N: usize> Fabric<T, N> {
 }
 
 impl<T: Tagged> Closed<T> {
+    /// Where what is left of a ring lies.
+    #[inline]
+    fn rest(&self, ring: usize) -> Rest
+        requires ring { ring < ring_count self.now }
+        ensures { LiesAt self.now ring result }
+    {
+        let shape = self.shapes[ring];
+        let own = own_word(ring, Side::Take);
+        let word = self.table.word(own);
+        let put = shape.plan.put;
+        let last = self.table.word(settled_word(put, ring, Side::Put));
+        Rest {
+            shape,
+            own,
+            word,
+            first: reach(shape.plan.take, word),
+            end: position(put, last),
+        }
+    }
+
     /// The next item of a ring, in the order in which they were published, of those at positions that no take has
     /// reserved; none where no item is left. Takes no memory.
     pub fn next(&mut self, ring: usize) -> Option<T>
@@ -68,16 +100,11 @@ impl<T: Tagged> Closed<T> {
         ensures others { (r : ℕ) → r ≢ ring → left self.new r ≡ left self.old r }
         ensures rings { ring_count self.new ≡ ring_count self.old }
     {
-        let shape = self.shapes[ring];
-        let own = own_word(ring, Side::Take);
-        let word = self.table.word(own);
-        let first = reach(shape.plan.take, word);
-        let put = shape.plan.put;
-        let end = position(put, self.table.word(settled_word(put, ring, Side::Put)));
-        if first >= end {
+        let rest = self.rest(ring);
+        if rest.first >= rest.end {
             return None;
         }
-        *self.table.words.get_mut(own) = further(shape.plan.take, word);
-        self.table.slots.get_mut(shape.slot(first)).take()
+        *self.table.words.get_mut(rest.own) = further(rest.shape.plan.take, rest.word);
+        self.table.slots.get_mut(rest.shape.slot(rest.first)).take()
     }
 }

@@ -1,6 +1,6 @@
 //! What goes before a put that may be of the first items of a list alone: the test of its items, and a settle that
 //! leaves the others in the list.
-ghost use Rattle.std.specs.Prelude.{◌≡◌, ◌+◌, ◌-◌, ◌<◌, ◌≤◌, ◌++◌, [], length, take, drop, reverse, true, false};
+ghost use Rattle.std.specs.Prelude.{◌≡◌, ◌-◌, ◌<◌, ◌≤◌, [], length, take, drop, true, false};
 ghost use Rattle.std.specs.Prelude.{IfOk, IfErr};
 ghost use Rattle.geom.specs.declared.plan.Mode.TheVariants.{Hts};
 ghost use Rattle.fabric.specs.Hands.{HasPut, IsHandOf, OnRing, RefusesPut, SamePut, put_span, put_view};

@@ -1,7 +1,6 @@
 //! Making a fabric, with its first hand.
-ghost use Rattle.std.specs.Prelude.{◌≡◌, ◌≤◌, ◌↔◌, ℕ, IfOk, IfErr, IsTrue, length};
+ghost use Rattle.std.specs.Prelude.{◌≡◌, ◌≤◌, ◌↔◌, IfOk, IfErr, IsTrue, length};
 ghost use Rattle.std.specs.List.{range_with_len};
-ghost use Rattle.geom.specs.Fit.{AllFit};
 ghost use Rattle.fabric_laws.specs.Changes.{newborn};
 ghost use Rattle.fabric_laws.specs.Rule.{all_parts};
 ghost use Rattle.fabric_laws.specs.Words.{slot_count};

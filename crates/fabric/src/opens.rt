@@ -1,5 +1,5 @@
 //! Open spans, and how they are settled.
-ghost use Rattle.std.specs.Prelude.{◌≡◌, [], length, take, IfOk, IfErr};
+ghost use Rattle.std.specs.Prelude.{◌≡◌, [], take, IfOk, IfErr};
 ghost use Rattle.std.specs.List.{flat_map};
 ghost use Rattle.fabric.specs.Hands.{RefusesPut, RefusesTake, HasPut, HasTaken, SamePut, SameTake, put_left};
 ghost use Rattle.fabric.specs.Hands.{put_span, put_view, take_left, take_span, take_view, view};

@@ -1,6 +1,6 @@
 //! Settling a span: its slots are filled, or the rest of a take goes back, and one step on a word sends them home.
-ghost use Rattle.std.specs.Prelude.{◌≡◌, ◌+◌, ◌-◌, ◌<◌, ◌≤◌, ◌^◌, ◌++◌, [], length, map, take, drop, replicate};
-ghost use Rattle.std.specs.Prelude.{slice_get, None, Some, IfNone, IfSome, true, false};
+ghost use Rattle.std.specs.Prelude.{◌≡◌, ◌+◌, ◌-◌, ◌<◌, ◌≤◌, ◌++◌, [], length, map, take, drop, replicate};
+ghost use Rattle.std.specs.Prelude.{None, Some, IfNone, IfSome, true, false};
 ghost use Rattle.geom.specs.declared.plan.Mode.TheVariants.{Multi};
 ghost use Rattle.geom.specs.declared.plan.Side.TheVariants.{Put, Take};
 ghost use Rattle.ringcore_laws.specs.FreeRings.{AreSingle};

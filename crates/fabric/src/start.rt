@@ -1,9 +1,8 @@
 //! Reserving a span: a look, a question for room, and an exchange of the own word.
-ghost use Rattle.std.specs.Prelude.{◌≡◌, ◌≢◌, ◌+◌, ◌%◌, ◌<◌, ◌≤◌, ◌⊎◌, [], length, slice_get, None, Some, IfOk, IfErr};
+ghost use Rattle.std.specs.Prelude.{◌≡◌, ◌≢◌, ◌+◌, ◌%◌, ◌<◌, ◌≤◌, ◌⊎◌, [], length, None, IfOk, IfErr};
 ghost use Rattle.std.specs.Prelude.{true, false};
 ghost use Rattle.geom.specs.declared.plan.Mode.TheVariants.{Hts};
 ghost use Rattle.geom.specs.declared.word.TheConstants.{LAST, RESERVED};
-ghost use Rattle.geom.specs.declared.plan.RingPlan.{RingPlan};
 ghost use Rattle.geom.specs.declared.plan.Side.TheVariants.{Put, Take};
 ghost use Rattle.geom.specs.Plan.{granted, mode_of};
 ghost use Rattle.ringcore_laws.specs.History.{position_of};
@@ -14,7 +13,7 @@ ghost use Rattle.fabric_laws.specs.Refusals.{HadAtMost, WasTaken};
 ghost use Rattle.fabric_laws.specs.declared.view.View.{View};
 ghost use Rattle.fabric.specs.Hands.{IsHandOf, OnRing, put_fabric, put_left, put_span, put_view, rings_of};
 ghost use Rattle.fabric.specs.Hands.{take_fabric, take_left, take_span, take_view, view};
-ghost use Rattle.fabric.specs.Aims.{Aims};
+ghost use Rattle.fabric.specs.Aims.{Aims, HasStarted};
 ghost use Rattle.fabric.specs.Owned.{count_true};
 ghost use Rattle.fabric.specs.Rings.{IsSameSeat, IsSeated};
 ghost use Rattle.fabric.specs.Starts.{RefusesRoom, RefusesCount, MayAsk, Probes, RefusesStart, Starts};
@@ -192,6 +191,52 @@ impl<T: Tagged, const N: usize> Ring<'_, T, N> {
             Err(fault) => Err((Hand { share }, fault)),
         }
     }
+
+    /// A start of either side, but for the items of a take: the share with its open span, and where that lies. The hand
+    /// comes back where it is refused.
+    #[inline]
+    fn start(
+        &self,
+        hand: Hand<T>,
+        side: Side,
+        n: usize,
+        how: How,
+    ) -> Result<(Share<T>, Positions), (Hand<T>, StartFault)>
+        requires hand { IsHandOf self.now.fabric.now hand }
+        ensures started { IfOk result (λ a. HasStarted T.numbers N how n side self.now (view hand) a.0.seat a.1) }
+        ensures refused { IfErr result (λ e. IsHandOf self.now.fabric.now e.0
+            × RefusesStart T.numbers N how n self.now.index side self.now.shape.plan (view hand) (view e.0) e.1) }
+        ensures asked { IfErr result (λ e. RefusesCount T.numbers N n side self.now.shape.plan (view hand) e.1) }
+        ensures kept { IfErr result (λ e. IsKept (view hand) (view e.0)) }
+        ensures worn { IfErr result (λ e. e.1 ≡ Worn → IsWornAt N (view e.0)) }
+        ensures so { IfErr result
+            (λ e. IsTrueRefusal T.numbers self.now.index side self.now.shape.plan (view hand) (view e.0) e.1) }
+    {
+        let (share, probe, count) = match self.approach(hand, side, n, how) {
+            Ok(aim) => aim,
+            Err(refused) => return Err(refused),
+        };
+        let Share {
+            mut seat,
+            owned,
+            parts,
+        } = share;
+        let found = self.reserve(&mut seat, side, probe.word, count);
+        if found != probe.word {
+            return Err((
+                Hand {
+                    share: Share { seat, owned, parts },
+                },
+                StartFault::Contended(found),
+            ));
+        }
+        let place = Positions {
+            start: probe.start,
+            count,
+            left: probe.room - count as u64,
+        };
+        Ok((Share { seat, owned, parts }, place))
+    }
 }
 
 impl<T: Tagged, const N: usize> Fabric<T, N> {
@@ -228,34 +273,14 @@ impl<T: Tagged, const N: usize> Fabric<T, N> {
             index: ring,
             shape: self.shapes[ring],
         };
-        let (share, probe, count) = match target.approach(hand, Side::Put, n, how) {
-            Ok(aim) => aim,
-            Err(refused) => return Err(refused),
-        };
-        let Share {
-            mut seat,
-            owned,
-            parts,
-        } = share;
-        let found = target.reserve_put(&mut seat, probe.word, count);
-        if found != probe.word {
-            return Err((
-                Hand {
-                    share: Share { seat, owned, parts },
-                },
-                StartFault::Contended(found),
-            ));
+        match target.start(hand, Side::Put, n, how) {
+            Ok((share, place)) => Ok(PutOpen {
+                ring: target,
+                share,
+                place,
+            }),
+            Err(refused) => Err(refused),
         }
-        let place = Positions {
-            start: probe.start,
-            count,
-            left: probe.room - count as u64,
-        };
-        Ok(PutOpen {
-            ring: target,
-            share: Share { seat, owned, parts },
-            place,
-        })
     }
 
     /// Tries once to reserve a span of positions for a take: by bulk `n` of them, by burst at most `n`. Its items go
@@ -292,8 +317,8 @@ impl<T: Tagged, const N: usize> Fabric<T, N> {
             index: ring,
             shape: self.shapes[ring],
         };
-        let (share, probe, count) = match target.approach(hand, Side::Take, n, how) {
-            Ok(aim) => aim,
+        let (share, place) = match target.start(hand, Side::Take, n, how) {
+            Ok(started) => started,
             Err(refused) => return Err(refused),
         };
         let Share {
@@ -301,20 +326,6 @@ impl<T: Tagged, const N: usize> Fabric<T, N> {
             owned,
             parts,
         } = share;
-        let found = target.reserve_take(&mut seat, probe.word, count);
-        if found != probe.word {
-            return Err((
-                Hand {
-                    share: Share { seat, owned, parts },
-                },
-                StartFault::Contended(found),
-            ));
-        }
-        let place = Positions {
-            start: probe.start,
-            count,
-            left: probe.room - count as u64,
-        };
         target.withdraw(&mut seat, place, &mut into.cells);
         Ok(TakeSpan {
             ring: target,

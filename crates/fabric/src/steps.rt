@@ -1,23 +1,20 @@
 //! The kinds of step on a word, each as a function: what it finds, and what it changes of its hand's view.
-ghost use Rattle.std.specs.Prelude.{◌≡◌, ◌≢◌, ◌+◌, ◌*◌, ◌<◌, ◌≤◌, ℕ, [], ◌++◌, List, length, map, replicate, slice_get};
+ghost use Rattle.std.specs.Prelude.{◌≡◌, ◌≢◌, ◌+◌, ◌*◌, ◌<◌, ◌≤◌, ℕ, [], ◌++◌, List, length, map, replicate};
 ghost use Rattle.std.specs.Prelude.{take, None, Some, true};
 ghost use Rattle.geom.specs.declared.plan.Mode.TheVariants.{Hts, Multi};
 ghost use Rattle.geom.specs.declared.plan.Side.{Side};
 ghost use Rattle.geom.specs.declared.plan.Side.TheVariants.{Put, Take};
 ghost use Rattle.geom.specs.declared.word.TheConstants.{LAST, RESERVED};
 ghost use Rattle.geom.specs.Plan.{mode_of};
-ghost use Rattle.ringcore_laws.specs.declared.protocol.Observed.{Observed};
-ghost use Rattle.ringcore_laws.specs.declared.protocol.Span.{Span};
 ghost use Rattle.ringcore_laws.specs.FreeRings.{AreSingle, buffers_had};
 ghost use Rattle.ringcore_laws.specs.History.{other_side, position_of, room_by_look};
-ghost use Rattle.ringcore_laws.specs.Moves.{Owns};
 ghost use Rattle.fabric_laws.specs.Changes.{view_after_look, asked, missed, reserved, settled};
-ghost use Rattle.fabric_laws.specs.Kinds.{HasRoom, IsHeldOnce, IsNear, IsReady, ReadsBack, run};
+ghost use Rattle.fabric_laws.specs.Kinds.{HasRoom, IsHeldOnce, IsNear, IsReady, ReadsBack};
 ghost use Rattle.fabric_laws.specs.Refusals.{HadAtMost, Was, WasEarlier};
 ghost use Rattle.fabric.specs.Hands.{rings_of};
-ghost use Rattle.fabric.specs.Rings.{IsSameSeat, IsSeated, slots_of};
+ghost use Rattle.fabric.specs.Rings.{HasReserved, IsSameSeat, IsSeated, slots_of};
 ghost use Rattle.fabric.specs.Views.{HasLooked, HasSeen, span_of};
-ghost use Rattle.fabric_laws.specs.Words.{own_at, settled_word_at, slot_at, tail_at};
+ghost use Rattle.fabric_laws.specs.Words.{own_at, settled_word_at, tail_at};
 
 use crate::plays::{Asks, Looks, ReservesPut, ReservesTake, Settles, Stores};
 use crate::ring::Ring;
@@ -126,12 +123,7 @@ impl<T: Tagged, const N: usize> Ring<'_, T, N> {
 
     /// Reserve of the put side: moves its own word from the one looked at past `count` positions, whose slots come to
     /// the hand.
-    pub(crate) fn reserve_put(
-        &self,
-        seat: &mut Seat<Option<T>, View<T>>,
-        word: u64,
-        count: usize,
-    ) -> u64
+    fn reserve_put(&self, seat: &mut Seat<Option<T>, View<T>>, word: u64, count: usize) -> u64
         requires seat { IsSeated self.now seat.old }
         requires idle { seat.old.me.0.party.span ≡ None }
         requires seen { (t : ℕ) × HasSeen self.now.index Put word t seat.old.me.0
@@ -158,12 +150,7 @@ impl<T: Tagged, const N: usize> Ring<'_, T, N> {
 
     /// Reserve of the take side: the slots come to the hand with the items that are published there. Those of a free
     /// ring carry one buffer each.
-    pub(crate) fn reserve_take(
-        &self,
-        seat: &mut Seat<Option<T>, View<T>>,
-        word: u64,
-        count: usize,
-    ) -> u64
+    fn reserve_take(&self, seat: &mut Seat<Option<T>, View<T>>, word: u64, count: usize) -> u64
         requires seat { IsSeated self.now seat.old }
         requires idle { seat.old.me.0.party.span ≡ None }
         requires seen { (t : ℕ) × HasSeen self.now.index Take word t seat.old.me.0
@@ -186,6 +173,37 @@ impl<T: Tagged, const N: usize> Ring<'_, T, N> {
             word,
             word + count as u64,
         )
+    }
+
+    /// Reserve of either side: moves its own word from the one looked at past `count` positions, whose slots come to
+    /// the hand.
+    #[inline]
+    pub(crate) fn reserve(
+        &self,
+        seat: &mut Seat<Option<T>, View<T>>,
+        side: Side,
+        word: u64,
+        count: usize,
+    ) -> u64
+        requires seat { IsSeated self.now seat.old }
+        requires idle { seat.old.me.0.party.span ≡ None }
+        requires seen { (t : ℕ) × HasSeen self.now.index side word t seat.old.me.0
+            × (count ≤ room_by_look side self.now.shape.plan.geometry.capacity
+            (position_of (mode_of self.now.shape.plan side) word) t) }
+        requires some { 0 < count }
+        requires last { position_of (mode_of self.now.shape.plan side) word + count ≤ LAST }
+        requires few { side ≡ Put → self.now.shape.plan.free ≡ true
+            → count ≤ buffers_had T.numbers seat.old.me.0.pool seat.old.me.0.party }
+        ensures seat { IsSameSeat seat.old seat.new }
+        ensures won { result ≡ word → HasReserved T.numbers self.now side
+            (position_of (mode_of self.now.shape.plan side) word) count seat.old seat.new }
+        ensures lost { result ≢ word → (seat.new.me.0 ≡ missed result seat.old.me.0) × (seat.new.me.1 ≡ seat.old.me.1) }
+        ensures was { Was T.numbers seat.old.me.0 (own_at self.now.index side) result }
+    {
+        match side {
+            Side::Put => self.reserve_put(seat, word, count),
+            Side::Take => self.reserve_take(seat, word, count),
+        }
     }
 
     /// Settle of a multi side: moves its tail from the start of the open span to its end, and the slots go home.
