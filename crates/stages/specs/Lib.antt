@@ -16,4 +16,5 @@ pub mod Turns
 pub mod Feeding
 pub mod Ending
 pub mod Whole
+pub mod Begun
 pub mod Threads

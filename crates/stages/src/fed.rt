@@ -1,7 +1,5 @@
 //! What the reader of a run in threads leaves.
-ghost use Rattle.std.specs.Prelude.{◌≡◌, ◌≢◌, ◌⊎◌, Some, None, Err, Ok, true};
-ghost use Rattle.pcapio.specs.Reader.{Fails, source_of};
-ghost use Rattle.pcapio.specs.Counted.{failures_of};
+ghost use Rattle.std.specs.Prelude.{◌≡◌, ◌⊎◌, Err, Ok};
 ghost use Rattle.stages.specs.Feeding.{ReadFailed, ReadIsHere, IsNoCapture, WroteNothing};
 ghost use Rattle.stages.specs.Faults.{fault_of_ring, lower_of};
 ghost use Rattle.stages.specs.declared.fault.RingFault.{RingFault};

@@ -1,13 +1,8 @@
 //! The reader of a run in threads: it reads each record into free segments, and gives it to the workers.
-ghost use Rattle.std.specs.Prelude.{◌≡◌, ◌≤◌, ◌<◌, ◌⊎◌, ◌*◌, ◌-◌, max, length, IfOk, IfErr, OnOk};
-ghost use Rattle.fabric.specs.Hands.{IsHandOf, rings_of};
+ghost use Rattle.std.specs.Prelude.{◌≡◌, ◌≤◌, ◌<◌, ◌⊎◌, ◌*◌, ◌-◌, max, length, IfOk, IfErr};
 ghost use Rattle.mbuf.specs.Chain.{space_of};
-ghost use Rattle.pcapio.specs.Counted.{failures_of};
-ghost use Rattle.pcapio.specs.Reader.{order_of, rest, stage_of, source_of};
-ghost use Rattle.pcapio.specs.declared.stage.Stage.TheVariants.{Between};
-ghost use Rattle.stages_laws.specs.Input.{IsInput};
+ghost use Rattle.stages.specs.Begun.{GoesBy, HasInput};
 ghost use Rattle.stages.specs.Feeding.{WhyUnfed};
-ghost use Rattle.stages.specs.Passing.{AreRings};
 
 use crate::fault::{RingFault, RunFault};
 use crate::fed::Fed;
@@ -112,10 +107,8 @@ fn read_all<J: Run, R: Read, T: Wait>(
     batch: &mut Burst<Packet<J>, SPAN>,
     settings: &Settings,
 ) -> Result<Stamped<J>, RunFault>
-    requires input { IsInput (order_of reader.old) (rest R.remaining reader.old) J.input }
-    requires between { stage_of reader.old ≡ Between }
-    requires room { settings.now.room ≡ J.room }
-    requires ports { length settings.now.ports.sources.items ≡ length J.before }
+    requires input { HasInput R.remaining reader.old J.input J.read_failures }
+    requires settings { GoesBy settings.now J.room J.forwarding (length J.before) }
     ensures why { IfErr result (WhyUnfed J.input reader.old reader.new) }
 {
     let room = settings.room as usize;
@@ -172,11 +165,8 @@ pub(crate) fn feed<J: Run, R: Read, T: Wait>(
     workers: usize,
     settings: &Settings,
 ) -> Fed<J, R>
-    requires input { IsInput (order_of reader) (rest R.remaining reader) J.input }
-    requires between { stage_of reader ≡ Between }
-    requires failures { failures_of (source_of reader) ≡ J.read_failures }
-    requires room { settings.now.room ≡ J.room }
-    requires ports { length settings.now.ports.sources.items ≡ length J.before }
+    requires input { HasInput R.remaining reader J.input J.read_failures }
+    requires settings { GoesBy settings.now J.room J.forwarding (length J.before) }
     requires few { workers ≤ 16 }
 {
     let mut batch = Burst::<Packet<J>, SPAN>::new();

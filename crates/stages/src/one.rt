@@ -1,5 +1,5 @@
 //! The run by one thread: each record is read, judged, and passed through the sink, in the order of the input.
-ghost use Rattle.std.specs.Prelude.{◌≡◌, ◌≤◌, ◌<◌, ◌*◌, ℕ, min, None, IfOk, IfErr, OnOk, length, vec_len};
+ghost use Rattle.std.specs.Prelude.{◌≡◌, ◌≤◌, ◌<◌, ◌*◌, min, None, IfOk, IfErr, OnOk, length, vec_len};
 ghost use Rattle.ipv4.specs.Forwarding.{forwarded};
 ghost use Rattle.mbuf.specs.Chain.{space_of};
 ghost use Rattle.pcapio.specs.Counted.{HasNotFailed};

@@ -20,8 +20,8 @@ use stages_laws::Run;
 use std::io::Read;
 use std::marker::PhantomData;
 
-/// The most segments of a packet.
-pub(crate) const MOST_SEGMENTS: usize = 64;
+/// The most segments of a packet, as sizes are counted.
+pub(crate) const MOST_SEGMENTS: usize = mbuf::MOST_SEGMENTS as usize;
 
 /// The fault of a run whose input has this fault.
 pub(crate) fn input_fault(fault: CapFault) -> RunFault

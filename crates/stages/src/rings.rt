@@ -1,5 +1,5 @@
 //! The rings of a run in threads, and the segments that stand on them.
-ghost use Rattle.std.specs.Prelude.{◌≡◌, ◌<◌, [], IfOk, IfSome, length};
+ghost use Rattle.std.specs.Prelude.{◌≡◌, ◌<◌, [], IfOk, IfSome};
 ghost use Rattle.fabric.specs.Hands.{IsHandOf, rings_of};
 ghost use Rattle.stages.specs.Passing.{AreRings, AreAsked};
 

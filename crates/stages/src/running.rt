@@ -1,16 +1,14 @@
 //! A whole run by one thread: the input is opened, each of its records is taken to the ports, and all are closed.
-ghost use Rattle.std.specs.Prelude.{◌≡◌, ◌≤◌, ◌*◌, [], List, None, Some, IfErr, IfOk, IfSome, OnOk};
-ghost use Rattle.std.specs.Prelude.{length, min, vec_len, vec_capacity, map as mapped};
+ghost use Rattle.std.specs.Prelude.{◌≡◌, ◌≤◌, ◌*◌, List, Some, IfErr, IfOk, IfSome, OnOk};
+ghost use Rattle.std.specs.Prelude.{length, min, vec_len, vec_capacity};
 ghost use Rattle.mbuf.specs.Chain.{space_of};
-ghost use Rattle.pcapio.specs.Counted.{to_come, told, failures_of};
-ghost use Rattle.pcapio.specs.Reader.{order_of, rest, stage_of};
-ghost use Rattle.pcapio.specs.declared.stage.Stage.TheVariants.{Between};
-ghost use Rattle.stages_laws.specs.Input.{IsInput};
+ghost use Rattle.pcapio.specs.Counted.{to_come, told};
 ghost use Rattle.stages_laws.specs.Output.{Fate};
+ghost use Rattle.stages.specs.Begun.{AreReady, GoesBy, HasInput};
 ghost use Rattle.stages.specs.Ending.{Sums};
-ghost use Rattle.stages.specs.Ports.{AreFresh, AreOutputs, AreBeginnings, devices_of};
+ghost use Rattle.stages.specs.Ports.{AreOutputs, AreBeginnings};
 ghost use Rattle.stages.specs.Tallies.{fates_of};
-ghost use Rattle.stages.specs.Whole.{forwarding_by, IsRun, IsBegun, IsUntouched, WhyStoppedAt, WhyNoSummary};
+ghost use Rattle.stages.specs.Whole.{IsRun, IsBegun, IsUntouched, WhyStoppedAt, WhyNoSummary};
 
 use crate::closing::into_devices;
 use crate::ending::{Summary, end};
@@ -77,17 +75,9 @@ fn run_opened<J: Run, R: Read, W: Write + Drop>(
     chain: Chain,
     settings: &Settings,
 ) -> (Counted<R>, Vec<Counted<W>>, Result<Summary, RunFault>)
-    requires input { IsInput (order_of reader) (rest R.remaining reader) J.input }
-    requires between { stage_of reader ≡ Between }
-    requires room { settings.now.room ≡ J.room }
-    requires rules { forwarding_by settings.now ≡ J.forwarding }
-    requires before { mapped (told W.contents) (devices_of outputs.writers.items) ≡ J.before }
-    requires failures { mapped failures_of (devices_of outputs.writers.items) ≡ J.failures }
-    requires fresh { AreFresh W.contents J.resolution outputs.writers.items }
-    requires well { outputs.failed ≡ None }
-    requires ports { vec_len outputs.writers ≡ vec_len settings.now.ports.sources }
-    requires empty { spare.items ≡ [] }
-    requires spare { vec_len outputs.writers ≤ vec_capacity spare }
+    requires input { HasInput R.remaining reader J.input J.read_failures }
+    requires settings { GoesBy settings.now J.room J.forwarding (length J.before) }
+    requires outputs { AreReady W.contents outputs spare.items (vec_capacity spare) J.before J.failures J.resolution }
     requires space { min (64 * settings.now.room) 262144 ≤ space_of chain }
     ensures outputs { OnOk result.2 ((all : List Fate) → fates_of J.forwarding J.room J.input ≡ Some all
         → AreOutputs W.contents J.before J.resolution all result.1.items) }

@@ -1,19 +1,16 @@
 //! A run in threads: a reader, workers, and the sink on the calling thread.
-ghost use Rattle.std.specs.Prelude.{◌≡◌, ◌<◌, ◌≤◌, ◌⊎◌, [], List, None, Some, IfErr, IfOk, IfSome, OnOk};
-ghost use Rattle.std.specs.Prelude.{length, vec_len, vec_capacity, map as mapped};
+ghost use Rattle.std.specs.Prelude.{◌≡◌, ◌<◌, ◌≤◌, ◌⊎◌, List, None, Some, IfErr, IfOk, IfSome, OnOk};
+ghost use Rattle.std.specs.Prelude.{length, vec_len, vec_capacity};
 ghost use Rattle.fabric.specs.Hands.{IsHandOf, rings_of};
-ghost use Rattle.ipv4.specs.Forwarding.{forwarded};
-ghost use Rattle.pcapio.specs.Counted.{to_come, told, failures_of};
-ghost use Rattle.pcapio.specs.Reader.{order_of, rest, source_of, stage_of};
-ghost use Rattle.pcapio.specs.declared.stage.Stage.TheVariants.{Between};
-ghost use Rattle.stages_laws.specs.Input.{IsInput};
+ghost use Rattle.pcapio.specs.Counted.{to_come, told};
 ghost use Rattle.stages_laws.specs.Output.{Fate};
+ghost use Rattle.stages.specs.Begun.{AreReady, GoesBy, HasInput};
 ghost use Rattle.stages.specs.Ending.{Sums};
 ghost use Rattle.stages.specs.Passing.{AreRings};
-ghost use Rattle.stages.specs.Ports.{AreFresh, AreOutputs, AreBeginnings, devices_of};
+ghost use Rattle.stages.specs.Ports.{AreOutputs, AreBeginnings};
 ghost use Rattle.stages.specs.Tallies.{fates_of};
 ghost use Rattle.stages.specs.Threads.{WhyEnded, WhyNoSummaryOfThreads};
-ghost use Rattle.stages.specs.Whole.{forwarding_by, IsRun, IsBegun, IsUntouched};
+ghost use Rattle.stages.specs.Whole.{IsRun, IsBegun, IsUntouched};
 ghost use Rattle.stages.specs.declared.fault.RunFault.TheVariants.{Memory, Thread};
 
 use crate::closing::into_devices;
@@ -88,22 +85,16 @@ fn pass<
     requires hand { IsHandOf f.now hand }
     requires rings { AreRings (rings_of f.now) }
     requires few { workers ≤ 16 }
-    requires input { IsInput (order_of reader) (rest R.remaining reader) J.input }
-    requires between { stage_of reader ≡ Between }
-    requires failures { failures_of (source_of reader) ≡ J.read_failures }
-    requires room { settings.now.room ≡ J.room }
-    requires rules { forwarding_by settings.now ≡ J.forwarding }
-    requires ports { vec_len settings.now.ports.sources ≡ length J.before }
+    requires input { HasInput R.remaining reader J.input J.read_failures }
+    requires settings { GoesBy settings.now J.room J.forwarding (length J.before) }
 {
     thread::scope(
         thread::scope_env(),
         rt,
         move |scope| -> (Sink<J, W>, Fed<J, R>)
             requires { IsHandOf f.now hand × AreRings (rings_of f.now) × (workers ≤ 16)
-                × IsInput (order_of reader) (rest R.remaining reader) J.input × (stage_of reader ≡ Between)
-                × (failures_of (source_of reader) ≡ J.read_failures) × (settings.now.room ≡ J.room)
-                × (forwarding_by settings.now ≡ J.forwarding)
-                × (vec_len settings.now.ports.sources ≡ length J.before) }
+                × HasInput R.remaining reader J.input J.read_failures
+                × GoesBy settings.now J.room J.forwarding (length J.before) }
         {
             let burst = settings.burst as usize;
             let cache = settings.cache as usize;
@@ -130,8 +121,8 @@ fn pass<
                 let worker = scope.spawn(
                     move || -> Worked<Packet<J>>
                         requires { IsHandOf f.now other × AreRings (rings_of f.now)
-                            × (forwarding_by settings.now ≡ J.forwarding)
-                            × (vec_len settings.now.ports.sources ≡ length J.before) × (0 < burst) × (burst ≤ 64) }
+                            × GoesBy settings.now J.room J.forwarding (length J.before)
+                            × (0 < burst) × (burst ≤ 64) }
                     { work(rt, gate, f, other, burst, &settings.table, &settings.ports) },
                 );
                 if worker.is_err() {
@@ -168,9 +159,8 @@ fn pass<
             let Ok(thread) = scope.spawn(
                 move || -> Fed<J, R>
                     requires { IsHandOf f.now other × AreRings (rings_of f.now) × (workers ≤ 16)
-                        × IsInput (order_of reader) (rest R.remaining reader) J.input × (stage_of reader ≡ Between)
-                        × (failures_of (source_of reader) ≡ J.read_failures) × (settings.now.room ≡ J.room)
-                        × (vec_len settings.now.ports.sources ≡ length J.before) }
+                        × HasInput R.remaining reader J.input J.read_failures
+                        × GoesBy settings.now J.room J.forwarding (length J.before) }
                 {
                     let station = Station::new(f, other, settings.cache as usize);
                     feed(rt, station, reader, workers, settings)
@@ -202,12 +192,8 @@ fn over_rings<
     settings: &Settings,
 ) -> (Sink<J, W>, Fed<J, R>)
     requires few { workers ≤ 16 }
-    requires input { IsInput (order_of reader) (rest R.remaining reader) J.input }
-    requires between { stage_of reader ≡ Between }
-    requires failures { failures_of (source_of reader) ≡ J.read_failures }
-    requires room { settings.now.room ≡ J.room }
-    requires rules { forwarding_by settings.now ≡ J.forwarding }
-    requires ports { vec_len settings.now.ports.sources ≡ length J.before }
+    requires input { HasInput R.remaining reader J.input J.read_failures }
+    requires settings { GoesBy settings.now J.room J.forwarding (length J.before) }
 {
     let Some(opened) = open_rings::<J>(alloc, settings) else {
         let device = Some(reader.into_inner());
@@ -251,18 +237,9 @@ fn run_started<
     Result<Summary, RunFault>,
 )
     requires few { workers ≤ 16 }
-    requires input { IsInput (order_of reader) (rest R.remaining reader) J.input }
-    requires between { stage_of reader ≡ Between }
-    requires read_failures { failures_of (source_of reader) ≡ J.read_failures }
-    requires room { settings.now.room ≡ J.room }
-    requires rules { forwarding_by settings.now ≡ J.forwarding }
-    requires before { mapped (told W.contents) (devices_of outputs.writers.items) ≡ J.before }
-    requires failures { mapped failures_of (devices_of outputs.writers.items) ≡ J.failures }
-    requires fresh { AreFresh W.contents J.resolution outputs.writers.items }
-    requires well { outputs.failed ≡ None }
-    requires ports { vec_len outputs.writers ≡ vec_len settings.now.ports.sources }
-    requires empty { spare.items ≡ [] }
-    requires spare { vec_len outputs.writers ≤ vec_capacity spare }
+    requires input { HasInput R.remaining reader J.input J.read_failures }
+    requires settings { GoesBy settings.now J.room J.forwarding (length J.before) }
+    requires outputs { AreReady W.contents outputs spare.items (vec_capacity spare) J.before J.failures J.resolution }
     ensures outputs { OnOk result.2 ((all : List Fate) → fates_of J.forwarding J.room J.input ≡ Some all
         → AreOutputs W.contents J.before J.resolution all result.1.items) }
     ensures begun { (all : List Fate) → fates_of J.forwarding J.room J.input ≡ Some all

@@ -10,12 +10,12 @@ use Rattle.stages.proofs.feeding.read_all.Goals as goal
 
 pub loop-turn-init : goal.loop-turn-init
 loop-turn-init g c =
-    let ports : c.len.result ≡ length g.J.Run.before = omega (arith, c.len.ensures, c.requires.ports) in
+    let ports : c.len.result ≡ length g.J.Run.before = omega (arith, c.len.ensures, c.requires.settings.ports) in
     let share = c.new-progress.ensures.share ∙ ap (λ n. counts_of n 0 []) ports in
     record {
-      read = none_read g.R.Read.remaining g.J.Run.input g.J.Run.room (length g.J.Run.before) c.args.reader.now c.new-progress.result c.requires.input
+      read = none_read g.R.Read.remaining g.J.Run.input g.J.Run.room (length g.J.Run.before) c.args.reader.now c.new-progress.result c.requires.input.input
           c.new-progress.ensures.count share (counted_ports (length g.J.Run.before)) (no_records (length g.J.Run.before));
-      between = c.requires.between;
+      between = c.requires.input.between;
       no_read_failed = refl;
       turns = omega (arith, c.new-progress.ensures.count, ap records_of share, no_records (length g.J.Run.before));
     }

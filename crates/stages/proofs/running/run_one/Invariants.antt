@@ -1,6 +1,6 @@
 use Rattle.std.proofs.Common.{map}
 use Rattle.pcapio.specs.Counted.{told, failures_of}
-use Rattle.pcapio.specs.Reader.{order_of, resolution_of, rest}
+use Rattle.pcapio.specs.Reader.{order_of, resolution_of, rest, source_of}
 use Rattle.stages.specs.Ports.{devices_of}
 use Rattle.stages.specs.Whole.{forwarding_by}
 use Rattle.stages.proofs.Opened.{input_of}
@@ -14,5 +14,5 @@ ghosts-run_opened g a = record {
   resolution = resolution_of a.reader;
   before = map (told g.W.Write.contents) (devices_of a.outputs.writers.items);
   failures = map failures_of (devices_of a.outputs.writers.items);
-  read_failures = 0;
+  read_failures = failures_of (source_of a.reader);
 }

@@ -9,11 +9,7 @@ scoped-requires g c = record {
       c.requires.rings,
       c.requires.few,
       c.requires.input,
-      c.requires.between,
-      c.requires.failures,
-      c.requires.room,
-      c.requires.rules,
-      c.requires.ports,
+      c.requires.settings,
     ),
     (search rules, search rules, search rules, search rules, search rules),
   );

@@ -1,7 +1,8 @@
-use Rattle.std.proofs.Common.{rules, ◌≡◌, ◌∙◌, refl, ap, subst, map, length, List, Some, IfOk, OnOk}
+use Rattle.std.proofs.Common.{rules, ◌≡◌, ◌∙◌, refl, ap, subst, sym, map, length, List, Some, IfOk, OnOk}
 use Rattle.std.proofs.lemmas.List.{length-map}
 use Rattle.pcapio.specs.Counted.{told, failures_of, to_come}
 use Rattle.pcapio.specs.Reader.{order_of, resolution_of, rest}
+use Rattle.pcapio.specs.Writer.{sink_of}
 use Rattle.stages_laws.specs.Output.{Fate}
 use Rattle.stages.specs.Ending.{Sums}
 use Rattle.stages.specs.Ports.{AreFresh, AreOutputs, AreBeginnings, devices_of}
@@ -22,9 +23,20 @@ returns-in-Err-open_all-clause-begun g c =
     untouched_begun g.W.Write.contents c.args.settings.now (to_come g.R.Read.remaining c.args.reader) c.args.writers.items c.in-Err-open_all.writers.items
     c.in-Err-open_all.ensures.refused
 
-pub run_started-requires-clause-fresh : goal.run_started-requires-clause-fresh
-run_started-requires-clause-fresh g c _ _ =
-    subst (λ r. AreFresh g.W.Write.contents r c.in-Ok-open_all.outputs.writers.items) c.resolution.ensures c.in-Ok-open_all.ensures.fresh
+pub run_started-requires-clause-outputs : goal.run_started-requires-clause-outputs
+run_started-requires-clause-outputs g c _ _ =
+    let outputs = c.in-Ok-open_all.outputs in
+    let devices = devices_of outputs.writers.items in
+    let opened = c.in-Ok-open_all.ensures in
+    record {
+      before = refl;
+      failures = refl;
+      fresh = subst (λ r. AreFresh g.W.Write.contents r outputs.writers.items) c.resolution.ensures opened.fresh;
+      well = opened.well;
+      many = sym (length-map devices (told g.W.Write.contents) ∙ length-map outputs.writers.items sink_of ∙ sym outputs.writers.ok.0);
+      empty = opened.spare.0;
+      room = opened.spare.1;
+    }
 
 pub returns-in-Ok-open_all-clause-run : goal.returns-in-Ok-open_all-clause-run
 returns-in-Ok-open_all-clause-run g c =
