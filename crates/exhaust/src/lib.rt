@@ -48,3 +48,22 @@ pub fn refuses(alloc: Global) -> bool {
         .iter()
         .all(|size| Vec::<u8>::with_capacity(alloc, *size).is_err())
 }
+
+/// Writes to a mebibyte of the stack, which is more than a test needs: it can't grow any more once all memory is taken.
+/// Gives what was written.
+#[inline(never)]
+pub fn deepen() -> u8 {
+    let mut room = [[0u8; 65_536]; 16];
+    touch(&mut room)
+}
+
+/// Writes to each of these bytes, and gives the last.
+#[inline(never)]
+fn touch(room: &mut [[u8; 65_536]]) -> u8 {
+    let mut last = 0u8;
+    for part in room {
+        part.fill(1);
+        last = part.last().copied().unwrap_or(0);
+    }
+    last
+}

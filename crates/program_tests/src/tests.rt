@@ -1,7 +1,7 @@
 //! The program on worked captures and files at fault, and on each fault and status.
 
 use program::program;
-use std::alloc::AllocError;
+use std::alloc::{AllocError, Global};
 use std::rt::Files;
 use std::sync::Wait;
 use std::thread::Threads;
@@ -21,6 +21,15 @@ struct Ran {
     status: u8,
     out: Vec<u8>,
     err: Vec<u8>,
+}
+
+/// The words of a command line.
+fn words_of(alloc: Global, words: &[&str]) -> Result<Vec<String>, AllocError> {
+    let mut texts = Vec::new(alloc);
+    for word in words {
+        texts.push(String::from_str(alloc, word)?)?;
+    }
+    Ok(texts)
 }
 
 /// Runs the program over words and an input.
@@ -45,10 +54,7 @@ fn run_apart<R: Files + AllocGlobal, T: Threads + Wait + Sync>(
 where
     R::File: Send,
 {
-    let mut texts = Vec::new(rt.alloc());
-    for word in words {
-        texts.push(String::from_str(rt.alloc(), word)?)?;
-    }
+    let texts = words_of(rt.alloc(), words)?;
     let mut out = Vec::new(rt.alloc());
     let mut err = Vec::new(rt.alloc());
     let status = program(rt, threads, texts.as_slice(), input, &mut out, &mut err);

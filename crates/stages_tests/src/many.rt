@@ -1,5 +1,4 @@
 //! Runs of many records, by different numbers of workers and with different settings.
-ghost use Rattle.std.specs.Prelude.{◌≤◌};
 
 use crate::cases::{Case, LONG, TWO_PORTS};
 use crate::runs::{Left, SOUND, is_whole, run};

@@ -4,7 +4,7 @@ ghost use Rattle.std.specs.Prelude.{◌≤◌};
 use crate::cases::{Case, TWO_PORTS, three_records};
 use crate::devices::Greedy;
 use crate::runs::{Left, SOUND, forward, is_whole, run};
-use exhaust::take_all;
+use exhaust::{deepen, take_all};
 use pcapio::Counted;
 use settings::Settings;
 use stages::{Open, RunFault};
@@ -43,24 +43,6 @@ fn run_at_last<R: Abort + AllocGlobal + Threads + Wait + Sync>(
         held.pop();
     }
     (refused, None)
-}
-
-/// Writes to more of the stack than any run needs: it can't grow once all addresses are taken.
-#[inline(never)]
-fn deepen() -> u8 {
-    let mut room = [[0u8; 65_536]; 16];
-    touch(&mut room)
-}
-
-/// Writes to each of these bytes, and gives the last.
-#[inline(never)]
-fn touch(room: &mut [[u8; 65_536]]) -> u8 {
-    let mut last = 0u8;
-    for part in room {
-        part.fill(1);
-        last = part.last().copied().unwrap_or(0);
-    }
-    last
 }
 
 /// Runs while all memory is taken, and a piece of it is given back each time.

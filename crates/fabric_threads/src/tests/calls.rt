@@ -22,10 +22,11 @@ use std::alloc::Global;
 use std::sync::Wait;
 use std::test::Fail;
 
-/// How many buffers there are in a round, and beside whole calls, peeks and a cache.
+/// How many buffers there are in a round.
 const FEW: u32 = 4;
 
-const MANY: u32 = 24;
+/// How many there are beside whole calls, peeks and a cache.
+const BESIDE_CALLS: u32 = 24;
 
 /// Whether the fabric tells its plan.
 fn tells_its_plan(f: &Rings, modes: (Mode, Mode)) -> Result<(), Wrong>
@@ -393,5 +394,5 @@ fn each_call_and_each_refusal_once(rt: HostRuntime) -> Result<(), Fail> {
 fn rings_go_on_without_memory(rt: HostRuntime) -> Result<(), Fail> {
     run_round(&rt, rt.alloc(), (Mode::Multi, Mode::Multi), FEW, true)?;
     run_round(&rt, rt.alloc(), (Mode::Hts, Mode::Hts), FEW, true)?;
-    run_round(&rt, rt.alloc(), (Mode::Hts, Mode::Hts), MANY, true)
+    run_round(&rt, rt.alloc(), (Mode::Hts, Mode::Hts), BESIDE_CALLS, true)
 }

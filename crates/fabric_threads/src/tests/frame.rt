@@ -1,7 +1,7 @@
 //! Four threads on one fabric, each with a hand and a way to go on, and what is looked at when they have ended: each
 //! number of a buffer was met once, on a ring that is closed, with a hand that was joined, or noted by a thread that
 //! stopped.
-ghost use Rattle.std.specs.Prelude.{◌≡◌, ◌<◌, length, IfOk, IfSome};
+ghost use Rattle.std.specs.Prelude.{◌<◌, length, IfOk, IfSome};
 ghost use Rattle.fabric.specs.Closed.{ring_count};
 ghost use Rattle.fabric.specs.Hands.{IsHandOf, rings_of};
 

@@ -1,16 +1,14 @@
 //! What the threads of a test note for one another and for its end.
-ghost use Rattle.std.specs.Prelude.{◌≡◌, ◌<◌, length};
+ghost use Rattle.std.specs.Prelude.{◌≡◌, ◌<◌};
 ghost use Rattle.fabric.specs.Closed.{ring_count};
 
 use super::Ticket;
 use super::rings::{Items, Wrong};
+use super::tries::ENOUGH;
 use fabric::{Closed, Hand};
 use std::alloc::{AllocError, Global};
 use std::sync::atomic::{AtomicU64, Ordering};
 use std::thread;
-
-/// How often a thread looks how far the other one is, before it gives up.
-const TURNS: u64 = 1 << 40;
 
 /// How often each number was met, and how far the threads have come.
 #[derive(Drop)]
@@ -92,7 +90,7 @@ impl Marks {
 
     /// Waits until the other thread has come so far.
     pub(super) fn wait_for(&self, step: u64) -> Result<(), Wrong> {
-        for _ in 0..TURNS {
+        for _ in 0..ENOUGH {
             if self.has_reached(step) {
                 return Ok(());
             }

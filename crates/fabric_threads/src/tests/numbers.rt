@@ -1,12 +1,12 @@
 //! Numbers that threads send and receive through a ring. Each goes in a ticket that is taken from the free ring and
 //! goes back there, as the buffers of a pool do.
-ghost use Rattle.std.specs.Prelude.{◌≡◌, ◌<◌, [], length, IfSome};
+ghost use Rattle.std.specs.Prelude.{◌<◌, length, IfSome};
 ghost use Rattle.fabric.specs.Hands.{IsHandOf, rings_of};
 
 use super::Ticket;
 use super::marks::Marks;
 use super::rings::{FIRST, Items, POOL, Rings};
-use super::tries::{MANY, fetch, pass};
+use super::tries::{ENOUGH, fetch, pass};
 use burst::Burst;
 use fabric::Hand;
 
@@ -36,9 +36,9 @@ pub(super) fn send(f: &Rings, mut hand: Hand<Ticket>, first: u64) -> Option<Hand
     requires rings { 2 < length (rings_of f.now) }
     ensures { IfSome result (λ h. IsHandOf f.now h) }
 {
-    let mut turns = MANY;
+    let mut turns = ENOUGH;
     let mut sent = 0u64;
-    for _ in 0..MANY {
+    for _ in 0..ENOUGH {
         if sent >= EACH {
             return Some(hand);
         }
@@ -85,10 +85,10 @@ pub(super) fn receive(
     requires rings { 2 < length (rings_of f.now) }
     ensures { IfSome result (λ h. IsHandOf f.now h) }
 {
-    let mut turns = MANY;
+    let mut turns = ENOUGH;
     let mut had = 0u64;
     let mut last = (0, EACH);
-    for _ in 0..MANY {
+    for _ in 0..ENOUGH {
         if had >= EACH {
             return Some(hand);
         }

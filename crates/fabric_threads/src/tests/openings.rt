@@ -1,7 +1,7 @@
 //! What makes no fabric and no second hand: each plan and each list of items that is refused, and a hand with one part.
 //! The items come back, in order.
-ghost use Rattle.std.specs.Prelude.{◌<◌, length};
-ghost use Rattle.fabric.specs.Hands.{IsHandOf, rings_of};
+ghost use Rattle.std.specs.Prelude.{◌<◌};
+ghost use Rattle.fabric.specs.Hands.{IsHandOf};
 
 use super::Ticket;
 use super::rings::{Layout, Rings, Wrong, opened};

@@ -8,7 +8,7 @@ use super::marks::Marks;
 use super::rings::{FIRST, Items, MOST, POOL, Rings, SECOND, Wrong, get, give, shows, split};
 use super::spans::{open_put, settled};
 use super::stopped::stop_in_turn;
-use super::tries::{MANY, published};
+use super::tries::{ENOUGH, published};
 use super::ways::{held, peeked};
 use burst::Burst;
 use fabric::{Hand, StartFault};
@@ -50,7 +50,7 @@ fn watch(f: &Rings, mut hand: Hand<Ticket>) -> Result<Hand<Ticket>, Wrong>
     requires rings { 2 < length (rings_of f.now) }
     ensures { IfOk result (λ h. IsHandOf f.now h) }
 {
-    for _ in 0..MANY {
+    for _ in 0..ENOUGH {
         let Err((back, fault)) = f.try_start_put(hand, FIRST, 2, How::Bulk) else {
             return Err(Wrong("there is room for two"));
         };
@@ -144,7 +144,7 @@ fn put_later(
     requires rings { 2 < length (rings_of f.now) }
     ensures { IfOk result (λ h. IsHandOf f.now h) }
 {
-    let mut turns = MANY;
+    let mut turns = ENOUGH;
     let (answer, mut list) = ringapi::try_put_bulk(f, hand, FIRST, list);
     let PutAnswer::Open(span, tail) = answer else {
         return Err(Wrong("a put is done too early"));

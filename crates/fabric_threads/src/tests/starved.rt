@@ -1,8 +1,8 @@
 //! Want of memory at each request alone. `new` makes seven requests and `split` one. All memory is taken, but for
 //! pieces of just the sizes of these requests; the first of them are given back, so that the request behind these is
 //! refused.
-ghost use Rattle.std.specs.Prelude.{◌≡◌, ◌<◌, length, IfOk};
-ghost use Rattle.fabric.specs.Hands.{IsHandOf, rings_of};
+ghost use Rattle.std.specs.Prelude.{◌<◌};
+ghost use Rattle.fabric.specs.Hands.{IsHandOf};
 
 use super::Ticket;
 use super::calls::taken;

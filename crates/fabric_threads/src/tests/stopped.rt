@@ -1,6 +1,6 @@
 //! Three hands stop one after the other, and a fourth one finds nothing. There are six buffers, all on the free ring,
 //! and a ring with room for three items.
-ghost use Rattle.std.specs.Prelude.{◌≡◌, ◌<◌, length, IfOk};
+ghost use Rattle.std.specs.Prelude.{◌<◌, length, IfOk};
 ghost use Rattle.fabric.specs.Hands.{IsHandOf, rings_of};
 
 use super::Ticket;

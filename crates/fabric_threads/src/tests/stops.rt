@@ -5,7 +5,7 @@ ghost use Rattle.fabric.specs.Hands.{IsHandOf, rings_of};
 use super::Ticket;
 use super::marks::Marks;
 use super::rings::{FIRST, Items, POOL, Rings, SECOND, Wrong, split};
-use super::tries::{MANY, fetch, pass};
+use super::tries::{ENOUGH, fetch, pass};
 use super::ways::{cache_of, held, peeked};
 use burst::Burst;
 use fabric::{Hand, PutOpen, SettleFault};
@@ -85,8 +85,8 @@ fn supplied(f: &Rings, mut hand: Hand<Ticket>, n: usize) -> Result<(Hand<Ticket>
     requires rings { 2 < length (rings_of f.now) }
     ensures { IfOk result (λ h. IsHandOf f.now h.0) }
 {
-    let mut turns = MANY;
-    for _ in 0..MANY {
+    let mut turns = ENOUGH;
+    for _ in 0..ENOUGH {
         let mut list = Burst::new();
         hand = fetch(f, hand, POOL, n, &mut list, &mut turns).ok_or(Wrong("an open take"))?;
         if list.len() == n {
@@ -108,7 +108,7 @@ fn reserved<'f>(
     requires hand { IsHandOf f.now hand }
     requires ring { ring < length (rings_of f.now) }
 {
-    for _ in 0..MANY {
+    for _ in 0..ENOUGH {
         match f.try_start_put(hand, ring, 1, How::Bulk) {
             Ok(span) => return Ok(span),
             Err((back, _)) => hand = back,
@@ -145,7 +145,7 @@ fn stop_taking(f: &Rings, mut hand: Hand<Ticket>, ring: usize, marks: &Marks) ->
     requires hand { IsHandOf f.now hand }
     requires ring { ring < length (rings_of f.now) }
 {
-    for _ in 0..MANY {
+    for _ in 0..ENOUGH {
         match f.try_start_take(hand, ring, 2, How::Bulk) {
             Ok(open) => {
                 marks.meet_all(open.items());

@@ -10,7 +10,7 @@ use geom::How;
 use std::thread;
 
 /// Enough turns for any test.
-pub(super) const MANY: u64 = 1 << 40;
+pub(super) const ENOUGH: u64 = 1 << 40;
 
 /// Uses up a turn, where one is left.
 fn has_turn(turns: &mut u64) -> bool {
@@ -34,7 +34,7 @@ fn taken<'f>(
     ensures { IfSome result (λ h. IsHandOf f.now h) }
 {
     let count = span.count();
-    for _ in 0..MANY {
+    for _ in 0..ENOUGH {
         match span.try_settle_into(count, list) {
             Ok(hand) => return Some(hand),
             Err((same, _)) => span = same,
@@ -56,7 +56,7 @@ pub(super) fn published<'f>(
     requires span { put_fabric span ≡ f.now }
     ensures { IfSome result (λ h. IsHandOf f.now h) }
 {
-    for _ in 0..MANY {
+    for _ in 0..ENOUGH {
         match span.try_settle_from(list) {
             Ok(hand) => return Some(hand),
             Err((same, _)) => span = same,
@@ -101,7 +101,7 @@ pub(super) fn pass(
     requires ring { ring < length (rings_of f.now) }
     ensures { IfSome result (λ h. IsHandOf f.now h) }
 {
-    for _ in 0..MANY {
+    for _ in 0..ENOUGH {
         if list.is_empty() || !has_turn(turns) {
             break;
         }

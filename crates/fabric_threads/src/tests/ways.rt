@@ -1,5 +1,5 @@
 //! What a thread does in a turn: it takes ten buffers from a free ring and puts them back.
-ghost use Rattle.std.specs.Prelude.{◌≡◌, ◌<◌, [], length, IfOk};
+ghost use Rattle.std.specs.Prelude.{◌≡◌, ◌<◌, length, IfOk};
 ghost use Rattle.fabric.specs.Hands.{IsHandOf, put_fabric, rings_of, take_fabric};
 ghost use Rattle.pool.specs.Locals.{IsLocalOf};
 ghost use Rattle.ringapi.specs.Puts.{IsPutOf};
@@ -7,6 +7,7 @@ ghost use Rattle.ringapi.specs.Takes.{IsTakeOf};
 
 use super::Ticket;
 use super::rings::{Items, MOST, POOL, Rings, Wrong};
+use super::tries::ENOUGH;
 use burst::Burst;
 use fabric::Hand;
 use geom::{How, Mode, Side};
@@ -23,9 +24,6 @@ const SEEN: usize = 12;
 
 /// The size of a cache. It is less than what a turn gets, so each turn goes to the ring.
 const CACHED: usize = 5;
-
-/// How often a peek is tried again before the test gives up.
-const TRIES: u64 = 1 << 40;
 
 /// The same tickets, each of which was moved once more.
 fn marked(mut list: Items) -> Items {
@@ -104,7 +102,7 @@ pub(super) fn peeked<'f>(
         Mode::Multi => return Err(Wrong("a ring of another mode")),
         Mode::Hts => (),
     }
-    for _ in 0..TRIES {
+    for _ in 0..ENOUGH {
         match ringapi::peek_take(f, hand, ring, n, how) {
             Ok(peek) => return Ok(peek),
             Err((back, _)) => hand = back,
@@ -129,7 +127,7 @@ pub(super) fn held<'f>(
         Mode::Multi => return Err(Wrong("a ring of another mode")),
         Mode::Hts => (),
     }
-    for _ in 0..TRIES {
+    for _ in 0..ENOUGH {
         match ringapi::peek_put(f, hand, ring, n, How::Bulk) {
             Ok(peek) => return Ok(peek),
             Err((back, _)) => hand = back,

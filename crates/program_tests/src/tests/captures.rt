@@ -160,6 +160,17 @@ fn ports<R: Files + AllocGlobal>(rt: &R, name: &str) -> Result<Vec<u8>, Fail> {
     Ok(told)
 }
 
+/// Writes other bytes into the files of the first two ports that are there, so that a run has to tell them anew.
+fn spoil<R: Files + AllocGlobal>(rt: &R, name: &str) -> Result<(), Fail> {
+    for q in 0..2u32 {
+        let file = format!(in rt.alloc(); "{name}.{q}.pcap")?;
+        if fs::read(rt, file.as_str()).is_ok() {
+            fs::write(rt, file.as_str(), "nothing was told")?;
+        }
+    }
+    Ok(())
+}
+
 /// Runs the program over settings and a capture by one thread, and by one and two workers, with the same bytes at each
 /// port and the same report, and takes them away.
 pub fn run_over<R: Abort + Files + AllocGlobal + Threads + Wait + Sync>(
@@ -175,6 +186,7 @@ where
     let one = run_by(rt, name, "0")?;
     let told = ports(rt, name)?;
     for workers in ["1", "2"] {
+        spoil(rt, name)?;
         let ran = run_by(rt, name, workers)?;
         assert_eq!(rt; ran.status, one.status, "{workers}");
         assert!(rt;

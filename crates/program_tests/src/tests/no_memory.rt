@@ -1,10 +1,9 @@
 //! Want of memory, wherever the program meets it, is the one fault line of it.
 
-use super::run_apart;
 use super::starved::Starved;
-use exhaust::take_all;
+use super::{run_apart, words_of};
+use exhaust::{deepen, take_all};
 use program::{out_of_memory, program};
-use std::alloc::{AllocError, Global};
 use std::fs;
 use std::io::{self, ErrorKind, Read, Write};
 use std::process::Abort;
@@ -91,15 +90,6 @@ fn no_memory_for_a_file_or_the_input(rt: HostRuntime) -> Result<(), Fail> {
     Ok(())
 }
 
-/// The words of a command line.
-fn words_of(alloc: Global, words: &[&str]) -> Result<Vec<String>, AllocError> {
-    let mut texts = Vec::new(alloc);
-    for word in words {
-        texts.push(String::from_str(alloc, word)?)?;
-    }
-    Ok(texts)
-}
-
 /// Runs the program, whose status it tells, on sheets that were blank.
 fn go<R: Files + AllocGlobal + Threads + Wait + Sync>(
     rt: &R,
@@ -113,24 +103,6 @@ where
     out.len = 0;
     err.len = 0;
     program(rt, rt, words, b"".as_slice(), out, err)
-}
-
-/// The stack of a program grows as it is used, which it can't do any more where all memory is taken.
-#[inline(never)]
-fn deepen() -> u8 {
-    let mut room = [[0u8; 65_536]; 16];
-    touch(&mut room)
-}
-
-/// Writes to each of these bytes, and gives the last.
-#[inline(never)]
-fn touch(room: &mut [[u8; 65_536]]) -> u8 {
-    let mut last = 0u8;
-    for part in room {
-        part.fill(1);
-        last = part.last().copied().unwrap_or(0);
-    }
-    last
 }
 
 /// What a file has in front of its questions, and the replies to that.

@@ -3,7 +3,7 @@
 use super::captures::*;
 use super::faults::Broken;
 use super::starved::Starved;
-use super::{run, run_apart};
+use super::{run, run_apart, words_of};
 use program::{Fault, program};
 use stages::RunFault;
 use std::alloc::{AllocError, Global};
@@ -178,10 +178,10 @@ fn streams_that_fail(rt: HostRuntime) -> Result<(), Fail> {
         "pktkit_streams_that_fail.pcap",
     );
     lay(&rt, name, TWO_PORTS, &MICRO)?;
-    let mut words = Vec::new(rt.alloc());
-    for word in ["run", "--config", config, "--in", input, "--out", name] {
-        words.push(String::from_str(rt.alloc(), word)?)?;
-    }
+    let words = words_of(
+        rt.alloc(),
+        &["run", "--config", config, "--in", input, "--out", name],
+    )?;
     let mut err = Vec::new(rt.alloc());
     let status = program(
         &rt,
