@@ -215,8 +215,8 @@ const SETTINGS: [OfRun; 19] = [
 ];
 
 /// Settings that a run takes.
-const LAWFUL: File = (
-    "lawful.toml",
+const GOOD: File = (
+    "good.toml",
     b"buffers = 112\nbits = 16\n[[port]]\nmac = \"02:00:00:00:00:10\"\n",
 );
 
@@ -323,7 +323,7 @@ fn settings_and_captures(rt: HostRuntime) -> Result<(), Fail> {
         expect_run(&rt, settings, CAPTURES[0].0, told)?;
     }
     for (capture, told) in CAPTURES {
-        expect_run(&rt, LAWFUL, capture, told)?;
+        expect_run(&rt, GOOD, capture, told)?;
     }
     fs::remove_file(&rt, "pktkit_examples.0.pcap")?;
     Ok(())
