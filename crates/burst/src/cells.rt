@@ -1,6 +1,6 @@
 //! Cells for items, in the value itself: where a burst has its items. An emptied list is empty at the price of a
 //! number, since each cell behind the list holds nothing.
-ghost use Rattle.std.specs.Prelude.{◌≡◌, ◌+◌, ◌-◌, ◌<◌, ◌≤◌, ◌==◌, ◌↔◌, List, [], ◌∷◌, ◌++◌, length, reverse, take, drop};
+ghost use Rattle.std.specs.Prelude.{◌≡◌, ◌+◌, ◌-◌, ◌<◌, ◌≤◌, ◌==◌, List, [], ◌∷◌, ◌++◌, length, reverse, take, drop};
 ghost use Rattle.std.specs.Prelude.{slice_set, slice_index_or, replicate, None, IfNone};
 ghost use Rattle.std.specs.Option.{option_to_list};
 

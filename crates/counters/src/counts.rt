@@ -28,8 +28,8 @@ pub struct Counts {
 }
 
 impl Model for Counts {
-    ghost use Rattle.std.specs.Prelude.{◌≤◌, take};
-    ghost use Rattle.counters.specs.Tally.{Tally, tally_code, IsTally};
+    ghost use Rattle.std.specs.Prelude.{◌≤◌};
+    ghost use Rattle.counters.specs.Tally.{Tally, tally_code};
 
     ghost Value = { Tally };
 

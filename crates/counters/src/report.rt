@@ -1,7 +1,6 @@
 //! The report of a run.
 
-ghost use Rattle.std.specs.Prelude.{◌≡◌, ◌+◌, ◌<◌, ◌≤◌, ◌^◌, ◌++◌, length, OnOk, OnErr, IfOk, codes, decimal};
-ghost use Rattle.counters.specs.Tally.{records_of};
+ghost use Rattle.std.specs.Prelude.{◌≡◌, ◌+◌, ◌<◌, ◌≤◌, ◌++◌, length, OnOk, OnErr, IfOk, codes, decimal};
 ghost use Rattle.counters.specs.Report.{line, port_lines, reason_lines, torn_line, report_lines, report_of};
 
 use crate::counts::Counts;

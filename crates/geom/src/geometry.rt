@@ -3,7 +3,7 @@
 //! A ring has a power of two of slots, so that the slot of a position is a mask and no division. One slot at least
 //! stays empty.
 
-ghost use Rattle.std.specs.Prelude.{◌≡◌, ◌≢◌, ℕ, ◌+◌, ◌-◌, ◌%◌, ◌<◌, ◌≤◌, ◌^◌};
+ghost use Rattle.std.specs.Prelude.{◌≡◌, ◌≢◌, ℕ, ◌+◌, ◌-◌, ◌<◌, ◌^◌};
 ghost use Rattle.std.specs.Int.{IsPowerOfTwo};
 ghost use Rattle.geom.specs.Extent.{IsExtent, slot_of};
 ghost use Rattle.geom.specs.Fault.{number_of};

@@ -1,5 +1,5 @@
 //! The Internet checksum (RFC 1071).
-ghost use Rattle.std.specs.Prelude.{◌≡◌, ◌≤◌, ◌<◌, ◌^◌, ◌%◌, ◌/◌, ◌+◌, ◌*◌, length};
+ghost use Rattle.std.specs.Prelude.{◌≡◌, ◌≤◌, ◌<◌, ◌^◌, ◌%◌, ◌/◌, ◌+◌, length};
 ghost use Rattle.ipv4.specs.Checksum.{ones_complement_sum, reduced};
 
 use crate::fields::word_at;

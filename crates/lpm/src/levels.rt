@@ -1,7 +1,7 @@
 //! The two levels of a table: entries for the first bits of an address (rte_lpm's tbl24), and groups of entries for
 //! what lies deeper (its tbl8). A group's memory is kept when no entry names it any more.
 
-ghost use Rattle.std.specs.Prelude.{◌≡◌, ◌+◌, ◌≤◌, ◌^◌, ◌↔◌, ◌⊎◌, ℕ, [], replicate, IfOk, IsTrue};
+ghost use Rattle.std.specs.Prelude.{◌≡◌, ◌+◌, ◌≤◌, ◌^◌, ◌↔◌, ◌⊎◌, [], replicate, IfOk, IsTrue};
 ghost use Rattle.lpm.specs.TableEntry.{entry_of};
 ghost use Rattle.lpm.specs.TwoLevels.{used_of};
 

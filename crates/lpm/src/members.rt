@@ -1,12 +1,11 @@
 //! The members of a table in a search tree, so that one is found, added or removed without a look at the others.
 
-ghost use Rattle.std.specs.Prelude.{◌≡◌, ℕ, ◌≤◌, ◌<◌, ◌-◌, ◌^◌, OnOk, OnErr, IfErr, IsSome, IfSome, IsTrue, ◌↔◌};
-ghost use Rattle.std.specs.Option.{ForSome};
+ghost use Rattle.std.specs.Prelude.{◌≡◌, ℕ, ◌≤◌, ◌<◌, ◌-◌, OnOk, OnErr, IfErr, IsSome};
 ghost use Rattle.std.specs.FinMap as map;
 ghost use Rattle.std.specs.Bool.{OnTrue, OnFalse};
 ghost use Rattle.std.specs.BTreeMap.Range.{IsLeBy};
 ghost use Rattle.lpm.specs.declared.prefix.Prefix.{Prefix};
-ghost use Rattle.lpm.specs.Prefixes.{AreMembers, IsDepth, first_bits, prefix_cmp, prefix_of};
+ghost use Rattle.lpm.specs.Prefixes.{AreMembers, first_bits, prefix_cmp};
 ghost use Rattle.lpm.specs.Between.{SomeBetween, NoneBetween};
 ghost use Rattle.lpm.specs.Match.{longest};
 ghost use Rattle.lpm.specs.Groups.{has_deeper};

@@ -1,7 +1,7 @@
 //! The route table: its members in a search tree, and the two levels that `lookup` reads. Which calls take no memory is
 //! read in the code and tested: a signature doesn't show it, since the tree and the levels carry their allocator.
 
-ghost use Rattle.std.specs.Prelude.{◌≡◌, ◌<◌, ◌≤◌, ◌^◌, ◌↔◌, ◌⊎◌, ℕ, Some, None, IfOk, IfSome, IfNone, IsSome};
+ghost use Rattle.std.specs.Prelude.{◌≡◌, ◌<◌, ◌^◌, ◌↔◌, ◌⊎◌, ℕ, Some, None, IfOk, IfSome, IfNone, IsSome};
 ghost use Rattle.std.specs.Prelude.{length, map, slice_index, slice_index_or};
 ghost use Rattle.lpm.specs.Prefixes.{size_of};
 ghost use Rattle.lpm.specs.Match.{IsLongestMatch, lookup_in};

@@ -7,7 +7,7 @@ use Rattle.std.proofs.lemmas.List.Elements.{All-append}
 use Rattle.std.proofs.lemmas.List.Sums.{sum_by-append, sum_by-cons}
 use Rattle.burst.specs.Numbers.{times, AreDistinct}
 use Rattle.mbuf.specs.Buffer.{Buffer, size_of, room_of, fresh, rewritten, overwritten}
-use Rattle.mbuf.specs.Chain.{IsChain, numbers_of, bytes_of, fresh_of, space_of, first_bytes, at_segment, part_of, place_of_part}
+use Rattle.mbuf.specs.Chain.{HasSameSegments, IsChain, numbers_of, bytes_of, fresh_of, space_of, first_bytes, at_segment, part_of, place_of_part}
 use Rattle.mbuf.proofs.Copies.{written_past, drop_past}
 
 abbrev IsSmall : Buffer → Type 0
@@ -29,8 +29,8 @@ bytes_few chain is = let few = is.few in omega (arith, length-map chain fresh, b
 pub space_few : (chain : List Buffer) → IsChain (fresh_of chain) → space_of chain ≤ 8388608
 space_few chain is = let few = is.few in omega (arith, length-map chain fresh, space_small chain is.small)
 
--- what keeps the fresh chain keeps the numbers, and that it is a chain
-pub numbers_kept : (old new : List Buffer) → fresh_of new ≡ fresh_of old → numbers_of new ≡ numbers_of old
+-- what keeps the segments keeps the numbers, and that it is a chain
+pub numbers_kept : (old new : List Buffer) → HasSameSegments new old → numbers_of new ≡ numbers_of old
 numbers_kept old new e = of_fresh new ∙ ap numbers_of e ∙ sym (of_fresh old)
   where
     of_fresh : (chain : List Buffer) → numbers_of chain ≡ numbers_of (fresh_of chain)
@@ -41,10 +41,10 @@ pub numbers_fresh : (chain : List Buffer) → numbers_of (fresh_of chain) ≡ nu
 numbers_fresh [] = refl
 numbers_fresh (b ∷ chain) = ap (λ (l : List ℕ). b.number ∷ l) (numbers_fresh chain)
 
-pub chain_kept : (old new : List Buffer) → fresh_of new ≡ fresh_of old → IsChain (fresh_of old) → IsChain (fresh_of new)
+pub chain_kept : (old new : List Buffer) → HasSameSegments new old → IsChain (fresh_of old) → IsChain (fresh_of new)
 chain_kept old new e is = subst IsChain (sym e) is
 
-pub length_kept : (old new : List Buffer) → fresh_of new ≡ fresh_of old → length new ≡ length old
+pub length_kept : (old new : List Buffer) → HasSameSegments new old → length new ≡ length old
 length_kept old new e = sym (length-map new fresh) ∙ ap length e ∙ length-map old fresh
 
 times-append : (b : ℕ) (xs ys : List ℕ) → times b (xs ++ ys) ≡ times b xs + times b ys

@@ -2,7 +2,7 @@
 //! (`ends`), or to the bytes of the packet as a whole (`bytes`, `fill`). As they are written, these calls ask for no
 //! memory. No clause says so, since a collection carries its allocator; a test makes them where every request is
 //! refused.
-ghost use Rattle.std.specs.Prelude.{◌≡◌, ◌+◌, ◌<◌, ◌≤◌, ◌^◌, ◌==◌, ◌∷◌, [], length, map, IfOk};
+ghost use Rattle.std.specs.Prelude.{◌≡◌, ◌<◌, ◌≤◌, ◌^◌, ◌==◌, ◌∷◌, [], length, IfOk};
 ghost use Rattle.mbuf.specs.Buffer.{made};
 ghost use Rattle.mbuf.specs.Chain.{numbers_of, bytes_of, headroom_of, tailroom_of};
 

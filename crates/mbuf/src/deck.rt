@@ -3,7 +3,7 @@
 //! one worker: it has no lock, and its counts are plain numbers. As they are written, `share` and `again` alone ask for
 //! memory, of the allocator that `new` was given. No clause says so of the other calls; a test makes them where every
 //! request is refused.
-ghost use Rattle.std.specs.Prelude.{◌≡◌, ◌+◌, ◌<◌, ◌≤◌, ◌++◌, ℕ, [], ◌∷◌, Some, None, IsNone, IfSome, IfOk, IfErr};
+ghost use Rattle.std.specs.Prelude.{◌≡◌, ◌+◌, ◌<◌, [], Some, IsNone, IfSome, IfOk, IfErr};
 ghost use Rattle.std.specs.Prelude.{OnOk, OnErr};
 ghost use Rattle.std.specs.Result.{result_err};
 ghost use Rattle.mbuf.specs.Chain.{numbers_of, bytes_of, HasSameSegments, filled};

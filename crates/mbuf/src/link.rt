@@ -1,6 +1,6 @@
 //! Segments in a row, each boxed with the link to the next one, as an mbuf holds its `next`. What is asked of the last
 //! segment is passed on from link to link.
-ghost use Rattle.std.specs.Prelude.{◌≡◌, ◌+◌, ◌-◌, ◌<◌, ◌≤◌, ◌++◌, ◌↔◌, [], ◌∷◌, List, length, drop, map};
+ghost use Rattle.std.specs.Prelude.{◌≡◌, ◌+◌, ◌-◌, ◌<◌, ◌≤◌, ◌++◌, ◌↔◌, [], List, length, drop};
 ghost use Rattle.std.specs.Prelude.{IsErrOf, OnOk, OnErr};
 ghost use Rattle.mbuf.specs.Buffer.{prepended, appended, cut_front, cut_back};
 ghost use Rattle.mbuf.specs.Chain.{numbers_of, bytes_of, fresh_of, HasSameSegments, without_last, headroom_of};
@@ -21,7 +21,7 @@ pub struct Link {
 }
 
 impl Model for Link {
-    ghost use Rattle.std.specs.Prelude.{List, ◌∷◌, length};
+    ghost use Rattle.std.specs.Prelude.{List, length};
     ghost use Rattle.mbuf.specs.Buffer.{Buffer};
 
     ghost Value = { Buffer × List Buffer };

@@ -1,5 +1,5 @@
 //! Bytes that are read from a row of segments and written to it, from link to link.
-ghost use Rattle.std.specs.Prelude.{◌≡◌, ◌+◌, ◌-◌, ◌<◌, ◌≤◌, ◌^◌, List, length, take, drop, replicate, slice_index};
+ghost use Rattle.std.specs.Prelude.{◌≡◌, ◌+◌, ◌-◌, ◌<◌, ◌≤◌, ◌^◌, length, take, drop, replicate, slice_index};
 ghost use Rattle.std.specs.Prelude.{slice_set};
 ghost use Rattle.mbuf.specs.Buffer.{room_of, fresh, appended, overwritten};
 ghost use Rattle.mbuf.specs.Chain.{bytes_of, HasSameSegments, space_of, part_of, shape_of, filled};

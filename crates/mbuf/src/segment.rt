@@ -1,8 +1,8 @@
 //! One numbered buffer with the part of a packet that lies in it, and free bytes before and behind: a caller can add
 //! and remove headers in place. It is the only code that moves bytes.
-ghost use Rattle.std.specs.Prelude.{◌≡◌, ◌+◌, ◌-◌, ◌<◌, ◌≤◌, ◌^◌, ◌++◌, ◌↔◌, length, replicate, slice_index, IfOk};
+ghost use Rattle.std.specs.Prelude.{◌≡◌, ◌+◌, ◌-◌, ◌<◌, ◌≤◌, ◌^◌, ◌↔◌, length, replicate, slice_index, IfOk};
 ghost use Rattle.std.specs.Prelude.{IsErrOf, OnOk, OnErr};
-ghost use Rattle.mbuf.specs.Buffer.{size_of, room_of, fresh, made, prepended, appended, cut_front, cut_back};
+ghost use Rattle.mbuf.specs.Buffer.{room_of, fresh, made, prepended, appended, cut_front, cut_back};
 ghost use Rattle.mbuf.specs.Buffer.{with_byte, written, blanked};
 
 use crate::fault::ChainFault;

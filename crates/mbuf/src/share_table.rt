@@ -1,6 +1,6 @@
 //! Where a deck keeps the packets that its shares show. All shares that come of one chain mention the same segments, so
 //! the chain is stored once; it is given back as a whole when no share names it any more.
-ghost use Rattle.std.specs.Prelude.{◌≡◌, ◌+◌, ◌<◌, ◌≤◌, ◌++◌, ℕ, [], ◌∷◌, None, length, map, remove, slice_set, IfNone};
+ghost use Rattle.std.specs.Prelude.{◌≡◌, ◌+◌, ◌<◌, ◌≤◌, ◌++◌, [], ◌∷◌, None, length, map, remove, slice_set, IfNone};
 ghost use Rattle.std.specs.Prelude.{IfSome, IfErr, OnOk, OnErr};
 ghost use Rattle.mbuf.specs.Chain.{numbers_of, bytes_of, HasSameSegments, space_of, singles, filled};
 ghost use Rattle.slab.specs.Slab.{SameValues};

@@ -3,7 +3,7 @@
 //! It takes one step a segment, as a loop would: a way over at most 64 links is two over at most 32, and so on down to
 //! single steps. After a loop or a recursion a proof wouldn't know, once the loan is over, that every other segment
 //! stayed as it was.
-ghost use Rattle.std.specs.Prelude.{◌≡◌, ◌+◌, ◌-◌, ◌<◌, ◌≤◌, length, drop};
+ghost use Rattle.std.specs.Prelude.{◌≡◌, ◌-◌, ◌<◌, ◌≤◌, length, drop};
 ghost use Rattle.mbuf.specs.Chain.{part_of};
 ghost use Rattle.mbuf.specs.Links.{row};
 ghost use Rattle.std.specs.Borrow.{sem};

@@ -8,7 +8,7 @@ use Rattle.pcapio.proofs.Begins.{begins-front, begins-after}
 use Rattle.std.specs.List.{refill, length_refill, fold}
 use Rattle.std.proofs.KnownBytes.{Consumes-trans, Appends-trans}
 use Rattle.mbuf.specs.Buffer.{Buffer, rewritten, blanked, fresh, room_of}
-use Rattle.mbuf.specs.Chain.{bytes_of, shape_of, fresh_of, space_of, part_of, at_segment}
+use Rattle.mbuf.specs.Chain.{HasSameSegments, bytes_of, shape_of, fresh_of, space_of, part_of, at_segment}
 
 refill_same : (xs ws : List ℕ) → length ws ≡ length xs → refill (length xs) xs ws ≡ ws
 refill_same xs ws e = take_at ws (drop (length ws) xs) (length xs) e
@@ -71,7 +71,7 @@ fresh-shape (b ∷ chain) =
     ∷ fresh_of (shape_of chain)) (length-replicate {A = ℕ} (length b.bytes) 0)
     ∙ ap (λ rest. fresh b ∷ rest) (fresh-shape chain)
 
-pub same_fresh : (a b : List Buffer) → shape_of a ≡ shape_of b → fresh_of a ≡ fresh_of b
+pub same_fresh : (a b : List Buffer) → shape_of a ≡ shape_of b → HasSameSegments a b
 same_fresh a b e = sym (fresh-shape a) ∙ ap fresh_of e ∙ fresh-shape b
 
 pub too_short : (a b : Option (List ℕ)) (bs : List ℕ) (n m : ℕ) → Consumes a b bs → IfSome b (λ left. length left < n) → length bs + n ≤ m
@@ -134,5 +134,5 @@ fold-fresh n (b ∷ chain) =
 space-fresh : (chain : List Buffer) → space_of (fresh_of chain) ≡ space_of chain
 space-fresh chain = fold-fresh 0 chain
 
-pub same_space : (a b : List Buffer) → fresh_of a ≡ fresh_of b → space_of a ≡ space_of b
+pub same_space : (a b : List Buffer) → HasSameSegments a b → space_of a ≡ space_of b
 same_space a b e = sym (space-fresh a) ∙ ap space_of e ∙ space-fresh b

@@ -1,5 +1,5 @@
 //! What holds of captures whoever reads or writes them. The functions have no body to run: each carries a law.
-ghost use Rattle.std.specs.Prelude.{◌≡◌, ◌<◌, ℕ, List, [], ◌∷◌, ◌++◌, take, true, false};
+ghost use Rattle.std.specs.Prelude.{◌≡◌, ◌<◌, ℕ, List, [], ◌∷◌, take, true, false};
 ghost use Rattle.std.specs.List.{AllByRecursion};
 ghost use Rattle.pcapio_laws.specs.Capture.{Packet, IsCapture, Case, IsCase, Refused, HasReading, HasOneReading};
 ghost use Rattle.pcapio_laws.specs.Rows.{header_alone, big_header, torn_file, first_packet, nanosecond, empty_file};

@@ -1,5 +1,5 @@
 //! The bulk requests that a cache makes of its free ring.
-ghost use Rattle.std.specs.Prelude.{◌≡◌, ◌+◌, ◌<◌, ◌≤◌, ◌++◌, [], length, take, drop, true, false, IfOk, IfErr};
+ghost use Rattle.std.specs.Prelude.{◌≡◌, ◌+◌, ◌<◌, ◌≤◌, ◌++◌, [], length, take, drop, IfOk, IfErr};
 ghost use Rattle.ringcore_laws.specs.FreeRings.{AreSingle};
 ghost use Rattle.fabric.specs.Hands.{IsHandOf, OnRing, view};
 ghost use Rattle.fabric.specs.Settles.{AreOwnBuffers};

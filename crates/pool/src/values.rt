@@ -1,5 +1,5 @@
 //! Gets and puts with a list by value: each moves all `N` places of it, which the calls that are lent a list don't.
-ghost use Rattle.std.specs.Prelude.{◌≡◌, ◌<◌, ◌≤◌, ◌++◌, length, IfOk};
+ghost use Rattle.std.specs.Prelude.{◌<◌, ◌≤◌, ◌++◌, length, IfOk};
 ghost use Rattle.fabric.specs.Hands.{OnRing};
 ghost use Rattle.fabric.specs.Settles.{AreOwnBuffers};
 ghost use Rattle.pool.specs.Calls.{GetTells, GetsCached, PutBackTells, PutsCached, answer_of, given, handed_back};

@@ -1,5 +1,5 @@
 //! Caches in front of a free ring: the items and rings of these tests, and steps that have to go well.
-ghost use Rattle.std.specs.Prelude.{◌≡◌, ◌<◌, length, IfOk};
+ghost use Rattle.std.specs.Prelude.{◌<◌, length, IfOk};
 ghost use Rattle.fabric.specs.Hands.{IsHandOf, rings_of};
 ghost use Rattle.pool.specs.Locals.{IsLocalOf};
 

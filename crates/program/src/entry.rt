@@ -1,7 +1,7 @@
 //! The whole program, over the words of its command line, a reader and two writers. Files and memory are of one
 //! runtime, threads may be of another.
 
-ghost use Rattle.std.specs.Prelude.{◌≤◌};
+ghost use Rattle.std.specs.Prelude.{◌≡◌, ◌≤◌};
 
 use crate::command_line::{Asked, RunFiles, read_words};
 use crate::fault::Fault;
@@ -47,14 +47,14 @@ where
 
 /// Tells that no memory was had for the words of the command line.
 pub fn out_of_memory<E: Write>(err: &mut E) -> u8
-    ensures { result ≤ 1 }
+    ensures { result ≡ 1 }
 {
     tell(Fault::Memory, err)
 }
 
 /// Tells a fault, as well as `err` takes it.
 fn tell<E: Write>(fault: Fault<'_>, err: &mut E) -> u8
-    ensures { result ≤ 1 }
+    ensures { result ≡ 1 }
 {
     let _ = writeln!(err, "pktkit: {fault}");
     1

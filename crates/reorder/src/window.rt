@@ -1,6 +1,5 @@
 //! The window, and its five calls.
 ghost use Rattle.std.specs.Prelude.{◌≡◌, ◌+◌, ◌<◌, ◌≤◌, ◌↔◌, IsTrue, IfOk, IsOk, OnOk, IfErr, OnErr, IsErrOf, OnSome, IfNone};
-ghost use Rattle.std.specs.Ordering.{nat_cmp};
 ghost use Rattle.std.specs.FinMap as map;
 ghost use Rattle.reorder.specs.Waiting.{empty_window, end_of, with_number, after_next, slid_to, IsFree, IsWindow};
 

@@ -1,9 +1,9 @@
 //! Whole puts.
-ghost use Rattle.std.specs.Prelude.{◌≡◌, ◌<◌, ◌≤◌, [], length, take, drop};
+ghost use Rattle.std.specs.Prelude.{◌<◌, ◌≤◌, [], length, take};
 ghost use Rattle.std.specs.Prelude.{ℕ, List};
 ghost use Rattle.geom.specs.declared.plan.RingPlan.{RingPlan};
 ghost use Rattle.fabric_laws.specs.declared.view.View.{View};
-ghost use Rattle.fabric.specs.Hands.{IsHandOf, OnRing, put_fabric, put_span, put_view, rings_of, view};
+ghost use Rattle.fabric.specs.Hands.{IsHandOf, OnRing, put_span, put_view, rings_of, view};
 ghost use Rattle.fabric.specs.Settles.{AreYours};
 ghost use Rattle.ringapi.specs.Puts.{IsPutOf, IsUnfinishedPut, PutHasTold, PutSettles, PutTells, SettlesPut};
 ghost use Rattle.ringapi.specs.Truths.{IsTruePut};

@@ -1,5 +1,5 @@
 //! Whole calls with a list by value: each moves all `N` places of it, which the calls that are lent a list don't.
-ghost use Rattle.std.specs.Prelude.{◌≡◌, ◌<◌, [], length};
+ghost use Rattle.std.specs.Prelude.{◌<◌, [], length};
 ghost use Rattle.fabric.specs.Hands.{IsHandOf, OnRing, rings_of, view};
 ghost use Rattle.ringapi.specs.Truths.{IsTruePut, IsTrueTake};
 ghost use Rattle.ringapi.specs.Puts.{IsPutOf, IsUnfinishedPut, PutHasTold, PutSettles, PutTells};

@@ -26,8 +26,8 @@ with_actor_of : Place → ℕ → List Place
 with_actor_of x i = if times_with i x == 1 then (if is_cached_at i x then Cached i else Held i) ∷ [] else []
 
 -- all rings from a number on, and all actors
-world_rings : Place → ℕ → ℕ → List Place
-world_rings x r n = flat_map (on_ring_of x) (range_with_len r n)
+rings_from : Place → ℕ → ℕ → List Place
+rings_from x r n = flat_map (on_ring_of x) (range_with_len r n)
 
 actors_from : Place → ℕ → List Actor → List Place
 actors_from x i [] = []
@@ -35,8 +35,8 @@ actors_from x i (a ∷ actors) = with_actor_of x i ++ actors_from x (i + 1) acto
 
 shown_on_rings : (b : ℕ) (x : Place) (parties : List (Party Item)) (r n : ℕ)
     → ((k : ℕ) → k < n → queued_at b parties (r + k) ≡ positions_on (r + k) x)
-    → flat_map (places_on b parties) (range_with_len r n) ≡ world_rings x r n
-unfolding world_rings on_ring_of
+    → flat_map (places_on b parties) (range_with_len r n) ≡ rings_from x r n
+unfolding rings_from on_ring_of
 shown_on_rings b x parties r zero each = refl
 shown_on_rings b x parties r (suc n) each =
     ap (λ v. v ++ flat_map (places_on b parties) (range_with_len (r + 1) n))
@@ -63,22 +63,22 @@ shown_with_actors b x i (a ∷ actors) each =
     (each (suc k) c is)))
 
 -- no ring, and no actor
-no_ring : (x : Place) (r n : ℕ) → ((k : ℕ) → positions_on k x ≡ []) → world_rings x r n ≡ []
-unfolding world_rings on_ring_of
+no_ring : (x : Place) (r n : ℕ) → ((k : ℕ) → positions_on k x ≡ []) → rings_from x r n ≡ []
+unfolding rings_from on_ring_of
 no_ring x r zero none = refl
-no_ring x r (suc n) none = ap (λ v. map (AtRing r) v ++ world_rings x (r + 1) n) (none r) ∙ no_ring x (r + 1) n none
+no_ring x r (suc n) none = ap (λ v. map (AtRing r) v ++ rings_from x (r + 1) n) (none r) ∙ no_ring x (r + 1) n none
 
-one_ring : (s p r n : ℕ) (k : ℕ) → r + k ≡ s → k < n → (rest : List Place) → first_place (world_rings (AtRing s p) r n ++ rest) ≡ AtRing s p
-unfolding world_rings on_ring_of
+one_ring : (s p r n : ℕ) (k : ℕ) → r + k ≡ s → k < n → (rest : List Place) → first_place (rings_from (AtRing s p) r n ++ rest) ≡ AtRing s p
+unfolding rings_from on_ring_of
 one_ring s p r zero k at lt rest = absurd (omega (arith, lt))
 one_ring s p r (suc n) zero at lt rest =
     let same : r ≡ s = omega (arith, at) in
     let t : (s == r) ≡ true = subst (λ (v : ℕ). (s == v) ≡ true) (sym same) (same_test s) in
-    ap (λ b. first_place ((map (AtRing r) (if b then p ∷ [] else []) ++ world_rings (AtRing s p) (r + 1) n) ++ rest)) t
+    ap (λ b. first_place ((map (AtRing r) (if b then p ∷ [] else []) ++ rings_from (AtRing s p) (r + 1) n) ++ rest)) t
     ∙ ap (λ (v : ℕ). AtRing v p) same
 one_ring s p r (suc n) (suc k) at lt rest =
     let t : (s == r) ≡ false = apart_test s r (λ h. absurd (omega (arith, at, ap (λ (v : ℕ). v) h))) in
-    ap (λ b. first_place ((map (AtRing r) (if b then p ∷ [] else []) ++ world_rings (AtRing s p) (r + 1) n) ++ rest)) t
+    ap (λ b. first_place ((map (AtRing r) (if b then p ∷ [] else []) ++ rings_from (AtRing s p) (r + 1) n) ++ rest)) t
     ∙ one_ring s p (r + 1) n k (omega (arith, at)) (omega (arith, lt)) rest
 
 no_actor : (x : Place) (i : ℕ) (actors : List Actor) → ((k : ℕ) → times_with k x ≡ 0) → actors_from x i actors ≡ []
@@ -106,7 +106,7 @@ one_actor x y j i (suc k) (a ∷ actors) at lt one is others =
 
 -- an entry that names a ring or an actor that is there tells the first place
 first_shown : (x : Place) (rings : ℕ) (actors : List Actor) → IsNamed rings (length actors) x
-    → first_place (world_rings x 0 rings ++ actors_from x 0 actors) ≡ x
+    → first_place (rings_from x 0 rings ++ actors_from x 0 actors) ≡ x
 first_shown (AtRing s p) rings actors named = one_ring s p 0 rings s (omega arith) named (actors_from (AtRing s p) 0 actors)
 first_shown (Held j) rings actors named =
     ap (λ v. first_place (v ++ actors_from (Held j) 0 actors)) (no_ring (Held j) 0 rings (λ k. refl))
@@ -124,7 +124,7 @@ pub place_is : (w : World) (h : History) → AgreesWith w h → (b : ℕ) → en
 unfolding queued_at
 place_is w h agree b =
     sym (ap (λ v. first_place (v ++ places_with b 0 actors)) rings
-    ∙ (ap (λ v. first_place (world_rings x 0 (length h.plans) ++ v)) hands ∙ first_shown x (length h.plans) actors named))
+    ∙ (ap (λ v. first_place (rings_from x 0 (length h.plans) ++ v)) hands ∙ first_shown x (length h.plans) actors named))
   where
     actors : List Actor
     actors = actors_of h
@@ -148,7 +148,7 @@ place_is w h agree b =
         ap (λ (v : ℕ). positions_from b v (queue (parties_of actors) r)) (sym it.take.tail)
         ∙ (ap (positions_from b ring.0.take.tail) (sym it.queue) ∙ e.queued r ring.0 ring.1 b)
 
-    rings : flat_map (places_on b (parties_of actors)) (range_with_len 0 (length h.plans)) ≡ world_rings x 0 (length h.plans)
+    rings : flat_map (places_on b (parties_of actors)) (range_with_len 0 (length h.plans)) ≡ rings_from x 0 (length h.plans)
     rings =
         shown_on_rings b x (parties_of actors) 0 (length h.plans)
         (λ k lt. subst (λ (j : ℕ). queued_at b (parties_of actors) j ≡ positions_on j x) (let g : k ≡ 0 + k = omega arith in g) (queued k lt))

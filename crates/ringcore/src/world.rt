@@ -3,7 +3,7 @@
 //! `ringcore_laws`' definition. Nothing searches: a settle reads and writes one slot and one entry for each of its
 //! items and buffers, and the cost of any other step doesn't grow with anything.
 
-ghost use Rattle.std.specs.Prelude.{◌≡◌, ◌∷◌, [], List, ◌<◌, length, vec_len, IsTrue, ◌↔◌, ℕ, Err, IfOk, OnErr};
+ghost use Rattle.std.specs.Prelude.{◌≡◌, ◌∷◌, [], ◌<◌, length, vec_len, IsTrue, ◌↔◌, Err, IfOk, OnErr};
 ghost use Rattle.ringcore_laws.specs.History.{reply_to};
 ghost use Rattle.ringcore_laws.specs.Place.{place};
 ghost use Rattle.ringcore_laws.specs.Runs.{IsPlan};

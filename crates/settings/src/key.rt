@@ -1,6 +1,6 @@
 //! The keys of a settings document, and the values of those that are numbers.
 
-ghost use Rattle.std.specs.Prelude.{◌≡◌, ◌≤◌, IsTrue, IfSome};
+ghost use Rattle.std.specs.Prelude.{◌≡◌, ◌≤◌, IsTrue};
 ghost use Rattle.settings.specs.Keys.{name_of, is_allowed, default_of};
 
 use std::fmt;

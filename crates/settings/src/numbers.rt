@@ -2,7 +2,6 @@
 
 ghost use Rattle.std.specs.Prelude.{◌≡◌, IfOk};
 ghost use Rattle.toml.specs.View.{table_view};
-ghost use Rattle.settings.specs.Faults.{Gives};
 ghost use Rattle.settings.specs.Keys.{Allows};
 ghost use Rattle.settings.specs.Settings.{number_at, numbers_of};
 ghost use Rattle.settings.specs.Allowed.{AreAllowed};

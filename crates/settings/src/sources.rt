@@ -1,6 +1,6 @@
 //! The ports of a document: the array `port`, and the hardware address in each of its tables.
 
-ghost use Rattle.std.specs.Prelude.{◌≡◌, ◌≤◌, map, length, IfOk};
+ghost use Rattle.std.specs.Prelude.{◌≡◌, length, IfOk};
 ghost use Rattle.toml.specs.Data.{get_member};
 ghost use Rattle.toml.specs.View.{table_view};
 ghost use Rattle.settings.specs.Keys.{name_of, IsFrom};

@@ -2,7 +2,7 @@
 ghost use Rattle.std.specs.Prelude.{◌≡◌, ℕ, List, [], ◌∷◌, ◌++◌, true, false};
 ghost use Rattle.counters.specs.Tally.{gathered};
 ghost use Rattle.pcapio_laws.specs.Capture.{Packet};
-ghost use Rattle.pcapio_laws.specs.declared.format.Resolution.TheVariants.{Micro, Nano};
+ghost use Rattle.pcapio_laws.specs.declared.format.Resolution.TheVariants.{Nano};
 ghost use Rattle.stages_laws.specs.Output.{Forwarding, fits, fates, records_at, output_of, tally_of};
 ghost use Rattle.stages_laws.specs.Rows.{by_first, always, packet, packet_of_len, five, whole_output};
 

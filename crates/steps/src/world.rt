@@ -1,6 +1,6 @@
 //! The world of rings and actors: a step that is made, and a buffer that is looked for.
 
-ghost use Rattle.std.specs.Prelude.{◌≡◌, ◌++◌, ℕ, OnOk, codes};
+ghost use Rattle.std.specs.Prelude.{◌≡◌, ◌++◌, OnOk, codes};
 ghost use Rattle.ringcore.specs.Histories.{History, AgreesWith, IsRight, StepExists};
 ghost use Rattle.steps.specs.Replies.{stepped, reply_in, place_in, answer_text, place_text, mode_shown};
 

@@ -1,6 +1,6 @@
 //! The groups: memory for one more, an entry that gets one, and an entry that gives one back.
 
-ghost use Rattle.std.specs.Prelude.{◌≡◌, ◌+◌, ◌≤◌, ◌<◌, ◌^◌, ◌↔◌, ℕ, true, false, if◌then◌else◌, OnOk, OnErr, IfErr};
+ghost use Rattle.std.specs.Prelude.{◌≡◌, ◌+◌, ◌<◌, ◌^◌, ◌↔◌, ℕ, true, false, if◌then◌else◌, OnOk, OnErr, IfErr};
 ghost use Rattle.std.specs.Prelude.{◌⊎◌};
 ghost use Rattle.lpm.specs.TableEntry.{is_group};
 ghost use Rattle.lpm.specs.TwoLevels.{first_at, entry_at, used_of, Grows, Regroups};

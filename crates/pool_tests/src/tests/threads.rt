@@ -1,5 +1,5 @@
 //! Four threads, each with a cache of its own in front of one free ring.
-ghost use Rattle.std.specs.Prelude.{◌≡◌, ◌<◌, length, IfOk, IfSome};
+ghost use Rattle.std.specs.Prelude.{◌<◌, length, IfOk, IfSome};
 ghost use Rattle.fabric.specs.Hands.{IsHandOf, rings_of};
 ghost use Rattle.pool.specs.Locals.{IsLocalOf};
 

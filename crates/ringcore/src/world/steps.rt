@@ -11,7 +11,7 @@ ghost use Rattle.ringcore_laws.specs.History.{Actor, look_reply, room_reply, res
 ghost use Rattle.ringcore.specs.Agree.{WordsAgree};
 ghost use Rattle.ringcore.specs.Changes.{side_words, member_looked, member_asked, member_tried, ring_tried, PutResult, TakeResult};
 ghost use Rattle.ringcore.specs.Entries.{entry, is_cached_at, is_held_at};
-ghost use Rattle.ringcore.specs.Replies.{TailFits, reserve_answer, put_answer, take_answer};
+ghost use Rattle.ringcore.specs.Replies.{TailFits, put_answer, take_answer};
 ghost use Rattle.ringcore.specs.Histories.{IsUnchanged};
 ghost use Rattle.ringcore.specs.Stepping.{BothSet, FoundAt, MemberAt, RingAt, SameCounts, SameMembers, SamePlaces, SamePlans, SameRings, SetMember, SetRing};
 

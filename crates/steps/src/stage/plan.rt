@@ -1,8 +1,7 @@
 //! The plan that the first lines of a steps file name.
 
-ghost use Rattle.std.specs.Prelude.{true, ◌≡◌, ◌+◌, ◌<◌, ◌≤◌, ℕ, min, length, map, vec_len, slice_index, slice_index_or, IfOk, IfSome, OnOk, ◌++◌, Err, None, is_some, IsTrue};
-ghost use Rattle.std.specs.Option.{option_to_list, unwrap_or};
-ghost use Rattle.std.specs.List.{list_all};
+ghost use Rattle.std.specs.Prelude.{true, ◌≡◌, ◌+◌, ◌<◌, ◌≤◌, ℕ, min, length, map, slice_index, slice_index_or, IfOk, IfSome, OnOk, ◌++◌, Err, None, is_some};
+ghost use Rattle.std.specs.Option.{unwrap_or};
 ghost use Rattle.ringcore.specs.Histories.{AgreesWith, IsRight};
 ghost use Rattle.steps.specs.Plans.{IsLawful, AreGivenOnce, IsTable, gifts_of, gifts_to, buffer_count, owners};
 

@@ -1,6 +1,6 @@
 use Rattle.std.proofs.Common.{◌≡◌, List, length}
 use Rattle.std.specs.Io.KnownBytes.{Appends}
-use Rattle.mbuf.specs.Chain.{space_of, fresh_of}
+use Rattle.mbuf.specs.Chain.{space_of, HasSameSegments}
 use Rattle.pcapio_laws.specs.Capture.{Packet}
 use Rattle.pcapio.specs.Copy.{copied_text, Stand}
 use Rattle.pcapio.specs.Counted.{HasNotFailed}
@@ -17,7 +17,7 @@ invariant-loop-count g l = record {
   order : order_of l.reader ≡ order_of l.fn.reader;
   reading : IsReading l.reader;
   well : IsWell l.writer;
-  space : fresh_of l.chain ≡ fresh_of l.fn.chain;
+  space : HasSameSegments l.chain l.fn.chain;
   no_read_failed : HasNotFailed (source_of l.fn.reader) (source_of l.reader);
   no_write_failed : HasNotFailed (sink_of l.fn.writer) (sink_of l.writer);
 }
