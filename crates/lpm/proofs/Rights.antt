@@ -221,66 +221,118 @@ removed_places p q m m' x d c right is_depth change is overwrites =
     overwritten_right p p q m m' x d None c right refl (λ i low fits_i fits. refl) is_depth change
     (λ a e. is ∙ next_shorter m m' x d None change is_depth.0 is_depth.1 a e) overwrites
 
--- a deep member that is there, with its entry's first bits
-module _ (p : TwoLevels) (m : Members) (right : IsRight p m) (x d : ℕ) (is_depth : IsDepth d) (deep : p.bits < d)
-    (there : IsSome (fin_map.get m (prefix_of x d)))
-    (f : ℕ) (at : f ≡ first_bits (masked x d) p.bits) (fits : f < 2 ^ p.bits) where
+-- the entry of a prefix is the one that its first bits name
+pub first_is : (x d : ℕ) {bits f n : ℕ} {k : Prefix} → k ≡ prefix_of x d → bits ≡ n → f ≡ first_bits k.address bits → f ≡ first_bits (masked x d) n
+first_is x d is same at = at ∙ (λ i. first_bits (is i).address (same i))
+
+-- whether another member needs an entry's group, as code finds it
+pub still_needed : (m : Members) (x : ℕ) {bits f n : ℕ} {b : Bool} → bits ≡ n → f ≡ first_bits x bits → b ≡ has_deeper bits m (first_bits x bits)
+    → b ≡ has_deeper n m f
+still_needed m x same at is = is ∙ (λ i. has_deeper (same i) m (sym at i))
+
+-- a deep member is there, and this is its entry
+pub record HasDeep (p : TwoLevels) (m : Members) (x d f : ℕ) : Type 0 where
+  pub right : IsRight p m
+  pub is_depth : IsDepth d
+  pub deep : p.bits < d
+  pub there : IsSome (fin_map.get m (prefix_of x d))
+  pub at : f ≡ first_bits (masked x d) p.bits
+  pub fits : f < 2 ^ p.bits
+
+pub has_deep : {p : TwoLevels} {m : Members} {x d bits f : ℕ} {k : Prefix} → IsRight p m → IsDepth d → p.bits < d → k ≡ prefix_of x d
+    → IsSome (fin_map.get m k) → bits ≡ p.bits → f ≡ first_bits k.address bits → f < 2 ^ bits → HasDeep p m x d f
+has_deep {p} {m} {x} {d} {bits} {f} {k} right is_depth deep is there same at fits = record {
+  right = right;
+  is_depth = is_depth;
+  deep = deep;
+  there = subst (λ k. IsSome (fin_map.get m k)) is there;
+  at = first_is x d is same at;
+  fits = subst (λ n. f < 2 ^ n) same fits;
+}
+
+module _ {p : TwoLevels} {m : Members} {x d f : ℕ} (had : HasDeep p m x d f) where
   needed : has_deeper p.bits m f ≡ true
   needed =
-      let hop = some_hop (fin_map.get m (prefix_of x d)) there in
-      deeper_has p.bits m f (record { prefix = prefix_of x d; hop = hop.0; member = hop.1; deeper = deep; among = sym at })
+      let hop = some_hop (fin_map.get m (prefix_of x d)) had.there in
+      deeper_has p.bits m f (record { prefix = prefix_of x d; hop = hop.0; member = hop.1; deeper = had.deep; among = sym had.at })
 
   pub had_group : is_group (first_at p f) ≡ true
-  had_group = right.grouped f fits ∙ needed
+  had_group = had.right.grouped f had.fits ∙ needed
 
-  module _ (q : TwoLevels) (m' : Members) (change : ChangesAt m m' (prefix_of x d) None) (are : AreMembers m') (keeps : KeepsGroups p q)
-      (entries : EachPlace p (λ i low. entry_at q i low ≡ longest m' (address_at p i low) 32)) where
-    -- where another member needs the group, the table is right
-    pub right_kept : has_deeper p.bits m' f ≡ true → IsRight q m'
-    right_kept still =
-        let here = subst (λ n. has_deeper p.bits m' n ≡ true) at still in
-        let count = ap fin_set.len (firsts_with p.bits m m' (prefix_of x d) None change here)
-        ∙ fin_set.len-insert nat_cmp_total (deeper_firsts p.bits m) (first_bits (masked x d) p.bits)
-        ∙ ap (λ n. cond (has_deeper p.bits m n) (groups_of p.bits m) (groups_of p.bits m + 1)) (sym at)
-        ∙ ap (λ b. cond b (groups_of p.bits m) (groups_of p.bits m + 1)) needed in
-        right_for p q m m' right keeps.bits keeps.limit are entries
-        (λ i fits_i. keeps.kinds i ∙ right.grouped i fits_i ∙ elim (cases_eq i f) [
-          | inl same ↦ subst (λ n. has_deeper p.bits m n ≡ has_deeper p.bits m' n) (sym same) (needed ∙ sym still)
-          | inr other ↦ sym (has_deeper_other p.bits m m' (prefix_of x d) None change i (λ e. other (e ∙ sym at)))
+-- the member is removed, and its places say what is left
+pub record LosesDeep (p q : TwoLevels) (m m' : Members) (x d f : ℕ) : Type 0 where
+  pub had : HasDeep p m x d f
+  pub change : ChangesAt m m' (prefix_of x d) None
+  pub are : AreMembers m'
+  pub keeps : KeepsGroups p q
+  pub entries : EachPlace p (λ i low. entry_at q i low ≡ longest m' (address_at p i low) 32)
+
+pub loses_deep : {p q : TwoLevels} {m m' : Members} {x d f : ℕ} {k : Prefix} {c : TableEntry} → HasDeep p m x d f → k ≡ prefix_of x d
+    → m' ≡ fin_map.remove m k → c ≡ longest m' x (d - 1) → KeepsGroups p q → Overwrites p q k c → LosesDeep p q m m' x d f
+loses_deep {p} {q} {m} {m'} {x} {d} {f} {k} {c} had is after next keeps overwrites =
+    let change : ChangesAt m m' (prefix_of x d) None =
+    subst (λ n. ChangesAt m n (prefix_of x d) None) (sym (after ∙ ap (fin_map.remove m) is)) (removes m (prefix_of x d)) in
+    record {
+      had = had;
+      change = change;
+      are = subst AreMembers (sym after) (members_without m k had.right.members);
+      keeps = keeps;
+      entries = removed_places p q m m' x d c had.right had.is_depth change next (subst (λ k. Overwrites p q k c) is overwrites);
+    }
+
+module _ {p q : TwoLevels} {m m' : Members} {x d f : ℕ} (loses : LosesDeep p q m m' x d f) where
+  -- where another member needs the group, the table is right
+  pub right_kept : has_deeper p.bits m' f ≡ true → IsRight q m'
+  right_kept still =
+      let right = loses.had.right in
+      let at = loses.had.at in
+      let keeps = loses.keeps in
+      let here = subst (λ n. has_deeper p.bits m' n ≡ true) at still in
+      let count = ap fin_set.len (firsts_with p.bits m m' (prefix_of x d) None loses.change here)
+      ∙ fin_set.len-insert nat_cmp_total (deeper_firsts p.bits m) (first_bits (masked x d) p.bits)
+      ∙ ap (λ n. cond (has_deeper p.bits m n) (groups_of p.bits m) (groups_of p.bits m + 1)) (sym at)
+      ∙ ap (λ b. cond b (groups_of p.bits m) (groups_of p.bits m + 1)) (needed loses.had) in
+      right_for p q m m' right keeps.bits keeps.limit loses.are loses.entries
+      (λ i fits_i. keeps.kinds i ∙ right.grouped i fits_i ∙ elim (cases_eq i f) [
+        | inl same ↦ subst (λ n. has_deeper p.bits m n ≡ has_deeper p.bits m' n) (sym same) (needed loses.had ∙ sym still)
+        | inr other ↦ sym (has_deeper_other p.bits m m' (prefix_of x d) None loses.change i (λ e. other (e ∙ sym at)))
+      ])
+      (keeps.used ∙ right.used ∙ sym count) (omega (arith, keeps.used, right.within))
+
+  module _ (none : has_deeper p.bits m' f ≡ false) where
+    same_match : (low : ℕ) → low < size_of p.bits → entry_at q f low ≡ longest m' (address_at p f 0) p.bits
+    same_match low place =
+        let first : first_bits (address_at p f low) p.bits ≡ f = first_bits-place p.bits f low place in
+        let first_0 : first_bits (address_at p f 0) p.bits ≡ f = first_bits-place p.bits f 0 (size_pos p.bits) in
+        let within = loses.had.right.most in
+        loses.entries f low loses.had.fits place
+        ∙ longest-shallow m' (address_at p f low) p.bits 32 (ap (has_deeper p.bits m') first ∙ none) (omega arith) (omega arith)
+        ∙ longest-shared m' (address_at p f low) (address_at p f 0) p.bits (first ∙ sym first_0) (omega arith)
+
+    -- else its places say the same, so that the entry can
+    pub closes_alike : (low : ℕ) → low < size_of q.bits → entry_at q f low ≡ entry_at q f 0
+    closes_alike low place = same_match low (subst (λ n. low < size_of n) loses.keeps.bits place) ∙ sym (same_match 0 (size_pos p.bits))
+
+    pub closes_plain : is_group (entry_at q f 0) ≡ false
+    closes_plain = let within = loses.had.right.most in ap is_group (same_match 0 (size_pos p.bits))
+        ∙ longest_plain m' (address_at p f 0) p.bits (omega arith)
+
+    pub right_closed : (r : TwoLevels) → Regroups q r f false → used_of r + 1 ≡ used_of q → IsRight r m'
+    right_closed r closes used =
+        let right = loses.had.right in
+        let at = loses.had.at in
+        let keeps = loses.keeps in
+        let here = subst (λ n. has_deeper p.bits m' n ≡ false) at none in
+        let count = ap fin_set.len (firsts_without p.bits m m' (prefix_of x d) None loses.change here)
+        ∙ fin_set.len-remove nat_cmp_total (deeper_firsts p.bits m) (first_bits (masked x d) p.bits)
+        ∙ ap (λ n. cond (has_deeper p.bits m n) (groups_of p.bits m - 1) (groups_of p.bits m)) (sym at)
+        ∙ ap (λ b. cond b (groups_of p.bits m - 1) (groups_of p.bits m)) (needed loses.had) in
+        right_for p r m m' right (closes.bits ∙ keeps.bits) (closes.limit ∙ keeps.limit) loses.are
+        (λ i low fits_i fits_low. closes.entries i low (subst (λ n. i < 2 ^ n) (sym keeps.bits) fits_i)
+        (subst (λ n. low < size_of n) (sym keeps.bits) fits_low) ∙ loses.entries i low fits_i fits_low)
+        (λ i fits_i. elim (cases_eq i f) [
+          | inl same ↦ subst (λ n. is_group (first_at r n) ≡ has_deeper p.bits m' n) (sym same) (closes.here ∙ sym none)
+          | inr other ↦ closes.others i other ∙ keeps.kinds i ∙ right.grouped i fits_i
+              ∙ sym (has_deeper_other p.bits m m' (prefix_of x d) None loses.change i (λ e. other (e ∙ sym at)))
         ])
-        (keeps.used ∙ right.used ∙ sym count) (omega (arith, keeps.used, right.within))
-
-    module _ (none : has_deeper p.bits m' f ≡ false) where
-      same_match : (low : ℕ) → low < size_of p.bits → entry_at q f low ≡ longest m' (address_at p f 0) p.bits
-      same_match low place =
-          let first : first_bits (address_at p f low) p.bits ≡ f = first_bits-place p.bits f low place in
-          let first_0 : first_bits (address_at p f 0) p.bits ≡ f = first_bits-place p.bits f 0 (size_pos p.bits) in
-          let within = right.most in
-          entries f low fits place
-          ∙ longest-shallow m' (address_at p f low) p.bits 32 (ap (has_deeper p.bits m') first ∙ none) (omega arith) (omega arith)
-          ∙ longest-shared m' (address_at p f low) (address_at p f 0) p.bits (first ∙ sym first_0) (omega arith)
-
-      -- else its places say the same, so that the entry can
-      pub closes_alike : (low : ℕ) → low < size_of q.bits → entry_at q f low ≡ entry_at q f 0
-      closes_alike low place = same_match low (subst (λ n. low < size_of n) keeps.bits place) ∙ sym (same_match 0 (size_pos p.bits))
-
-      pub closes_plain : is_group (entry_at q f 0) ≡ false
-      closes_plain = let within = right.most in ap is_group (same_match 0 (size_pos p.bits))
-          ∙ longest_plain m' (address_at p f 0) p.bits (omega arith)
-
-      pub right_closed : (r : TwoLevels) → Regroups q r f false → used_of r + 1 ≡ used_of q → IsRight r m'
-      right_closed r closes used =
-          let here = subst (λ n. has_deeper p.bits m' n ≡ false) at none in
-          let count = ap fin_set.len (firsts_without p.bits m m' (prefix_of x d) None change here)
-          ∙ fin_set.len-remove nat_cmp_total (deeper_firsts p.bits m) (first_bits (masked x d) p.bits)
-          ∙ ap (λ n. cond (has_deeper p.bits m n) (groups_of p.bits m - 1) (groups_of p.bits m)) (sym at)
-          ∙ ap (λ b. cond b (groups_of p.bits m - 1) (groups_of p.bits m)) needed in
-          right_for p r m m' right (closes.bits ∙ keeps.bits) (closes.limit ∙ keeps.limit) are
-          (λ i low fits_i fits_low. closes.entries i low (subst (λ n. i < 2 ^ n) (sym keeps.bits) fits_i)
-          (subst (λ n. low < size_of n) (sym keeps.bits) fits_low) ∙ entries i low fits_i fits_low)
-          (λ i fits_i. elim (cases_eq i f) [
-            | inl same ↦ subst (λ n. is_group (first_at r n) ≡ has_deeper p.bits m' n) (sym same) (closes.here ∙ sym none)
-            | inr other ↦ closes.others i other ∙ keeps.kinds i ∙ right.grouped i fits_i
-                ∙ sym (has_deeper_other p.bits m m' (prefix_of x d) None change i (λ e. other (e ∙ sym at)))
-          ])
-          (omega (arith, keeps.used, right.used)) (omega (arith, keeps.used, right.within))
+        (omega (arith, keeps.used, right.used)) (omega (arith, keeps.used, right.within))

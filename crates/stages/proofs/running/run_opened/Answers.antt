@@ -12,7 +12,9 @@ use Rattle.stages.proofs.running.run_opened.Goals as goal
 pub returns-in-Err-clause-begun : goal.returns-in-Err-clause-begun
 returns-in-Err-clause-begun g c all known =
     untold g.W.Write.contents g.J.Run.before g.J.Run.resolution all c.into_devices-devices.result.items
-    (ap (map (told g.W.Write.contents)) (c.into_devices-devices.ensures ∙ ap (λ o. devices_of o.writers.items) c.in-Err.ensures.refused) ∙ c.requires.outputs.before)
+    (ap (map (told g.W.Write.contents))
+    (c.into_devices-devices.ensures ∙ ap (λ o. devices_of o.writers.items) c.in-Err.ensures.refused)
+    ∙ c.requires.outputs.before)
 
 pub pass_all-stamped-requires-clause-vacant : goal.pass_all-stamped-requires-clause-vacant
 pass_all-stamped-requires-clause-vacant g c =

@@ -9,7 +9,9 @@ use Rattle.stages.proofs.threads.run_started.Goals as goal
 pub returns-in-Err-clause-begun : goal.returns-in-Err-clause-begun
 returns-in-Err-clause-begun g c all known =
     untold g.W.Write.contents g.J.Run.before g.J.Run.resolution all c.into_devices-devices.result.items
-    (ap (map (told g.W.Write.contents)) (c.into_devices-devices.ensures ∙ ap (λ o. devices_of o.writers.items) c.in-Err.ensures.refused) ∙ c.requires.outputs.before)
+    (ap (map (told g.W.Write.contents))
+    (c.into_devices-devices.ensures ∙ ap (λ o. devices_of o.writers.items) c.in-Err.ensures.refused)
+    ∙ c.requires.outputs.before)
 
 pub returns-clause-why : goal.returns-clause-why
 returns-clause-why g c =

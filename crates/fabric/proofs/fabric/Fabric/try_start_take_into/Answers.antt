@@ -103,8 +103,8 @@ returns-clause-started g c =
       items ∙ sym (ap (λ z. z.shown) is),
       λ plan' there.
           subst
-          (λ (z : RingPlan × List g.row.T.Denot × View g.row.T.Denot). Starts g.T.Tagged.numbers c.args.how c.args.n c.args.ring Take z.0 v place.start place.count place.left z.1
-          z.2)
+          (λ (z : RingPlan × List g.row.T.Denot × View g.row.T.Denot).
+          Starts g.T.Tagged.numbers c.args.how c.args.n c.args.ring Take z.0 v place.start place.count place.left z.1 z.2)
           (λ i. (same_ring f.plan.rings.items c.args.ring plan plan' at.0 there i, sym items i, sym is i)) h.starts,
     )
 

@@ -1,18 +1,16 @@
-use Rattle.std.proofs.Common.{◌≡◌, ◌<◌, sym, ap, ◌∙◌, subst}
+use Rattle.std.proofs.Common.{◌<◌, sym, subst}
 use Rattle.std.proofs.lemmas.Result.{err_from_is_err_and}
-use Rattle.lpm.specs.declared.prefix.Prefix.{Prefix}
-use Rattle.lpm.specs.Prefixes.{prefix_of, first_bits, masked}
+use Rattle.lpm.specs.Prefixes.{prefix_of}
 use Rattle.lpm.specs.Routes.{Routes, NeedsTooMany}
 use Rattle.lpm.specs.contracts.table.Table.{the_view}
 use Rattle.lpm.proofs.Masks.{masked-masked}
-use Rattle.lpm.proofs.Rights.{deep_needs, deep_added, inserts, members_with}
+use Rattle.lpm.proofs.Rights.{deep_needs, deep_added, first_is, inserts, members_with}
 use Rattle.lpm.proofs.table.Table.add_deep.Goals as goal
 
 pub returns-in_err-reserve_group-clause-no_group : goal.returns-in_err-reserve_group-clause-no_group
 returns-in_err-reserve_group-clause-no_group c =
     let deep = subst (λ (t : Routes). t.bits < c.args.depth) (sym c.self.view_is) c.requires.deep in
-    let at = c.first_of-first.ensures.value ∙ ap (λ (k : Prefix). first_bits k.address c.bits.result) c.of-prefix.ensures
-    ∙ ap (first_bits (masked c.args.addr c.args.depth)) c.bits.ensures.value in
+    let at = first_is c.args.addr c.args.depth c.of-prefix.ensures c.bits.ensures.value c.first_of-first.ensures.value in
     let fits = rw c.bits.ensures.value at c.first_of-first.ensures.below in
     let needs = deep_needs c.self.inside.levels c.self.inside.members _ c.args.addr c.args.depth c.args.hop _ c.self.invariant
     (inserts _ _ c.args.hop) deep at fits in
@@ -29,8 +27,7 @@ returns-in_err-reserve_group-clause-no_group c =
 pub returns-in_err-insert-clause-no_group : goal.returns-in_err-insert-clause-no_group
 returns-in_err-insert-clause-no_group c =
     let deep = subst (λ (t : Routes). t.bits < c.args.depth) (sym c.self.view_is) c.requires.deep in
-    let at = c.first_of-first.ensures.value ∙ ap (λ (k : Prefix). first_bits k.address c.bits.result) c.of-prefix.ensures
-    ∙ ap (first_bits (masked c.args.addr c.args.depth)) c.bits.ensures.value in
+    let at = first_is c.args.addr c.args.depth c.of-prefix.ensures c.bits.ensures.value c.first_of-first.ensures.value in
     let fits = rw c.bits.ensures.value at c.first_of-first.ensures.below in
     let needs = deep_needs c.self.inside.levels c.self.inside.members _ c.args.addr c.args.depth c.args.hop _ c.self.invariant
     (inserts _ _ c.args.hop) deep at fits in
@@ -50,9 +47,7 @@ invariant_of-self-2 c =
     let p = c.self.inside.levels in
     let m = c.self.inside.members in
     let deep = subst (λ (t : Routes). t.bits < c.args.depth) (sym c.self.view_is) c.requires.deep in
-    let at : c.first_of-first.result ≡ first_bits (masked c.args.addr c.args.depth) p.bits =
-    c.first_of-first.ensures.value ∙ ap (λ (k : Prefix). first_bits k.address c.bits.result) c.of-prefix.ensures
-    ∙ ap (first_bits (masked c.args.addr c.args.depth)) c.bits.ensures.value in
+    let at = first_is c.args.addr c.args.depth c.of-prefix.ensures c.bits.ensures.value c.first_of-first.ensures.value in
     let fits = rw c.bits.ensures.value at c.first_of-first.ensures.below in
     let change = inserts m (prefix_of c.args.addr c.args.depth) c.args.hop in
     let are = members_with m c.args.addr c.args.depth c.args.hop c.self.invariant.members c.requires.depth c.ranges.addr.fits
@@ -68,8 +63,7 @@ invariant_of-self-2 c =
 pub returns-clause-no_group : goal.returns-clause-no_group
 returns-clause-no_group c =
     let deep = subst (λ (t : Routes). t.bits < c.args.depth) (sym c.self.view_is) c.requires.deep in
-    let at = c.first_of-first.ensures.value ∙ ap (λ (k : Prefix). first_bits k.address c.bits.result) c.of-prefix.ensures
-    ∙ ap (first_bits (masked c.args.addr c.args.depth)) c.bits.ensures.value in
+    let at = first_is c.args.addr c.args.depth c.of-prefix.ensures c.bits.ensures.value c.first_of-first.ensures.value in
     let fits = rw c.bits.ensures.value at c.first_of-first.ensures.below in
     let needs = deep_needs c.self.inside.levels c.self.inside.members _ c.args.addr c.args.depth c.args.hop _ c.self.invariant
     (inserts _ _ c.args.hop) deep at fits in
