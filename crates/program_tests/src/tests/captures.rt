@@ -123,7 +123,7 @@ where
 }
 
 /// Runs the program by so many workers over the settings and the capture of this name.
-fn run_by<R: Files + AllocGlobal + Threads + Wait + Sync>(
+pub fn run_by<R: Files + AllocGlobal + Threads + Wait + Sync>(
     rt: &R,
     name: &str,
     workers: &str,
@@ -160,13 +160,11 @@ fn ports<R: Files + AllocGlobal>(rt: &R, name: &str) -> Result<Vec<u8>, Fail> {
     Ok(told)
 }
 
-/// Writes other bytes into the files of the first two ports that are there, so that a run has to tell them anew.
-fn spoil<R: Files + AllocGlobal>(rt: &R, name: &str) -> Result<(), Fail> {
-    for q in 0..2u32 {
-        let file = format!(in rt.alloc(); "{name}.{q}.pcap")?;
-        if fs::read(rt, file.as_str()).is_ok() {
-            fs::write(rt, file.as_str(), "nothing was told")?;
-        }
+/// Writes other bytes into the file of a port that is there, so that a run has to tell it anew.
+fn spoil<R: Files + AllocGlobal>(rt: &R, name: &str, q: u32) -> Result<(), Fail> {
+    let file = format!(in rt.alloc(); "{name}.{q}.pcap")?;
+    if let Ok(_) = fs::read(rt, file.as_str()) {
+        fs::write(rt, file.as_str(), "nothing was told")?;
     }
     Ok(())
 }
@@ -186,7 +184,8 @@ where
     let one = run_by(rt, name, "0")?;
     let told = ports(rt, name)?;
     for workers in ["1", "2"] {
-        spoil(rt, name)?;
+        spoil(rt, name, 0)?;
+        spoil(rt, name, 1)?;
         let ran = run_by(rt, name, workers)?;
         assert_eq!(rt; ran.status, one.status, "{workers}");
         assert!(rt;

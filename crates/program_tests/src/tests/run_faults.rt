@@ -3,7 +3,7 @@
 use super::captures::*;
 use super::faults::Broken;
 use super::starved::Starved;
-use super::{run, run_apart, words_of};
+use super::{run_apart, words_of};
 use program::{Fault, program};
 use stages::RunFault;
 use std::alloc::{AllocError, Global};
@@ -26,32 +26,41 @@ fn settings(alloc: Global, numbers: &str, port: &str, prefix: &str) -> Result<St
     )
 }
 
+/// Tests that a run by these settings is refused, before the capture is looked for.
+fn expect_refused<R: Abort + Files + AllocGlobal + Threads + Wait + Sync>(
+    rt: &R,
+    name: &str,
+    settings: &str,
+    told: &str,
+) -> Result<(), Fail>
+where
+    R::File: Send,
+{
+    let config = format!(in rt.alloc(); "{name}.toml")?;
+    fs::write(rt, config.as_str(), settings)?;
+    let ran = run_laid(rt, name)?;
+    let line = format!(in rt.alloc(); "pktkit: settings {told}\n")?;
+    is_at_fault(rt, &ran, line.as_str());
+    Ok(())
+}
+
 #[test]
 fn settings_that_are_refused(rt: HostRuntime) -> Result<(), Fail> {
     let name = "pktkit_settings_that_are_refused";
-    let config = format!(in rt.alloc(); "{name}.toml")?;
-    let old = format!(in rt.alloc(); "{name}.0.pcap")?;
-    fs::write(&rt, old.as_str(), OLD)?;
+    let old = "pktkit_settings_that_are_refused.0.pcap";
+    fs::write(&rt, old, OLD)?;
     let faults = [
-        ("buffers = 111", "port", "10.0.0.0/8", "TooFewBuffers"),
-        (
-            "buffers = 112\nroom = 63",
-            "port",
-            "10.0.0.0/8",
-            "BadValue room",
-        ),
-        ("buffers = 112", "port", "10.0.0.0/08", "BadRoute 0"),
-        ("buffers = 112", "ports", "10.0.0.0/8", "Missing port"),
-        ("buffers 112", "port", "10.0.0.0/8", "NotToml"),
+        ("buffers = 111", "port", "TooFewBuffers"),
+        ("buffers = 112\nroom = 63", "port", "BadValue room"),
+        ("buffers = 112", "ports", "Missing port"),
+        ("buffers 112", "port", "NotToml"),
     ];
-    for (numbers, port, prefix, told) in faults {
-        let text = settings(rt.alloc(), numbers, port, prefix)?;
-        fs::write(&rt, config.as_str(), text.as_str())?;
-        // The settings are read before the capture is looked for.
-        let ran = run_laid(&rt, name)?;
-        let line = format!(in rt.alloc(); "pktkit: settings {told}\n")?;
-        is_at_fault(&rt, &ran, line.as_str());
+    for (numbers, port, told) in faults {
+        let text = settings(rt.alloc(), numbers, port, "10.0.0.0/8")?;
+        expect_refused(&rt, name, text.as_str(), told)?;
     }
+    let text = settings(rt.alloc(), "buffers = 112", "port", "10.0.0.0/08")?;
+    expect_refused(&rt, name, text.as_str(), "BadRoute 0")?;
     assert_eq!(rt; port(&rt, name, 0)?.as_slice(), OLD);
     // These are the least buffers that suffice.
     let text = settings(rt.alloc(), "buffers = 112", "port", "10.0.0.0/8")?;
@@ -170,6 +179,20 @@ fn devices_that_fail(rt: HostRuntime) -> Result<(), Fail> {
     take_away(&rt, name)
 }
 
+/// Tests that each of the first two ports was told the file header alone.
+fn expect_headers<R: Abort + Files + AllocGlobal + Threads + Wait + Sync>(
+    rt: &R,
+    name: &str,
+) -> Result<(), Fail>
+where
+    R::File: Send,
+{
+    for q in 0..2 {
+        assert_eq!(rt; port(rt, name, q)?.as_slice(), MICRO.as_slice());
+    }
+    Ok(())
+}
+
 #[test]
 fn streams_that_fail(rt: HostRuntime) -> Result<(), Fail> {
     let name = "pktkit_streams_that_fail";
@@ -182,35 +205,18 @@ fn streams_that_fail(rt: HostRuntime) -> Result<(), Fail> {
         rt.alloc(),
         &["run", "--config", config, "--in", input, "--out", name],
     )?;
+    let words = words.as_slice();
     let mut err = Vec::new(rt.alloc());
-    let status = program(
-        &rt,
-        &rt,
-        words.as_slice(),
-        b"".as_slice(),
-        &mut Broken,
-        &mut err,
-    );
+    let status = program(&rt, &rt, words, b"".as_slice(), &mut Broken, &mut err);
     assert_eq!(rt;
         (status, std::str::from_utf8(err.as_slice()).ok()),
         (1, Some("pktkit: output\n"))
     );
-    for q in 0..2 {
-        assert_eq!(rt; port(&rt, name, q)?.as_slice(), MICRO.as_slice());
-    }
+    expect_headers(&rt, name)?;
     let mut out = Vec::new(rt.alloc());
-    let status = program(
-        &rt,
-        &rt,
-        words.as_slice(),
-        b"".as_slice(),
-        &mut out,
-        &mut Broken,
-    );
+    let status = program(&rt, &rt, words, b"".as_slice(), &mut out, &mut Broken);
     assert_eq!(rt; (status, out.is_empty()), (0, false));
-    for q in 0..2 {
-        assert_eq!(rt; port(&rt, name, q)?.as_slice(), MICRO.as_slice());
-    }
+    expect_headers(&rt, name)?;
     take_away(&rt, name)
 }
 
@@ -255,45 +261,17 @@ fn the_lines_of_faults(rt: HostRuntime) -> Result<(), Fail> {
 #[test]
 fn numbers_of_workers(rt: HostRuntime) -> Result<(), Fail> {
     let name = "pktkit_numbers_of_workers";
-    let (config, input) = (
-        "pktkit_numbers_of_workers.toml",
-        "pktkit_numbers_of_workers.pcap",
-    );
     let old = "pktkit_numbers_of_workers.0.pcap";
     lay(&rt, name, TWO_PORTS, &MICRO)?;
     fs::write(&rt, old, OLD)?;
     for workers in ["17", "-1", "", "none"] {
-        let words = [
-            "run",
-            "--workers",
-            workers,
-            "--config",
-            config,
-            "--in",
-            input,
-            "--out",
-            name,
-        ];
-        let ran = run(&rt, &words, b"")?;
+        let ran = run_by(&rt, name, workers)?;
         assert_eq!(rt; (ran.status, ran.out.len()), (2, 0), "{workers}");
         assert!(rt; ran.err.len() > 0);
     }
     assert_eq!(rt; fs::read(&rt, old)?.as_slice(), OLD);
-    let words = [
-        "run",
-        "--workers",
-        "0",
-        "--config",
-        config,
-        "--in",
-        input,
-        "--out",
-        name,
-    ];
-    let ran = run(&rt, &words, b"")?;
+    let ran = run_by(&rt, name, "0")?;
     assert_eq!(rt; (ran.status, ran.err.len()), (0, 0));
-    for q in 0..2 {
-        assert_eq!(rt; port(&rt, name, q)?.as_slice(), MICRO.as_slice());
-    }
+    expect_headers(&rt, name)?;
     take_away(&rt, name)
 }
