@@ -3,7 +3,7 @@ use crate::example::told_and_done;
 use crate::{Hop, Ports, Reason, Verdict, sum16};
 use lpm::{RouteFault, Table};
 use mbuf::{Chain, make};
-use std::alloc::Global;
+use std::alloc::{AllocError, Global};
 use std::process::Abort;
 use std::test::Fail;
 
@@ -38,20 +38,25 @@ const TAGGED: Verdict = Verdict::Send {
 /// Routes and one port: 10.0.0.0/8 leads out of it, 11.0.0.0/8 to a hop without an entry, 12.0.0.0/8 to one whose port
 /// has no source.
 fn network(alloc: Global) -> Result<(Table, Ports), Fail> {
+    let ports = ports(alloc)?;
     let mut table = Table::new(alloc, 16, 1)?;
-    add(&mut table, 0x0a00_0000, 1)?;
-    add(&mut table, 0x0b00_0000, 2)?;
-    add(&mut table, 0x0c00_0000, 0)?;
-    let ports = Ports {
-        sources: Vec::from_slice(alloc, &[FROM])?,
-        hops: Vec::from_slice(alloc, &[Hop { port: 1, to: TO }, Hop { port: 0, to: TO }])?,
-    };
+    add_routes(&mut table)?;
     Ok((table, ports))
 }
 
-/// Adds a route of depth 8.
-fn add(table: &mut Table, addr: u32, hop: u32) -> Result<(), RouteFault> {
-    table.add(addr, 8, hop)
+/// One port, and two hops: one whose port has no source, and one to the neighbour.
+fn ports(alloc: Global) -> Result<Ports, AllocError> {
+    let hops = Vec::from_array(alloc, [Hop { port: 1, to: TO }, Hop { port: 0, to: TO }])?;
+    let sources = Vec::from_array(alloc, [FROM])?;
+    Ok(Ports { sources, hops })
+}
+
+/// Adds the three routes, each of depth 8.
+fn add_routes(table: &mut Table) -> Result<(), RouteFault> {
+    for (addr, hop) in [(0x0a00_0000, 1), (0x0b00_0000, 2), (0x0c00_0000, 0)] {
+        table.add(addr, 8, hop)?;
+    }
+    Ok(())
 }
 
 /// A frame between two other addresses, with this type and what follows it.
@@ -95,28 +100,54 @@ fn with(place: usize, byte: u8) -> [u8; 20] {
     header
 }
 
+/// Tests that the right header behind this type is sent, with this verdict.
+fn expect_sent(
+    rt: &impl Abort,
+    alloc: Global,
+    network: &(Table, Ports),
+    types: &[u8],
+    verdict: Verdict,
+) -> Result<(), Fail> {
+    let bytes = frame(types, &HEADER, alloc)?;
+    let (done, sent) = outcome(rt, alloc, network, &mut whole(alloc, &bytes)?, 0)?;
+    assert_eq!(rt; done, verdict);
+    let mut expected = Vec::from_slice(alloc, &TO)?;
+    expected.extend_from_slice(&FROM)?;
+    expected.extend_from_slice(types)?;
+    expected.extend_from_slice(&LOWERED)?;
+    assert_eq!(rt; sent.as_slice(), expected.as_slice());
+    Ok(())
+}
+
 #[test]
 fn sends(rt: HostRuntime) -> Result<(), Fail> {
-    let alloc = rt.alloc();
-    let network = network(alloc)?;
+    let network = network(rt.alloc())?;
     let types: [(&[u8], Verdict); 2] = [(&[8, 0], PLAIN), (&[0x81, 0, 0x20, 5, 8, 0], TAGGED)];
     for (types, verdict) in types {
-        let bytes = frame(types, &HEADER, alloc)?;
-        let (done, sent) = outcome(&rt, alloc, &network, &mut whole(alloc, &bytes)?, 0)?;
-        assert_eq!(rt; done, verdict);
-        let mut expected = Vec::from_slice(alloc, &TO)?;
-        expected.extend_from_slice(&FROM)?;
-        expected.extend_from_slice(types)?;
-        expected.extend_from_slice(&LOWERED)?;
-        assert_eq!(rt; sent.as_slice(), expected.as_slice());
+        expect_sent(&rt, rt.alloc(), &network, types, verdict)?;
     }
+    Ok(())
+}
+
+/// Tests that a frame of this type and packet is dropped for this reason, as it was.
+fn expect_dropped(
+    rt: &impl Abort,
+    alloc: Global,
+    network: &(Table, Ports),
+    types: &[u8],
+    packet: &[u8],
+    reason: Reason,
+) -> Result<(), Fail> {
+    let bytes = frame(types, packet, alloc)?;
+    let (done, kept) = outcome(rt, alloc, network, &mut whole(alloc, &bytes)?, 0)?;
+    assert_eq!(rt; done, Verdict::Drop(reason));
+    assert_eq!(rt; kept.as_slice(), bytes.as_slice());
     Ok(())
 }
 
 #[test]
 fn drops(rt: HostRuntime) -> Result<(), Fail> {
-    let alloc = rt.alloc();
-    let network = network(alloc)?;
+    let network = network(rt.alloc())?;
     let mut expired = with(8, 1);
     expired[10] = 0xa3;
     let mut longer = with(3, 0x15);
@@ -141,39 +172,51 @@ fn drops(rt: HostRuntime) -> Result<(), Fail> {
         (&[8, 0], &without_source, Reason::NoRoute),
     ];
     for (types, packet, reason) in cases {
-        let bytes = frame(types, packet, alloc)?;
-        let (done, kept) = outcome(&rt, alloc, &network, &mut whole(alloc, &bytes)?, 0)?;
-        assert_eq!(rt; done, Verdict::Drop(reason));
-        assert_eq!(rt; kept.as_slice(), bytes.as_slice());
+        expect_dropped(&rt, rt.alloc(), &network, types, packet, reason)?;
     }
     Ok(())
 }
 
-/// Of 1,514 bytes on the wire 60 were captured; 1,500 are the packet's.
-#[test]
-fn measures_the_length_on_the_wire(rt: HostRuntime) -> Result<(), Fail> {
-    let alloc = rt.alloc();
-    let network = network(alloc)?;
+/// A frame of 60 bytes, whose header tells a total length of 1,500.
+fn long_frame(alloc: Global) -> Result<Vec<u8>, Fail> {
     let mut header = with(2, 0x05);
     header[3] = 0xdc;
     header[10] = 0x5f;
     header[11] = 0x0d;
     let mut bytes = frame(&[8, 0], &header, alloc)?;
     bytes.extend_from_slice(&[0; 26])?;
-    let (sent, _) = outcome(&rt, alloc, &network, &mut whole(alloc, &bytes)?, 1514)?;
-    assert_eq!(rt; sent, PLAIN);
-    let (dropped, _) = outcome(&rt, alloc, &network, &mut whole(alloc, &bytes)?, 1513)?;
-    assert_eq!(rt; dropped, Verdict::Drop(Reason::BadLength));
+    Ok(bytes)
+}
+
+/// Of 1,514 bytes on the wire 60 were captured; 1,500 are the packet's.
+#[test]
+fn measures_the_length_on_the_wire(rt: HostRuntime) -> Result<(), Fail> {
+    let bytes = long_frame(rt.alloc())?;
+    let network = network(rt.alloc())?;
+    for (wire, verdict) in [(1514, PLAIN), (1513, Verdict::Drop(Reason::BadLength))] {
+        let mut chain = whole(rt.alloc(), &bytes)?;
+        let (done, _) = outcome(&rt, rt.alloc(), &network, &mut chain, wire)?;
+        assert_eq!(rt; done, verdict);
+    }
     Ok(())
 }
 
+/// As `sum16`, without its clauses.
+fn summed(bytes: &[u8]) -> u16 {
+    sum16(bytes)
+}
+
 #[test]
-fn sums(rt: HostRuntime) -> Result<(), Fail> {
-    assert_eq!(rt; sum16(&[]), 0);
-    assert_eq!(rt; sum16(&HEADER), 0xffff);
-    assert_eq!(rt; sum16(&[0, 1, 0xf2, 3, 0xf4, 0xf5, 0xf6, 0xf7]), 0xddf2);
-    assert_eq!(rt; sum16(&[0xff; 58]), 0xffff);
-    Ok(())
+fn sums(rt: HostRuntime) {
+    let cases: [(&[u8], u16); 4] = [
+        (&[], 0),
+        (&HEADER, 0xffff),
+        (&[0, 1, 0xf2, 3, 0xf4, 0xf5, 0xf6, 0xf7], 0xddf2),
+        (&[0xff; 58], 0xffff),
+    ];
+    for (bytes, sum) in cases {
+        assert_eq!(rt; summed(bytes), sum, "{sum:04x}");
+    }
 }
 
 #[test]

@@ -23,12 +23,11 @@ fn add_all(rt: &impl Abort, table: &mut Table, routes: &[(u32, u8, u32)]) {
     }
 }
 
-#[test]
-fn finds_the_longest_route(rt: HostRuntime) -> Result<(), Fail> {
-    let mut table = Table::new(rt.alloc(), 24, 1)?;
+/// The worked routes, and what is found by them, alone and in a burst.
+fn find_the_longest(rt: &impl Abort, table: &mut Table) {
     add_all(
-        &rt,
-        &mut table,
+        rt,
+        table,
         &[
             (at(10, 0, 0, 0), 8, 1),
             (at(10, 1, 0, 0), 16, 2),
@@ -45,7 +44,7 @@ fn finds_the_longest_route(rt: HostRuntime) -> Result<(), Fail> {
         (at(11, 0, 0, 1), None),
     ];
     for (addr, hop) in expected {
-        assert_eq!(rt; lookup(&table, addr), hop, "{addr:08x}");
+        assert_eq!(rt; lookup(table, addr), hop, "{addr:08x}");
     }
     let mut hops = [NextHop::none(); 4];
     table.lookup_bulk(
@@ -58,6 +57,10 @@ fn finds_the_longest_route(rt: HostRuntime) -> Result<(), Fail> {
         &mut hops,
     );
     assert_eq!(rt; hops.map(NextHop::hop), [Some(3), None, Some(1), Some(3)]);
+}
+
+/// What is refused of routes beside the worked ones.
+fn refuse_routes(rt: &impl Abort, table: &mut Table) {
     let refused = [
         (at(10, 0, 0, 0), 0, 1, RouteFault::BadDepth),
         (at(10, 0, 0, 0), 33, 1, RouteFault::BadDepth),
@@ -66,17 +69,24 @@ fn finds_the_longest_route(rt: HostRuntime) -> Result<(), Fail> {
         (at(10, 9, 9, 0), 25, 16_777_216, RouteFault::BadHop),
     ];
     for (addr, depth, hop, fault) in refused {
-        let answer = add_once(&mut table, addr, depth, hop);
+        let answer = add_once(table, addr, depth, hop);
         assert_eq!(rt; answer, Err(fault), "{addr:08x}/{depth}");
     }
-    assert_eq!(rt; add(&mut table, at(10, 1, 2, 128), 25, 5), Ok(()));
-    let other = add_once(&mut table, at(10, 1, 3, 0), 25, 6);
+    assert_eq!(rt; add(table, at(10, 1, 2, 128), 25, 5), Ok(()));
+    let other = add_once(table, at(10, 1, 3, 0), 25, 6);
     assert_eq!(rt; other, Err(RouteFault::NoGroup));
-    assert_eq!(rt; remove(&mut table, at(10, 1, 0, 0), 16), Ok(()));
-    assert_eq!(rt; lookup(&table, at(10, 1, 2, 4)), Some(1));
+    assert_eq!(rt; remove(table, at(10, 1, 0, 0), 16), Ok(()));
+    assert_eq!(rt; lookup(table, at(10, 1, 2, 4)), Some(1));
     for (depth, fault) in [(16, RouteFault::NoRoute), (0, RouteFault::BadDepth)] {
-        assert_eq!(rt; remove(&mut table, at(10, 1, 0, 0), depth), Err(fault));
+        assert_eq!(rt; remove(table, at(10, 1, 0, 0), depth), Err(fault));
     }
+}
+
+#[test]
+fn finds_the_longest_route(rt: HostRuntime) -> Result<(), Fail> {
+    let mut table = Table::new(rt.alloc(), 24, 1)?;
+    find_the_longest(&rt, &mut table);
+    refuse_routes(&rt, &mut table);
     Ok(())
 }
 
@@ -138,6 +148,14 @@ fn gives_a_group_back(rt: HostRuntime) -> Result<(), Fail> {
     Ok(())
 }
 
+/// Tests that no group is left for a route.
+fn expect_no_group(rt: &impl Abort, table: &mut Table) {
+    assert_eq!(rt;
+        add_once(table, at(10, 2, 0, 0), 17, 3),
+        Err(RouteFault::NoGroup)
+    );
+}
+
 #[test]
 fn has_large_groups(rt: HostRuntime) -> Result<(), Fail> {
     let mut table = Table::new(rt.alloc(), 16, 1)?;
@@ -151,17 +169,15 @@ fn has_large_groups(rt: HostRuntime) -> Result<(), Fail> {
         (at(10, 1, 3, 0), Entry::Group(0), Some(2)),
     ];
     see_all(&rt, &table, &expected);
-    assert_eq!(rt;
-        add_once(&mut table, at(10, 2, 0, 0), 17, 3),
-        Err(RouteFault::NoGroup)
-    );
-    // Without any group.
+    expect_no_group(&rt, &mut table);
+    Ok(())
+}
+
+#[test]
+fn has_no_group_at_all(rt: HostRuntime) -> Result<(), Fail> {
     let mut table = Table::new(rt.alloc(), 16, 0)?;
     add_all(&rt, &mut table, &[(at(10, 2, 0, 0), 16, 3)]);
-    assert_eq!(rt;
-        add_once(&mut table, at(10, 2, 0, 0), 17, 3),
-        Err(RouteFault::NoGroup)
-    );
+    expect_no_group(&rt, &mut table);
     Ok(())
 }
 

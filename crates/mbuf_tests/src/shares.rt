@@ -1,5 +1,5 @@
 //! Worked rows of shares, each call of a deck, and what goes on where every request for memory is refused.
-ghost use Rattle.std.specs.Prelude.{◌≡◌, ◌++◌, []};
+ghost use Rattle.std.specs.Prelude.{◌≡◌, ◌++◌, [], length};
 ghost use Rattle.burst.specs.Numbers.{AreDistinct};
 ghost use Rattle.mbuf.specs.Chain.{numbers_of};
 
@@ -45,14 +45,19 @@ fn gives_segments_with_their_last_mention(rt: HostRuntime) -> Result<(), Fail> {
 
 /// Cuts share 0 of bytes 1, 2 and 3 to its last two bytes and then to the first of these, and copies it over others.
 fn cuts_and_copies(rt: &impl Abort, deck: &mut Deck, target: &mut Chain) {
-    assert_eq!(rt; cut(deck, 0, 1, 3), Err(DeckFault::TooShort));
-    assert_eq!(rt; cut(deck, 0, 1, 2), Ok(()));
-    assert_eq!(rt; cut(deck, 0, 0, 1), Ok(()));
-    assert_eq!(rt; copy_into(deck, 0, target), Ok(()));
+    let told = [
+        cut(deck, 0, 1, 3),
+        cut(deck, 0, 1, 2),
+        cut(deck, 0, 0, 1),
+        copy_into(deck, 0, target),
+        cut(deck, 0, 0, 2),
+        cut(deck, 1, 0, 0),
+        copy_into(deck, 1, target),
+    ];
+    let short = Err(DeckFault::TooShort);
+    let none = Err(DeckFault::NoSuchShare);
+    assert_eq!(rt; told, [short, Ok(()), Ok(()), Ok(()), short, none, none]);
     assert_eq!(rt; copied(target, 6), (Ok(1), [2, 9, 9, 9, 9, 9]));
-    assert_eq!(rt; cut(deck, 0, 0, 2), Err(DeckFault::TooShort));
-    assert_eq!(rt; cut(deck, 1, 0, 0), Err(DeckFault::NoSuchShare));
-    assert_eq!(rt; copy_into(deck, 1, target), Err(DeckFault::NoSuchShare));
     assert_eq!(rt; released(deck, 0), Ok((1, [Some(4), None])));
 }
 
@@ -75,16 +80,27 @@ fn shares_again_what_is_left(rt: HostRuntime) -> Result<(), Fail> {
     Ok(())
 }
 
+/// A packet of 65 bytes in two segments.
+fn sixty_five_bytes(alloc: Global) -> Result<Chain, Fail> {
+    let mut chain = pair(alloc, 4, 7)?;
+    chain.stretch(65)?;
+    Ok(chain)
+}
+
+/// What a copy of share 0 over a packet answers, and how long the packet is then.
+fn copied_over(deck: &Deck, mut target: Chain) -> (Result<(), DeckFault>, usize) {
+    (copy_into(deck, 0, &mut target), target.len())
+}
+
 #[test]
 fn copies_only_what_has_room(rt: HostRuntime) -> Result<(), Fail> {
-    let mut chain = pair(rt.alloc(), 4, 7)?;
-    chain.stretch(65)?;
-    let deck = deck_of(rt.alloc(), chain)?;
-    let mut small = segment(rt.alloc(), 9)?;
-    assert_eq!(rt; copy_into(&deck, 0, &mut small), Err(DeckFault::NoTailroom));
-    let mut large = pair(rt.alloc(), 8, 9)?;
-    assert_eq!(rt; copy_into(&deck, 0, &mut large), Ok(()));
-    assert_eq!(rt; large.len(), 65);
+    let deck = deck_of(rt.alloc(), sixty_five_bytes(rt.alloc())?)?;
+    let small = copied_over(&deck, segment(rt.alloc(), 9)?);
+    let large = copied_over(&deck, pair(rt.alloc(), 8, 9)?);
+    assert_eq!(rt;
+        [small, large],
+        [(Err(DeckFault::NoTailroom), 0), (Ok(()), 65)]
+    );
     Ok(())
 }
 
@@ -210,23 +226,30 @@ fn changes(rt: &impl Abort, chain: &mut Chain) {
 fn looks(rt: &impl Abort, chain: &Chain) {
     assert!(rt; chain.segments() == 1);
     assert_eq!(rt; chain.part(0), [0; 64].as_slice());
+    let tags = (number_of(chain), chain.only_tag());
+    let bytes = (bytes_at(chain, [63, 64]), two_at(chain, 62));
     assert_eq!(rt;
-        (bytes_at(chain, [63, 64]), two_at(chain, 62)),
-        ([Some(0), None], Ok([0; 2]))
+        (tags, bytes),
+        ((Some(9), Some(9)), ([Some(0), None], Ok([0; 2])))
     );
-    assert_eq!(rt; (number_of(chain), chain.only_tag()), (Some(9), Some(9)));
     assert_eq!(rt; (chain.space(), chain.is_empty()), (64, false));
 }
 
-/// Links two segments, and takes them apart again.
-fn parts(rt: &impl Abort, one: Chain, other: Chain) -> Result<(), Fail>
+/// How many segments come apart of one.
+fn apart_of(one: Chain) -> usize
+    requires { length one ≡ 1 }
+{
+    let mut apart = Burst::<Chain, 1>::new();
+    one.take_apart(&mut apart);
+    apart.len()
+}
+
+/// Links two segments, and takes them apart again: how many come of the first, and whether there is another.
+fn parts(one: Chain, other: Chain) -> Result<(usize, bool), Fail>
     requires { AreDistinct (numbers_of one ++ numbers_of other) }
 {
     let (first, rest) = both(one, other)?.take_first();
-    let mut apart = Burst::<Chain, 1>::new();
-    first.take_apart(&mut apart);
-    assert_eq!(rt; (apart.len(), rest.is_some()), (1, true));
-    Ok(())
+    Ok((apart_of(first), rest.is_some()))
 }
 
 /// Every request is refused, and the calls of packets and decks that make none go on.
@@ -240,9 +263,10 @@ fn goes_on_without_memory(rt: HostRuntime) -> Result<(), Fail> {
     changes(&rt, &mut chain);
     cuts_and_copies(&rt, &mut deck, &mut chain);
     assert_eq!(rt; released_into(&mut pairs, 0), Ok(2));
-    let linked = parts(&rt, one, other);
+    let linked = parts(one, other);
     drop(held);
-    linked
+    assert_eq!(rt; linked?, (1, true));
+    Ok(())
 }
 
 #[test]

@@ -1,31 +1,50 @@
 //! Captures where every request for memory is refused.
+ghost use Rattle.pcapio.specs.Reader.{IsReading};
+ghost use Rattle.pcapio.specs.Writer.{IsWell};
+
 use crate::example::{FILE, NEVER, Slow, Tight, capture, chain};
 use exhaust::{refuses, take_all};
+use mbuf::Chain;
 use pcapio::{CapFault, Counted, Reader, Writer, collect_records, copy_capture, copy_records};
 use std::alloc::Global;
+use std::process::Abort;
 use std::test::Fail;
+
+/// Copies with all memory taken: what the copy and the flush answer.
+fn copy_starved(
+    rt: &impl Abort,
+    alloc: Global,
+    reader: &mut Reader<&[u8]>,
+    writer: &mut Writer<Vec<u8>>,
+    chain: &mut Chain,
+) -> Result<(Result<Option<bool>, CapFault>, Result<(), CapFault>), Fail>
+    requires reading { IsReading reader.old }
+    requires well { IsWell writer.old }
+{
+    let held = take_all(alloc)?.ok_or("memory can't be used up in this build")?;
+    let copied = copy_records(reader, writer, chain);
+    let flushed = writer.flush();
+    let refused = refuses(alloc);
+    drop(held);
+    assert!(rt; refused, "the copy gave memory back");
+    Ok((copied, flushed))
+}
 
 #[test]
 fn copies_while_every_request_is_refused(rt: HostRuntime) -> Result<(), Fail> {
     let file = capture(rt.alloc(), 50_000)?;
     let wanted = capture(rt.alloc(), 45_000)?;
     let mut chain = chain(rt.alloc(), 45_000)?;
+    let to = Counted::new(Vec::with_capacity(rt.alloc(), wanted.len())?);
     let Ok(mut reader) = Reader::open(rt.alloc(), Counted::new(file.as_slice())) else {
         return Err(Fail::new("no reader"));
     };
-    let to = Counted::new(Vec::with_capacity(rt.alloc(), wanted.len())?);
     let Ok(mut writer) = Writer::open(rt.alloc(), to, reader.resolution()) else {
         return Err(Fail::new("no writer"));
     };
-    let held = take_all(rt.alloc())?.ok_or("memory can't be used up in this build")?;
-    let copied = copy_records(&mut reader, &mut writer, &mut chain);
-    let flushed = writer.flush();
-    let refused = refuses(rt.alloc());
-    drop(held);
-    assert!(rt; refused, "the copy gave memory back");
-    assert_eq!(rt; (copied, flushed), (Ok(Some(false)), Ok(())));
+    let told = copy_starved(&rt, rt.alloc(), &mut reader, &mut writer, &mut chain)?;
     let to = writer.into_inner().into_inner();
-    assert!(rt; to.as_slice() == wanted.as_slice());
+    assert!(rt; told == (Ok(Some(false)), Ok(())) && to.as_slice() == wanted.as_slice());
     Ok(())
 }
 

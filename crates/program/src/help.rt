@@ -3,7 +3,7 @@
 
 /// The version, and the toolchain that proved this source: the line of `rt version`.
 pub const VERSION: &str =
-    "0.1.0\nThis source was proved with rattle-kit-13b logic dac8208d650f15bf.";
+    "0.1.0\nThis source was proved with rattle-kit-13f logic dac8208d650f15bf.";
 
 /// Below the options of the program itself.
 pub const PROGRAM: &str = "\

@@ -7,7 +7,6 @@ use std::sync::Wait;
 use std::thread::Threads;
 
 mod captures;
-mod examples;
 mod faults;
 mod help;
 mod no_memory;

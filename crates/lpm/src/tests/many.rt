@@ -54,6 +54,18 @@ fn look_up_many(rt: &impl Abort, table: &Table, base: u32, last: u32, count: u32
     }
 }
 
+/// Takes one of the deep routes away, whose group serves another one.
+fn reuse_a_group(rt: &impl Abort, table: &mut Table) {
+    assert_eq!(rt;
+        add_once(table, nth(DEEP, GROUPS, 7), 32, 1),
+        Err(RouteFault::NoGroup)
+    );
+    assert_eq!(rt; remove(table, nth(DEEP, 1, 7), 32), Ok(()));
+    assert_eq!(rt; add(table, nth(DEEP, GROUPS, 7), 32, 5), Ok(()));
+    look_up(rt, table, nth(DEEP, GROUPS, 7), Some(5));
+    look_up(rt, table, nth(DEEP, 1, 7), None);
+}
+
 #[test]
 fn takes_many_routes(rt: HostRuntime) -> Result<(), Fail> {
     let mut table = Table::new(rt.alloc(), 24, GROUPS)?;
@@ -62,14 +74,7 @@ fn takes_many_routes(rt: HostRuntime) -> Result<(), Fail> {
     look_up_many(&rt, &table, SHALLOW, 200, ROUTES);
     look_up_many(&rt, &table, DEEP, 7, GROUPS);
     look_up(&rt, &table, nth(DEEP, 0, 8), None);
-    assert_eq!(rt;
-        add_once(&mut table, nth(DEEP, GROUPS, 7), 32, 1),
-        Err(RouteFault::NoGroup)
-    );
-    assert_eq!(rt; remove(&mut table, nth(DEEP, 1, 7), 32), Ok(()));
-    assert_eq!(rt; add(&mut table, nth(DEEP, GROUPS, 7), 32, 5), Ok(()));
-    look_up(&rt, &table, nth(DEEP, GROUPS, 7), Some(5));
-    look_up(&rt, &table, nth(DEEP, 1, 7), None);
+    reuse_a_group(&rt, &mut table);
     Ok(())
 }
 

@@ -100,38 +100,72 @@ fn receives_none<R: Wait>(
     }
 }
 
+/// Sends a list of items that may not be put, for a reason of the list's own.
+fn refuses<R: Wait>(
+    rt: &R,
+    f: &Fabric<Ticket, MOST>,
+    local: &mut Local<Ticket, MOST>,
+    numbers: &[u32],
+    refusal: Refusal,
+) -> Result<(), Wrong>
+    requires local { IsLocalOf f.now local.old }
+    requires ring { 1 < length (rings_of f.now) }
+    ensures { IsLocalOf f.now local.new }
+{
+    sends(rt, f, local, &mut listed(numbers), Err(refusal))
+}
+
+/// Sends buffers 4 to 9, of which the ring takes four.
+fn sends_four<R: Wait>(
+    rt: &R,
+    f: &Fabric<Ticket, MOST>,
+    local: &mut Local<Ticket, MOST>,
+) -> Result<(), Wrong>
+    requires local { IsLocalOf f.now local.old }
+    requires ring { 1 < length (rings_of f.now) }
+    ensures { IsLocalOf f.now local.new }
+{
+    let mut list = listed(&[4, 5, 6, 7, 8, 9]);
+    sends(rt, f, local, &mut list, Ok(4))?;
+    sends(
+        rt,
+        f,
+        local,
+        &mut list,
+        Err(Refusal::Start(StartFault::NoRoom(0))),
+    )?;
+    if !has(&list, &[8, 9]) {
+        return Err(Wrong("a put leaves other items"));
+    }
+    Ok(())
+}
+
+/// Sends what the ring has room for, receives it again, and is refused both ways.
+fn goes_beside<R: Wait>(
+    rt: &R,
+    f: &Fabric<Ticket, MOST>,
+    local: &mut Local<Ticket, MOST>,
+) -> Result<(), Wrong>
+    requires local { IsLocalOf f.now local.old }
+    requires ring { 1 < length (rings_of f.now) }
+    ensures { IsLocalOf f.now local.new }
+{
+    sends_four(rt, f, local)?;
+    refuses(rt, f, local, &[], Refusal::Start(StartFault::BadCount))?;
+    receives(rt, f, local, 3, &[4, 5, 6])?;
+    receives(rt, f, local, 64, &[7])?;
+    receives_none(rt, f, local, 1, StartFault::NoRoom(0))?;
+    receives_none(rt, f, local, 0, StartFault::BadCount)?;
+    // cached; twice in the list
+    refuses(rt, f, local, &[8, 3], Refusal::NotYours)?;
+    refuses(rt, f, local, &[8, 8], Refusal::NotYours)
+}
+
 /// Buffers 0 to 3 stay cached while the others go to the ring of four and come back.
 fn beside<R: Wait>(rt: &R, alloc: Global) -> Result<(), Fail> {
     let Opened { fabric, hand, .. } = two_rings(alloc)?;
     let mut local = begun(&fabric, hand, listed(&[0, 1, 2, 3]), 4)?;
-    let mut list = listed(&[4, 5, 6, 7, 8, 9]);
-    sends(rt, &fabric, &mut local, &mut list, Ok(4))?;
-    let full = Refusal::Start(StartFault::NoRoom(0));
-    sends(rt, &fabric, &mut local, &mut list, Err(full))?;
-    if !has(&list, &[8, 9]) {
-        return Err("a put leaves other items".into());
-    }
-    let none = Refusal::Start(StartFault::BadCount);
-    sends(rt, &fabric, &mut local, &mut listed(&[]), Err(none))?;
-    receives(rt, &fabric, &mut local, 3, &[4, 5, 6])?;
-    receives(rt, &fabric, &mut local, 64, &[7])?;
-    receives_none(rt, &fabric, &mut local, 1, StartFault::NoRoom(0))?;
-    receives_none(rt, &fabric, &mut local, 0, StartFault::BadCount)?;
-    // cached; twice in the list
-    sends(
-        rt,
-        &fabric,
-        &mut local,
-        &mut listed(&[8, 3]),
-        Err(Refusal::NotYours),
-    )?;
-    sends(
-        rt,
-        &fabric,
-        &mut local,
-        &mut listed(&[8, 8]),
-        Err(Refusal::NotYours),
-    )?;
+    goes_beside(rt, &fabric, &mut local)?;
     let (_, items) = parted(&fabric, local);
     if !has(&items, &[0, 1, 2, 3]) {
         return Err("the cache doesn't stay as it is".into());

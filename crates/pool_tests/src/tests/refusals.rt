@@ -81,18 +81,23 @@ fn anothers_buffer_is_not_put(rt: HostRuntime) -> Result<(), Fail> {
     not_ours(&rt, rt.alloc())
 }
 
+/// What is no cache of a hand that has buffers 0 to 7.
+fn no_cache(alloc: Global, numbers: &[u32], size: usize, fault: PoolFault) -> Result<(), Fail> {
+    let Opened { fabric, hand, .. } = opened(alloc, 16, 8)?;
+    refuses(&fabric, hand, numbers, size, fault)?;
+    Ok(())
+}
+
 /// What is no cache, each with the first reason there is.
 fn no_caches<R: Wait>(rt: &R, alloc: Global) -> Result<(), Fail> {
-    let Opened { fabric, hand, .. } = opened(alloc, 16, 8)?;
-    refuses(&fabric, hand, &[99], 513, PoolFault::BadSize)?;
+    no_cache(alloc, &[99], 513, PoolFault::BadSize)?;
     // a buffer twice, and more than the threshold
-    let Opened { fabric, hand, .. } = opened(alloc, 16, 8)?;
-    refuses(&fabric, hand, &[4, 5, 6, 7, 4], 2, PoolFault::NotYours)?;
+    no_cache(alloc, &[4, 5, 6, 7, 4], 2, PoolFault::NotYours)?;
+    no_cache(alloc, &[4, 5, 6, 7], 2, PoolFault::CacheFull)?;
+    // on the ring
     let Opened { fabric, hand, .. } = opened(alloc, 16, 8)?;
     let hand = stocked(rt, &fabric, hand, run_of(0, 4))?;
     refuses(&fabric, hand, &[3], 2, PoolFault::NotYours)?;
-    let Opened { fabric, hand, .. } = opened(alloc, 16, 8)?;
-    refuses(&fabric, hand, &[4, 5, 6, 7], 2, PoolFault::CacheFull)?;
     Ok(())
 }
 

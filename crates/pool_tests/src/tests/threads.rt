@@ -147,20 +147,44 @@ fn each_once(alloc: Global, items: &Burst<Ticket, MOST>, count: u32) -> Result<b
     Ok(items.len() == count as usize)
 }
 
-/// Four hands share a ring, each through a cache: at the end they are the whole hand again, and each buffer is on the
-/// ring once.
+/// The hands that two threads leave, as one.
+fn joined(
+    f: &Fabric<Ticket, MOST>,
+    hands: (Option<Hand<Ticket>>, Option<Hand<Ticket>>),
+) -> Option<Hand<Ticket>>
+    requires hands { IfSome hands.0 (λ h. IsHandOf f.now h) × IfSome hands.1 (λ h. IsHandOf f.now h) }
+    ensures { IfSome result (λ h. IsHandOf f.now h) }
+{
+    let (Some(one), Some(other)) = hands else {
+        return None;
+    };
+    Some(one.join(f, other))
+}
+
+/// Four hands share a ring, each through a cache: at the end they are one again.
+fn play(
+    rt: &(impl Threads + Wait + Sync),
+    f: &Fabric<Ticket, MOST>,
+    alloc: Global,
+    hand: Hand<Ticket>,
+) -> Result<Hand<Ticket>, Fail>
+    requires hand { IsHandOf f.now hand }
+    requires ring { 0 < length (rings_of f.now) }
+    ensures { IfOk result (λ h. IsHandOf f.now h) }
+{
+    let (hand, other) = split(f, alloc, hand)?;
+    let first = split(f, alloc, hand)?;
+    let second = split(f, alloc, other)?;
+    let (first, second) = four(rt, f, first, second);
+    let left = joined(f, (joined(f, first), joined(f, second)));
+    Ok(left.ok_or("a thread gives up")?)
+}
+
+/// That hand is the whole one, and each buffer is on the ring once.
 fn shared(rt: &(impl Threads + Wait + Sync), alloc: Global) -> Result<(), Fail> {
     let Opened { fabric, hand, .. } = opened(alloc, 32, BUFFERS)?;
     let hand = stocked(rt, &fabric, hand, run_of(0, BUFFERS))?;
-    let (hand, other) = split(&fabric, alloc, hand)?;
-    let first = split(&fabric, alloc, hand)?;
-    let second = split(&fabric, alloc, other)?;
-    let (first, second) = four(rt, &fabric, first, second);
-    let a = first.0.ok_or("the first thread")?;
-    let b = first.1.ok_or("the second thread")?;
-    let c = second.0.ok_or("the third thread")?;
-    let d = second.1.ok_or("the fourth thread")?;
-    let hand = a.join(&fabric, b).join(&fabric, c).join(&fabric, d);
+    let hand = play(rt, &fabric, alloc, hand)?;
     if !hand.whole() {
         return Err("the hands aren't the whole".into());
     }
