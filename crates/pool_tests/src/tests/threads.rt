@@ -155,9 +155,8 @@ fn joined(
     requires hands { IfSome hands.0 (λ h. IsHandOf f.now h) × IfSome hands.1 (λ h. IsHandOf f.now h) }
     ensures { IfSome result (λ h. IsHandOf f.now h) }
 {
-    let (Some(one), Some(other)) = hands else {
-        return None;
-    };
+    let one = hands.0?;
+    let other = hands.1?;
     Some(one.join(f, other))
 }
 
