@@ -7,18 +7,55 @@ use std::test::Fail;
 
 const LAST: u64 = u64::MAX;
 
+/// A call of a window, and last what it has to answer; of an insert, why the item comes back.
+#[derive(Clone, Copy)]
+enum Call {
+    Insert(u64, char, Option<InsertFault>),
+    Pop(Option<char>),
+    Slide(u64, u64),
+    Next(u64),
+}
+
+/// As the window's call, without its clauses.
+fn insert(window: &mut Window<char>, seq: u64, item: char) -> Result<(), (char, InsertFault)> {
+    window.insert(seq, item)
+}
+
+/// Makes the calls.
+fn go(rt: &impl Abort, window: &mut Window<char>, calls: &[Call]) {
+    for (i, call) in calls.iter().enumerate() {
+        match *call {
+            Call::Insert(seq, item, None) => {
+                assert_eq!(rt; insert(window, seq, item), Ok(()), "call {i}")
+            }
+            Call::Insert(seq, item, Some(why)) => {
+                assert_eq!(rt; insert(window, seq, item), Err((item, why)), "call {i}")
+            }
+            Call::Pop(item) => assert_eq!(rt; window.pop(), item, "call {i}"),
+            Call::Slide(seq, next) => assert_eq!(rt; window.slide(seq), next, "call {i}"),
+            Call::Next(next) => assert_eq!(rt; window.next(), next, "call {i}"),
+        }
+    }
+}
+
 /// Inserts, refusals, pops and a slide of a fresh window of four numbers.
 fn goes_through(rt: &impl Abort, window: &mut Window<char>) {
-    assert_eq!(rt; window.insert(1, 'b'), Ok(()));
-    assert_eq!(rt; window.insert(0, 'a'), Ok(()));
-    assert_eq!(rt; [window.pop(), window.pop()], [Some('a'), Some('b')]);
-    assert_eq!(rt; window.insert(1, 'c'), Err(('c', InsertFault::Late)));
-    assert_eq!(rt; window.insert(6, 'd'), Err(('d', InsertFault::Early)));
-    assert_eq!(rt; window.insert(5, 'e'), Ok(()));
-    assert_eq!(rt; window.insert(5, 'f'), Err(('f', InsertFault::Double)));
-    assert_eq!(rt; window.pop(), None);
-    assert_eq!(rt; (window.slide(9), window.next()), (5, 5));
-    assert_eq!(rt; (window.pop(), window.next()), (Some('e'), 6));
+    let calls = [
+        Call::Insert(1, 'b', None),
+        Call::Insert(0, 'a', None),
+        Call::Pop(Some('a')),
+        Call::Pop(Some('b')),
+        Call::Insert(1, 'c', Some(InsertFault::Late)),
+        Call::Insert(6, 'd', Some(InsertFault::Early)),
+        Call::Insert(5, 'e', None),
+        Call::Insert(5, 'f', Some(InsertFault::Double)),
+        Call::Pop(None),
+        Call::Slide(9, 5),
+        Call::Next(5),
+        Call::Pop(Some('e')),
+        Call::Next(6),
+    ];
+    go(rt, window, &calls);
 }
 
 #[test]
@@ -43,31 +80,40 @@ fn goes_on_without_memory(rt: HostRuntime) -> Result<(), Fail> {
 #[test]
 fn slides_over_what_is_missing(rt: HostRuntime) -> Result<(), Fail> {
     let mut window = Window::new(rt.alloc(), 3)?;
-    assert_eq!(rt; window.slide(2), 2);
-    assert_eq!(rt; window.slide(1), 2, "never back");
-    assert_eq!(rt; window.insert(4, 'a'), Ok(()));
-    assert_eq!(rt; window.insert(3, 'b'), Ok(()));
-    assert_eq!(rt; window.slide(1000), 3, "the least that waits");
-    assert_eq!(rt; window.pop(), Some('b'));
-    assert_eq!(rt; window.pop(), Some('a'));
-    assert_eq!(rt; window.slide(1000), 1000, "nothing waits");
-    assert_eq!(rt; window.insert(1002, 'c'), Ok(()));
-    assert_eq!(rt; window.slide(1001), 1001);
-    assert_eq!(rt; window.pop(), None);
+    let calls = [
+        Call::Slide(2, 2),
+        // never back
+        Call::Slide(1, 2),
+        Call::Insert(4, 'a', None),
+        Call::Insert(3, 'b', None),
+        // the least that waits
+        Call::Slide(1000, 3),
+        Call::Pop(Some('b')),
+        Call::Pop(Some('a')),
+        // nothing waits
+        Call::Slide(1000, 1000),
+        Call::Insert(1002, 'c', None),
+        Call::Slide(1001, 1001),
+        Call::Pop(None),
+    ];
+    go(&rt, &mut window, &calls);
     Ok(())
 }
 
 #[test]
 fn ends_before_the_last_number(rt: HostRuntime) -> Result<(), Fail> {
     let mut window = Window::new(rt.alloc(), MAX_SIZE)?;
-    assert_eq!(rt; window.slide(LAST - 1), LAST - 1);
-    assert_eq!(rt; window.insert(LAST, 'a'), Err(('a', InsertFault::Early)));
-    assert_eq!(rt; window.insert(LAST - 1, 'b'), Ok(()));
-    assert_eq!(rt; window.pop(), Some('b'));
-    assert_eq!(rt; window.next(), LAST);
-    assert_eq!(rt; window.insert(LAST, 'c'), Err(('c', InsertFault::Early)));
-    assert_eq!(rt; window.pop(), None);
-    assert_eq!(rt; window.slide(LAST), LAST);
+    let calls = [
+        Call::Slide(LAST - 1, LAST - 1),
+        Call::Insert(LAST, 'a', Some(InsertFault::Early)),
+        Call::Insert(LAST - 1, 'b', None),
+        Call::Pop(Some('b')),
+        Call::Next(LAST),
+        Call::Insert(LAST, 'c', Some(InsertFault::Early)),
+        Call::Pop(None),
+        Call::Slide(LAST, LAST),
+    ];
+    go(&rt, &mut window, &calls);
     Ok(())
 }
 
