@@ -16,10 +16,10 @@ SHARE = $(DESTDIR)$(PREFIX)/share
 help:
 	@echo 'make run        forwards $(IN) by $(CONFIG), by a pktkit without proofs: 1 to 2 minutes'
 	@echo 'make compare    the same by one thread, and that each port has the same bytes; after make run: 1 to 2 minutes'
-	@echo 'make build      proves pktkit and what it stands on, and builds it: 35 to 55 minutes, then what has changed'
+	@echo 'make build      proves pktkit and what it stands on, and builds it: 35 to 75 minutes, then what has changed'
 	@echo 'make install    make build; the program, its man page and completions go below PREFIX ($(PREFIX)): seconds'
 	@echo 'make uninstall  removes these again: at once'
-	@echo 'make test       the merge gate: every proof from nothing, must-fail edits, tests, programs, documents: 170 to 300 minutes'
+	@echo 'make test       the merge gate: every proof from nothing, must-fail edits, tests, programs, documents: 120 to 270 minutes'
 	@echo 'make bench      measures one part beside its yardstick, NAME=$(NAME): minutes, on a quiet machine'
 	@echo
 	@echo 'Minutes are of one processor; several work side by side where there are several. What can be set, as in'
