@@ -6,6 +6,7 @@ use crate::runs::{Failing, NEVER, SOUND, is_whole, run};
 use pcapio::CapFault;
 use settings::Settings;
 use stages::RunFault;
+use std::alloc::Global;
 use std::process::Abort;
 use std::sync::Wait;
 use std::test::Fail;
@@ -104,25 +105,43 @@ fn faults_have_numbers(rt: HostRuntime) {
     assert_eq!(rt; faults.map(|fault| fault.number()), [1, 2, 3, 4, 5, 6, 7]);
 }
 
-#[test]
-fn of_two_faults_the_lower_is_told(rt: HostRuntime) -> Result<(), Fail> {
-    let settings = Settings::read(rt.alloc(), TWO_PORTS.as_bytes())?;
-    let case = three_records(rt.alloc(), b"")?;
-    let mut bad = three_records(rt.alloc(), b"")?;
-    // Behind the records stands one of too many bytes.
+/// Three records, and the same with one of too many bytes behind them.
+fn good_and_bad(alloc: Global) -> Result<(Case, Case), Fail> {
+    let case = three_records(alloc, b"")?;
+    let mut bad = three_records(alloc, b"")?;
     bad.capture.truncate(24 + 50 + 50 + 54);
     bad.capture.extend_from_slice(&[0xff; 16])?;
+    Ok((case, bad))
+}
+
+/// Each two faults at once, with so many workers.
+fn each_two<R: Abort + AllocGlobal + Threads + Wait + Sync>(
+    rt: &R,
+    settings: &Settings,
+    cases: &(Case, Case),
+    workers: usize,
+) -> Result<(), Fail>
+    requires { workers ≤ 16 }
+{
     let full = Failing {
         ports: [0, 0],
         ..SOUND
     };
     let broken = Failing { input: 1, ..full };
     let refused = RunFault::Capture(CapFault::BadRecord);
+    let (case, bad) = cases;
+    of_two(rt, settings, case, full, workers, RunFault::Write(0))?;
+    of_two(rt, settings, case, broken, workers, RunFault::Read)?;
+    of_two(rt, settings, bad, SOUND, workers, refused)?;
+    of_two(rt, settings, bad, full, workers, RunFault::Write(0))
+}
+
+#[test]
+fn of_two_faults_the_lower_is_told(rt: HostRuntime) -> Result<(), Fail> {
+    let cases = good_and_bad(rt.alloc())?;
+    let settings = Settings::read(rt.alloc(), TWO_PORTS.as_bytes())?;
     for workers in [0, 1, 2] {
-        of_two(&rt, &settings, &case, full, workers, RunFault::Write(0))?;
-        of_two(&rt, &settings, &case, broken, workers, RunFault::Read)?;
-        of_two(&rt, &settings, &bad, SOUND, workers, refused)?;
-        of_two(&rt, &settings, &bad, full, workers, RunFault::Write(0))?;
+        each_two(&rt, &settings, &cases, workers)?;
     }
     Ok(())
 }

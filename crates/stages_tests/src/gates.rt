@@ -3,10 +3,11 @@
 
 ghost use Rattle.std.specs.Prelude.{◌≤◌};
 
-use crate::cases::{Case, TWO_PORTS};
+use crate::cases::Case;
+use crate::many::{other_buffers, two_ports};
 use crate::runs::{SOUND, is_whole, run_watched};
-use settings::Settings;
 use stages::Gate;
+use std::alloc::{AllocError, Global};
 use std::process::Abort;
 use std::sync::Wait;
 use std::sync::atomic::{AtomicU64, Ordering};
@@ -59,6 +60,22 @@ impl Gate for All {
     }
 }
 
+/// A capture of so many records, each with these bytes, to two ports in turn.
+fn in_turn(alloc: Global, records: u64, more: &[u8]) -> Result<Case, AllocError> {
+    let mut case = Case::new(alloc, 2)?;
+    for record in 0..records {
+        case.send((record % 2) as u8, more)?;
+    }
+    Ok(case)
+}
+
+/// Tests that all packets were met, and left.
+fn were_met(rt: &impl Abort, gate: &All) {
+    assert_eq!(rt; gate.late.load(Ordering::SeqCst), 0);
+    assert_eq!(rt; gate.entered.load(Ordering::SeqCst), gate.all);
+    assert_eq!(rt; gate.left.load(Ordering::SeqCst), gate.all);
+}
+
 /// As many workers as packets judge at the same time.
 fn all_judge<R: Abort + AllocGlobal + Threads + Wait + Sync>(
     rt: &R,
@@ -67,13 +84,8 @@ fn all_judge<R: Abort + AllocGlobal + Threads + Wait + Sync>(
 ) -> Result<(), Fail>
     requires { workers ≤ 16 }
 {
-    let mut text = String::from_str(rt.alloc(), "burst = 1\n")?;
-    text.push_str(TWO_PORTS)?;
-    let settings = Settings::read(rt.alloc(), text.as_str().as_bytes())?;
-    let mut case = Case::new(rt.alloc(), 2)?;
-    for record in 0..workers {
-        case.send((record % 2) as u8, b"one")?;
-    }
+    let case = in_turn(rt.alloc(), workers as u64, b"one")?;
+    let settings = two_ports(rt.alloc(), "burst = 1\n")?;
     let gate = All {
         all,
         entered: AtomicU64::new(0),
@@ -82,9 +94,7 @@ fn all_judge<R: Abort + AllocGlobal + Threads + Wait + Sync>(
     };
     let left = run_watched(rt, &gate, &settings, &case, 1000, SOUND, workers)?;
     is_whole(rt, &left, workers as u64, false);
-    assert_eq!(rt; gate.late.load(Ordering::SeqCst), 0);
-    assert_eq!(rt; gate.entered.load(Ordering::SeqCst), all);
-    assert_eq!(rt; gate.left.load(Ordering::SeqCst), all);
+    were_met(rt, &gate);
     Ok(())
 }
 
@@ -131,20 +141,22 @@ impl Gate for First {
     }
 }
 
+/// Tests that packet 0 was held as long as it had to be, and that no packet behind the last one came by.
+fn were_held(rt: &impl Abort, first: &First) {
+    assert_eq!(rt; first.late.load(Ordering::SeqCst), 0);
+    assert_eq!(rt; first.early.load(Ordering::SeqCst), 0);
+}
+
 /// Runs over half as many records more than there are segments, each of one segment.
 fn wait_for_segments<R: Abort + AllocGlobal + Threads + Wait + Sync>(
     rt: &R,
     buffers: u64,
 ) -> Result<(), Fail> {
-    let lines = format!(in rt.alloc(); "buffers = {buffers}\ncache = 0\nburst = 1")?;
-    let text = TWO_PORTS.replacen(rt.alloc(), "buffers = 112", lines.as_str(), 1)?;
-    let settings = Settings::read(rt.alloc(), text.as_str().as_bytes())?;
     // Saturating here: no clause bounds it, and it stays small.
     let records = buffers.saturating_add(buffers / 2);
-    let mut case = Case::new(rt.alloc(), 2)?;
-    for record in 0..records {
-        case.send((record % 2) as u8, b"")?;
-    }
+    let case = in_turn(rt.alloc(), records, b"")?;
+    let lines = format!(in rt.alloc(); "buffers = {buffers}\ncache = 0\nburst = 1\n")?;
+    let settings = other_buffers(rt.alloc(), lines.as_str())?;
     let first = First {
         last: buffers.saturating_sub(1),
         stage: AtomicU64::new(0),
@@ -153,8 +165,7 @@ fn wait_for_segments<R: Abort + AllocGlobal + Threads + Wait + Sync>(
     };
     let left = run_watched(rt, &first, &settings, &case, 1000, SOUND, 2)?;
     is_whole(rt, &left, records, false);
-    assert_eq!(rt; first.late.load(Ordering::SeqCst), 0);
-    assert_eq!(rt; first.early.load(Ordering::SeqCst), 0);
+    were_held(rt, &first);
     Ok(())
 }
 

@@ -58,7 +58,7 @@ const OF_A_THOUSAND: &str =
     bad-header 100\nbad-length 100\nbad-checksum 100\nexpired 100\nno-route 100\ntagged 0\ntorn no\n";
 
 /// Settings of two ports with these first lines.
-fn two_ports(alloc: Global, lines: &str) -> Result<Settings, Fail> {
+pub fn two_ports(alloc: Global, lines: &str) -> Result<Settings, Fail> {
     let mut text = String::from_str(alloc, lines)?;
     text.push_str(TWO_PORTS)?;
     let settings = Settings::read(alloc, text.as_str().as_bytes())?;
@@ -82,7 +82,7 @@ fn a_thousand_records_by_so_many_workers(rt: HostRuntime) -> Result<(), Fail> {
 }
 
 /// Settings of two ports with these lines in place of the first.
-fn other_buffers(alloc: Global, lines: &str) -> Result<Settings, Fail> {
+pub fn other_buffers(alloc: Global, lines: &str) -> Result<Settings, Fail> {
     let text = TWO_PORTS.replacen(alloc, "buffers = 112\n", lines, 1)?;
     let settings = Settings::read(alloc, text.as_bytes())?;
     Ok(settings)
@@ -137,29 +137,45 @@ fn one_record_and_none(rt: HostRuntime) -> Result<(), Fail> {
     Ok(())
 }
 
-#[test]
-fn many_records_to_sixteen_ports(rt: HostRuntime) -> Result<(), Fail> {
-    let mut text = String::from_str(rt.alloc(), "buffers = 112\nbits = 16\nroom = 64\n")?;
+/// Settings of sixteen ports, with a route to each.
+fn sixteen_ports(alloc: Global) -> Result<Settings, Fail> {
+    let mut text = String::from_str(alloc, "buffers = 112\nbits = 16\nroom = 64\n")?;
     for q in 0..16 {
-        text.push_str(format!(in rt.alloc();
-            "[[port]]\nmac = \"02:00:00:00:00:1{q:x}\"\n"
-        )?.as_str())?;
+        text.push_str(format!(in alloc; "[[port]]\nmac = \"02:00:00:00:00:1{q:x}\"\n")?.as_str())?;
     }
-    let mut case = Case::new(rt.alloc(), 16)?;
-    for q in 0..16u8 {
-        text.push_str(format!(in rt.alloc();
+    for q in 0..16 {
+        text.push_str(format!(in alloc;
             "[[route]]\nprefix = \"10.{q}.0.0/16\"\nport = {q}\nto = \"02:00:00:00:00:2{q:x}\"\n"
         )?.as_str())?;
     }
+    let settings = Settings::read(alloc, text.as_bytes())?;
+    Ok(settings)
+}
+
+/// Two thousand records, to sixteen ports in turn.
+fn two_thousand(alloc: Global) -> Result<Case, AllocError> {
+    let mut case = Case::new(alloc, 16)?;
     for record in 0..2000u64 {
         case.send((record % 16) as u8, &LONG[..100])?;
     }
-    let settings = Settings::read(rt.alloc(), text.as_bytes())?;
+    Ok(case)
+}
+
+/// Tests that each of sixteen ports was sent as many.
+fn sent_alike(rt: &impl Abort, left: &Left) {
+    is_whole(rt, left, 2000, false);
+    if let Ok(told) = &left.answer {
+        assert_eq!(rt; told.counts.sent(), [125; 16].as_slice());
+    }
+}
+
+#[test]
+fn many_records_to_sixteen_ports(rt: HostRuntime) -> Result<(), Fail> {
+    let case = two_thousand(rt.alloc())?;
+    let settings = sixteen_ports(rt.alloc())?;
     for workers in [0, 2] {
         let left = run(&rt, &settings, &case, 100_000, SOUND, workers)?;
-        is_whole(&rt, &left, 2000, false);
-        let told = left.answer.ok().ok_or("no answer")?;
-        assert_eq!(rt; told.counts.sent(), [125; 16].as_slice());
+        sent_alike(&rt, &left);
     }
     Ok(())
 }

@@ -13,6 +13,18 @@ use std::sync::Wait;
 use std::test::Fail;
 use std::thread::Threads;
 
+/// Tests a run that was refused memory: each port has a beginning, and no device failed.
+fn is_refused(rt: &impl Abort, left: &Left, workers: usize) {
+    assert_eq!(rt; (left.wrong, left.failures), (false, 0));
+    match &left.answer {
+        Err(RunFault::Memory) => (),
+        // A thread takes memory too.
+        Err(RunFault::Thread) => assert!(rt; workers > 0),
+        Err(fault) => assert_eq!(rt; Some(*fault), None),
+        Ok(_) => assert!(rt; false, "a run that went well"),
+    }
+}
+
 /// Runs over a case, with one more piece of memory given back each time that it is refused: how often it was, each
 /// time with a beginning at each port and no device that failed, and what the first run with enough of it left.
 fn run_at_last<R: Abort + AllocGlobal + Threads + Wait + Sync>(
@@ -30,13 +42,7 @@ fn run_at_last<R: Abort + AllocGlobal + Threads + Wait + Sync>(
             if left.answer.is_ok() {
                 return (refused, Some(left));
             }
-            assert_eq!(rt; (left.wrong, left.failures), (false, 0));
-            match left.answer.err() {
-                Some(RunFault::Memory) => (),
-                // A thread takes memory too.
-                Some(RunFault::Thread) => assert!(rt; workers > 0),
-                fault => assert_eq!(rt; fault, None),
-            }
+            is_refused(rt, &left, workers);
             // Saturating here: no clause bounds it, and it stays small.
             refused = refused.saturating_add(1);
         }

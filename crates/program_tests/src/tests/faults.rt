@@ -1,10 +1,15 @@
 //! Files, and devices that fail.
 
+use super::captures::is_at_fault;
 use super::run;
 use program::program;
 use std::fs;
 use std::io::{self, ErrorKind, Read, Write};
+use std::process::Abort;
+use std::rt::Files;
+use std::sync::Wait;
 use std::test::Fail;
+use std::thread::Threads;
 
 /// A device that takes and gives nothing.
 #[derive(Drop)]
@@ -60,20 +65,16 @@ fn a_file_of_commands(rt: HostRuntime) -> Result<(), Fail> {
 
 #[test]
 fn a_file_that_is_not_there(rt: HostRuntime) -> Result<(), Fail> {
-    let ran = run(&rt, &["ring", "no/such/file"], b"count\n")?;
-    assert_eq!(rt;
-        (ran.status, text(&ran.err)),
-        (1, Some("pktkit: file no/such/file\n"))
-    );
-    assert_eq!(rt; ran.out.len(), 0);
-    let ran = run(&rt, &["steps", "no/such/file"], b"count\n")?;
-    assert_eq!(rt;
-        (ran.status, text(&ran.err)),
-        (1, Some("pktkit: file no/such/file\n"))
-    );
     // A folder can't be read.
-    let ran = run(&rt, &["ring", "."], b"count\n")?;
-    assert_eq!(rt; (ran.status, text(&ran.err)), (1, Some("pktkit: file .\n")));
+    let cases: [(&[&str], &str); 3] = [
+        (&["ring", "no/such/file"], "pktkit: file no/such/file\n"),
+        (&["steps", "no/such/file"], "pktkit: file no/such/file\n"),
+        (&["ring", "."], "pktkit: file .\n"),
+    ];
+    for (words, line) in cases {
+        let ran = run(&rt, words, b"count\n")?;
+        is_at_fault(&rt, &ran, line);
+    }
     Ok(())
 }
 
@@ -87,31 +88,30 @@ fn an_input_that_fails(rt: HostRuntime) -> Result<(), Fail> {
     Ok(())
 }
 
+/// Tests that commands, whose replies go to this output, end with this line.
+fn expect_told<R: Abort + Files + AllocGlobal + Threads + Wait + Sync, W: Write>(
+    rt: &R,
+    commands: &[u8],
+    out: &mut W,
+    line: &str,
+)
+where
+    R::File: Send,
+{
+    let mut err = Vec::new(rt.alloc());
+    let status = program(rt, rt, &[], commands, out, &mut err);
+    assert_eq!(rt; (status, text(&err)), (1, Some(line)));
+}
+
 #[test]
-fn an_output_that_fails(rt: HostRuntime) -> Result<(), Fail> {
-    let mut err = Vec::new(rt.alloc());
-    let status = program(&rt, &rt, &[], b"count\n".as_slice(), &mut Broken, &mut err);
-    assert_eq!(rt; (status, text(&err)), (1, Some("pktkit: output\n")));
+fn an_output_that_fails(rt: HostRuntime) {
+    expect_told(&rt, b"count\n", &mut Broken, "pktkit: output\n");
     // It is the only fault told, also before a line of no form.
-    let mut err = Vec::new(rt.alloc());
-    let status = program(
-        &rt,
-        &rt,
-        &[],
-        b"count\nlook\n".as_slice(),
-        &mut Broken,
-        &mut err,
-    );
-    assert_eq!(rt; (status, text(&err)), (1, Some("pktkit: output\n")));
+    expect_told(&rt, b"count\nlook\n", &mut Broken, "pktkit: output\n");
     // What was taken has to be passed on.
-    let mut err = Vec::new(rt.alloc());
-    let status = program(&rt, &rt, &[], b"count\n".as_slice(), &mut Stuck, &mut err);
-    assert_eq!(rt; (status, text(&err)), (1, Some("pktkit: output\n")));
+    expect_told(&rt, b"count\n", &mut Stuck, "pktkit: output\n");
     // Nothing is written, so nothing fails.
-    let mut err = Vec::new(rt.alloc());
-    let status = program(&rt, &rt, &[], b"look\n".as_slice(), &mut Broken, &mut err);
-    assert_eq!(rt; (status, text(&err)), (1, Some("pktkit: line 1\n")));
-    Ok(())
+    expect_told(&rt, b"look\n", &mut Broken, "pktkit: line 1\n");
 }
 
 #[test]
