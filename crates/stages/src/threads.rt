@@ -1,5 +1,5 @@
 //! A run in threads: a reader, workers, and the sink on the calling thread.
-ghost use Rattle.std.specs.Prelude.{◌≡◌, ◌<◌, ◌≤◌, ◌⊎◌, List, None, Some, IfErr, IfOk, IfSome, OnOk};
+ghost use Rattle.std.specs.Prelude.{◌≡◌, ◌<◌, ◌≤◌, List, Some, IfErr, IfOk, IfSome, OnOk};
 ghost use Rattle.std.specs.Prelude.{length, vec_len, vec_capacity};
 ghost use Rattle.fabric.specs.Hands.{IsHandOf, rings_of};
 ghost use Rattle.pcapio.specs.Counted.{to_come, told};
@@ -11,7 +11,6 @@ ghost use Rattle.stages.specs.Ports.{AreOutputs, AreBeginnings};
 ghost use Rattle.stages.specs.Tallies.{fates_of};
 ghost use Rattle.stages.specs.Threads.{WhyEnded, WhyNoSummaryOfThreads};
 ghost use Rattle.stages.specs.Whole.{IsRun, IsBegun, IsUntouched};
-ghost use Rattle.stages.specs.declared.fault.RunFault.TheVariants.{Memory, Thread};
 
 use crate::closing::into_devices;
 use crate::draining::drain;
@@ -40,20 +39,23 @@ use std::sync::Wait;
 use std::thread::{self, Threads};
 
 /// Ends the workers that were started, where a further thread couldn't be: each gets an end mark, and what comes of
-/// them is taken.
-fn call_off<J: Run, R: Read + Drop, W: Write + Drop, T: Wait>(
+/// them is taken. What was read stays as it is.
+fn call_off<J: Run, R, W: Write + Drop, T: Wait>(
     rt: &T,
-    mut station: Station<'_, Packet<J>>,
-    mut sink: Sink<J, W>,
+    f: &Fabric<Packet<J>, SPAN>,
+    hand: Hand<Packet<J>>,
+    sink: Sink<J, W>,
     started: usize,
     settings: &Settings,
-    device: Option<Counted<R>>,
-    fault: RunFault,
+    fed: Fed<J, R>,
 ) -> (Sink<J, W>, Fed<J, R>)
+    requires hand { IsHandOf f.now hand }
+    requires rings { AreRings (rings_of f.now) }
     requires few { started ≤ 16 }
     requires room { settings.now.room ≡ J.room }
-    requires fault { (fault ≡ Memory) ⊎ (fault ≡ Thread) }
 {
+    let mut station = Station::new(f, hand, settings.cache as usize);
+    let mut sink = sink;
     let mut none = Burst::<Packet<J>, SPAN>::new();
     let sent = dismiss(rt, &mut station, &mut none, started);
     if sent.is_ok() {
@@ -61,7 +63,7 @@ fn call_off<J: Run, R: Read + Drop, W: Write + Drop, T: Wait>(
         let room = settings.room as usize;
         let _told = drain(rt, &mut station, &mut sink, started, burst, room);
     }
-    (sink, Fed::nothing(device, fault))
+    (sink, fed)
 }
 
 /// The threads of a run, over rings on which all segments are free.
@@ -97,24 +99,14 @@ fn pass<
                 × GoesBy settings.now J.room J.forwarding (length J.before) }
         {
             let burst = settings.burst as usize;
-            let cache = settings.cache as usize;
             let mut sink = sink;
             let mut hand = hand;
             for started in 0..workers {
                 let (mine, other) = match hand.split(alloc, f) {
                     Ok(both) => both,
                     Err((back, _)) => {
-                        let station = Station::new(f, back, cache);
-                        let device = Some(reader.into_inner());
-                        return call_off(
-                            rt,
-                            station,
-                            sink,
-                            started,
-                            settings,
-                            device,
-                            RunFault::Memory,
-                        );
+                        let fed = Fed::nothing(Some(reader.into_inner()), RunFault::Memory);
+                        return call_off(rt, f, back, sink, started, settings, fed);
                     }
                 };
                 hand = mine;
@@ -126,36 +118,17 @@ fn pass<
                     { work(rt, gate, f, other, burst, &settings.table, &settings.ports) },
                 );
                 if worker.is_err() {
-                    let station = Station::new(f, hand, cache);
-                    let device = Some(reader.into_inner());
-                    return call_off(
-                        rt,
-                        station,
-                        sink,
-                        started,
-                        settings,
-                        device,
-                        RunFault::Thread,
-                    );
+                    let fed = Fed::nothing(Some(reader.into_inner()), RunFault::Thread);
+                    return call_off(rt, f, hand, sink, started, settings, fed);
                 }
             }
             let (mine, other) = match hand.split(alloc, f) {
                 Ok(both) => both,
                 Err((back, _)) => {
-                    let station = Station::new(f, back, cache);
-                    let device = Some(reader.into_inner());
-                    return call_off(
-                        rt,
-                        station,
-                        sink,
-                        workers,
-                        settings,
-                        device,
-                        RunFault::Memory,
-                    );
+                    let fed = Fed::nothing(Some(reader.into_inner()), RunFault::Memory);
+                    return call_off(rt, f, back, sink, workers, settings, fed);
                 }
             };
-            let mut station = Station::new(f, mine, cache);
             let Ok(thread) = scope.spawn(
                 move || -> Fed<J, R>
                     requires { IsHandOf f.now other × AreRings (rings_of f.now) × (workers ≤ 16)
@@ -166,8 +139,10 @@ fn pass<
                     feed(rt, station, reader, workers, settings)
                 },
             ) else {
-                return call_off(rt, station, sink, workers, settings, None, RunFault::Thread);
+                let fed = Fed::nothing(None, RunFault::Thread);
+                return call_off(rt, f, mine, sink, workers, settings, fed);
             };
+            let mut station = Station::new(f, mine, settings.cache as usize);
             let room = settings.room as usize;
             let drained = drain(rt, &mut station, &mut sink, workers, burst, room);
             (sink, thread.join(rt).with(drained))
