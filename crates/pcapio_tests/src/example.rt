@@ -88,6 +88,7 @@ impl<'a> Slow<'a> {
 impl Read for Slow<'_> {
     fn read(&mut self, buf: &mut [u8]) -> io::Result<usize> {
         let call = self.calls;
+        // Saturating here: no clause bounds it, and it stays small.
         self.calls = call.saturating_add(1);
         if call == self.fails {
             return Err(ErrorKind::Interrupted.into());
@@ -135,6 +136,7 @@ impl Tight {
 
     fn fails_now(&mut self) -> bool {
         let call = self.calls;
+        // Saturating here: no clause bounds it, and it stays small.
         self.calls = call.saturating_add(1);
         call == self.fails
     }

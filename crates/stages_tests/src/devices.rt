@@ -67,6 +67,7 @@ pub struct Port<'a> {
 impl Port<'_> {
     fn fails_now(&mut self) -> bool {
         let call = self.calls;
+        // Saturating here: no clause bounds it, and it stays small.
         self.calls = call.saturating_add(1);
         if self.down.get() {
             self.wrong = true;
