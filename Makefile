@@ -52,7 +52,7 @@ test:
 build:
 	cd crates/pktkit && rt run < /dev/null > /dev/null
 	@crates/pktkit/out/pktkit --version | grep -qF "$$(rt version)" || { \
-	  echo "make build: VERSION in crates/program/src/help.rt doesn't name this toolchain, $$(rt version)" >&2; exit 1; }
+	  echo "make build: VERSION in crates/cli/src/help.rt doesn't name this toolchain, $$(rt version)" >&2; exit 1; }
 
 install: build
 	install -D -m 755 crates/pktkit/out/pktkit $(BIN)/pktkit

@@ -7,8 +7,8 @@ ghost use Rattle.ipv4.specs.declared.Verdict.TheVariants.{Send, Drop};
 ghost use Rattle.ipv4.specs.declared.Reason.TheVariants.{Expired};
 
 use crate::Counts;
-use exhaust::take_all;
 use ipv4::{Reason, Verdict};
+use oom::exhaust_memory;
 use std::alloc::Global;
 use std::test::Fail;
 
@@ -151,7 +151,7 @@ fn refusals(alloc: Global, held: &mut Vec<Vec<u8>>, text: &mut Vec<u8>) -> Optio
 #[test]
 fn is_as_it_was_without_memory(rt: HostRuntime) -> Result<(), Fail> {
     let mut text = Vec::from_slice(rt.alloc(), b"before\n")?;
-    let mut held = take_all(rt.alloc())?.ok_or("memory can't be used up in this build")?;
+    let mut held = exhaust_memory(rt.alloc())?.ok_or("memory can't be used up in this build")?;
     let refused = refusals(rt.alloc(), &mut held, &mut text);
     drop(held);
     assert!(rt; refused.is_some_and(|times| times > 0));

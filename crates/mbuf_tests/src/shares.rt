@@ -10,8 +10,8 @@ use crate::calls::{
 use crate::example::blank_front;
 use crate::fixtures::{both, deck_of, deck_of_pairs, pair, segment};
 use burst::{Burst, Tagged};
-use exhaust::take_all;
 use mbuf::{Chain, Deck, DeckFault};
+use oom::exhaust_memory;
 use std::alloc::Global;
 use std::process::Abort;
 use std::test::Fail;
@@ -189,7 +189,7 @@ fn many_at_last(deck: &mut Deck, held: &mut Vec<Vec<u8>>) -> Option<usize> {
 fn is_as_it_was_without_memory(rt: HostRuntime) -> Result<(), Fail> {
     let mut deck = Deck::new(rt.alloc());
     let chain = three_bytes(rt.alloc())?;
-    let mut held = take_all(rt.alloc())?.ok_or("memory can't be used up in this build")?;
+    let mut held = exhaust_memory(rt.alloc())?.ok_or("memory can't be used up in this build")?;
     let shared = share_at_last(&mut deck, chain, &mut held);
     let more = many_at_last(&mut deck, &mut held);
     drop(held);
@@ -259,7 +259,7 @@ fn goes_on_without_memory(rt: HostRuntime) -> Result<(), Fail> {
     let mut chain = segment(rt.alloc(), 9)?;
     let (one, other) = (segment(rt.alloc(), 1)?, segment(rt.alloc(), 2)?);
     let mut pairs = deck_of_pairs(rt.alloc(), 1)?;
-    let held = take_all(rt.alloc())?.ok_or("memory can't be used up in this build")?;
+    let held = exhaust_memory(rt.alloc())?.ok_or("memory can't be used up in this build")?;
     changes(&rt, &mut chain);
     cuts_and_copies(&rt, &mut deck, &mut chain);
     assert_eq!(rt; released_into(&mut pairs, 0), Ok(2));

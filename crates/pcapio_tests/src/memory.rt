@@ -3,8 +3,8 @@ ghost use Rattle.pcapio.specs.Reader.{IsReading};
 ghost use Rattle.pcapio.specs.Writer.{IsWell};
 
 use crate::example::{FILE, NEVER, Slow, Tight, capture, chain};
-use exhaust::{refuses, take_all};
 use mbuf::Chain;
+use oom::{exhaust_memory, refuses};
 use pcapio::{CapFault, Counted, Reader, Writer, collect_records, copy_capture, copy_records};
 use std::alloc::Global;
 use std::process::Abort;
@@ -21,7 +21,7 @@ fn copy_starved(
     requires reading { IsReading reader.old }
     requires well { IsWell writer.old }
 {
-    let held = take_all(alloc)?.ok_or("memory can't be used up in this build")?;
+    let held = exhaust_memory(alloc)?.ok_or("memory can't be used up in this build")?;
     let copied = copy_records(reader, writer, chain);
     let flushed = writer.flush();
     let refused = refuses(alloc);
@@ -54,7 +54,7 @@ fn tells_memory_where_it_is_refused(rt: HostRuntime) -> Result<(), Fail> {
     let Ok(mut reader) = Reader::open(rt.alloc(), Counted::new(Slow::new(&FILE, 100, NEVER))) else {
         return Err(Fail::new("no reader"));
     };
-    let held = take_all(rt.alloc())?.ok_or("memory can't be used up in this build")?;
+    let held = exhaust_memory(rt.alloc())?.ok_or("memory can't be used up in this build")?;
     let mut list = Vec::new(rt.alloc());
     let collected = collect_records(rt.alloc(), &mut reader, &mut list);
     let told = reader.next(rt.alloc()).err();
@@ -85,7 +85,7 @@ fn tells_memory_where_it_is_refused(rt: HostRuntime) -> Result<(), Fail> {
 #[test]
 fn a_reader_takes_64_kib(rt: HostRuntime) -> Result<(), Fail> {
     let room = Vec::<u8>::with_capacity(rt.alloc(), 70_000)?;
-    let held = take_all(rt.alloc())?.ok_or("memory can't be used up in this build")?;
+    let held = exhaust_memory(rt.alloc())?.ok_or("memory can't be used up in this build")?;
     drop(room);
     let opened = Reader::open(rt.alloc(), Counted::new(FILE.as_slice()));
     drop(held);

@@ -2,7 +2,7 @@
 //! over the words and the standard streams alone.
 #![tactic(auto)]
 
-use program::{behind_name, out_of_memory, program};
+use cli::{behind_name, out_of_memory, program};
 use std::alloc::AllocError;
 use std::env;
 use std::io::ErrorKind;

@@ -1,7 +1,7 @@
 //! The worked row of the window, its last numbers, and the texts of its refusals.
 use crate::example::in_turn;
 use crate::{InsertFault, MAX_SIZE, Window};
-use exhaust::take_all;
+use oom::exhaust_memory;
 use std::process::Abort;
 use std::test::Fail;
 
@@ -69,7 +69,7 @@ fn gives_items_by_number(rt: HostRuntime) -> Result<(), Fail> {
 #[test]
 fn goes_on_without_memory(rt: HostRuntime) -> Result<(), Fail> {
     let mut window = Window::new(rt.alloc(), 4)?;
-    let held = take_all(rt.alloc())?.ok_or("memory can't be used up in this build")?;
+    let held = exhaust_memory(rt.alloc())?.ok_or("memory can't be used up in this build")?;
     goes_through(&rt, &mut window);
     let refused = Window::<char>::new(rt.alloc(), 4).is_err();
     drop(held);

@@ -2,8 +2,8 @@
 
 ghost use Rattle.std.specs.Prelude.{◌≡◌, [], ◌<◌, length};
 
-use exhaust::take_all;
 use geom::{Geometry, How};
+use oom::exhaust_memory;
 use ringcore::{Moved, OneRing};
 use std::alloc::{AllocError, Global};
 use std::collections::VecDeque;
@@ -89,7 +89,7 @@ fn goes_on_without_memory(rt: HostRuntime) -> Result<(), Fail> {
     let mut items = list(rt.alloc(), &[1, 2, 3, 4, 5, 6])?;
     let mut out = Vec::with_capacity(rt.alloc(), 5)?;
     let mut ring = of_five(rt.alloc())?;
-    let held = take_all(rt.alloc())?.ok_or("memory can't be used up in this build")?;
+    let held = exhaust_memory(rt.alloc())?.ok_or("memory can't be used up in this build")?;
     put_six(&rt, &mut ring, &mut items);
     let taken = take_six(&rt, &mut ring, &mut out);
     drop(held);

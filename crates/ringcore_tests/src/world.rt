@@ -1,7 +1,7 @@
 //! Worked histories of the machine, by one list and step by step, and plans that are refused.
 
-use exhaust::take_all;
 use geom::{Geometry, How, Mode, RingPlan, Side, pack};
+use oom::exhaust_memory;
 use ringcore::{World, WorldFault, WorldPlan};
 use ringcore_laws::{Item, Items, Numbers, Place, Reply, Step};
 use std::alloc::{AllocError, Global};
@@ -378,7 +378,7 @@ fn goes_on_without_memory(rt: HostRuntime) -> Result<(), Fail> {
     let mut world = open(rt.alloc(), Mode::Hts, 2, &[0, 0])?;
     let item = buffer(rt.alloc(), 0)?;
     let twice = buffer(rt.alloc(), 0)?;
-    let held = take_all(rt.alloc())?.ok_or("memory can't be used up in this build")?;
+    let held = exhaust_memory(rt.alloc())?.ok_or("memory can't be used up in this build")?;
     let right = goes_on(&mut world, item, twice);
     drop(held);
     assert!(rt; right?);

@@ -3,7 +3,7 @@
 ghost use Rattle.std.specs.Prelude.{◌≡◌, Err, IsUtf8, OnOk};
 ghost use Rattle.settings.specs.declared.fault.SettingsFault.TheVariants.{NotToml};
 
-use exhaust::take_all;
+use oom::exhaust_memory;
 use settings::{Key, Settings, SettingsFault};
 use std::alloc::{AllocError, Global};
 use std::process::Abort;
@@ -350,7 +350,7 @@ fn tells_memory_until_there_is_enough(rt: HostRuntime) -> Result<(), Fail> {
         rt.alloc(),
         &["buffers = 256", PORT, ROUTE, "prefix = \"10.1.2.3/25\"\n"],
     )?;
-    let mut held = take_all(rt.alloc())?.ok_or("memory can't be used up in this build")?;
+    let mut held = exhaust_memory(rt.alloc())?.ok_or("memory can't be used up in this build")?;
     let (refused, answer) = read_at_last(rt.alloc(), text.as_bytes(), &mut held);
     drop(held);
     assert!(rt; refused > 0);

@@ -1,6 +1,6 @@
 //! Devices in memory that fail when they are told to.
 
-use exhaust::take_all;
+use oom::exhaust_memory;
 use std::alloc::Global;
 use std::cell::Cell;
 use std::io::{self, ErrorKind, Read, Write};
@@ -40,7 +40,7 @@ pub struct Greedy<'a> {
 impl Read for Greedy<'_> {
     fn read(&mut self, buf: &mut [u8]) -> io::Result<usize> {
         if self.held.is_none() {
-            self.held = take_all(self.alloc).unwrap_or(None);
+            self.held = exhaust_memory(self.alloc).unwrap_or(None);
         }
         let count = self.bytes.len().min(buf.len());
         buf[..count].copy_from_slice(&self.bytes[..count]);

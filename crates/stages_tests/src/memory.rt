@@ -4,7 +4,7 @@ ghost use Rattle.std.specs.Prelude.{◌≤◌};
 use crate::cases::{Case, TWO_PORTS, three_records};
 use crate::devices::Greedy;
 use crate::runs::{Left, SOUND, forward, is_whole, run};
-use exhaust::{deepen, take_all};
+use oom::{exhaust_memory, grow_stack};
 use pcapio::Counted;
 use settings::Settings;
 use stages::{Open, RunFault};
@@ -60,8 +60,8 @@ fn has_memory_at_last<R: Abort + AllocGlobal + Threads + Wait + Sync>(
 {
     let settings = Settings::read(rt.alloc(), TWO_PORTS.as_bytes())?;
     let case = three_records(rt.alloc(), b"")?;
-    assert_eq!(rt; deepen(), 1);
-    let mut held = take_all(rt.alloc())?.ok_or("memory can't be used up in this build")?;
+    assert_eq!(rt; grow_stack(), 1);
+    let mut held = exhaust_memory(rt.alloc())?.ok_or("memory can't be used up in this build")?;
     let (refused, left) = run_at_last(rt, &settings, &case, &mut held, workers);
     drop(held);
     assert!(rt; refused > 0);
@@ -94,7 +94,7 @@ fn memory_is_not_told_as_a_thread(rt: HostRuntime) -> Result<(), Fail> {
         held: None,
     });
     assert_eq!(rt; ports.len(), settings.ports.sources.len());
-    assert_eq!(rt; deepen(), 1);
+    assert_eq!(rt; grow_stack(), 1);
     let (input, _, answer) = forward(&rt, &Open, 2, input, ports, &settings);
     let held = input.ok_or("no input")?.into_inner().held;
     assert!(rt; held.is_some(), "memory can't be used up in this build");

@@ -4,7 +4,7 @@ use crate::example::read;
 use crate::tests::at;
 use crate::tests::calls::{add, add_once, lookup, remove};
 use crate::{NextHop, RouteFault, Table};
-use exhaust::take_all;
+use oom::exhaust_memory;
 use std::process::Abort;
 use std::test::Fail;
 
@@ -116,7 +116,7 @@ fn add_depths(rt: &impl Abort, table: &mut Table, held: &mut Vec<Vec<u8>>) -> us
 #[test]
 fn is_as_it_was_without_memory(rt: HostRuntime) -> Result<(), Fail> {
     let mut table = Table::new(rt.alloc(), 16, 8)?;
-    let mut held = take_all(rt.alloc())?.ok_or("memory can't be used up in this build")?;
+    let mut held = exhaust_memory(rt.alloc())?.ok_or("memory can't be used up in this build")?;
     let refused = add_depths(&rt, &mut table, &mut held);
     drop(held);
     assert!(rt; refused > 0);
@@ -165,7 +165,7 @@ fn goes_on_without_memory(rt: HostRuntime) -> Result<(), Fail> {
             u32::from(depth),
         ).is_ok();
     }
-    let held = take_all(rt.alloc())?.ok_or("memory can't be used up in this build")?;
+    let held = exhaust_memory(rt.alloc())?.ok_or("memory can't be used up in this build")?;
     take_apart(&rt, &mut table, &mut taken);
     drop(held);
     assert!(rt; taken[32]);

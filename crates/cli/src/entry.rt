@@ -1,0 +1,159 @@
+//! The whole program, over the words of its command line, a reader and two writers. Files and memory are of one
+//! runtime, threads may be of another.
+
+ghost use Rattle.std.specs.Prelude.{◌≡◌, ◌≤◌};
+
+use crate::command_line::{Asked, RunFiles, read_words};
+use crate::fault::Fault;
+use crate::run_answer::run_files;
+use clap::Error;
+use command_file::TextFault;
+use ring_file::ring_text;
+use std::fs;
+use std::io::{Read, Write};
+use std::rt::Files;
+use std::sync::Wait;
+use std::thread::Threads;
+use steps_file::steps_text;
+
+/// The name that stands for the input where no file is named.
+const INPUT: &str = "-";
+
+/// Runs the program and tells its status: 0 where all went well, or help or the version was asked for, 1 after a
+/// fault, which is told in one line on `err`, and 2 where the command line is refused. Where `out` fails, that is the
+/// one fault that is told; where `err` fails, the status stays.
+pub fn program<
+    R: Files + AllocGlobal,
+    T: Threads + Wait + Sync,
+    I: Read + Drop,
+    O: Write,
+    E: Write,
+>(rt: &R, threads: &T, words: &[String], input: I, out: &mut O, err: &mut E) -> u8
+where
+    R::File: Send,
+    ensures { result ≤ 2 }
+{
+    let done = match read_words(rt.alloc(), words) {
+        Ok(Asked::Ring(file)) => answer_ring(rt, file, input, out),
+        Ok(Asked::Steps(file)) => answer_steps(rt, file, input, out),
+        Ok(Asked::Run(files)) => answer_run(rt, threads, &files, out),
+        Err(refusal) => return refuse(&refusal, out, err),
+    };
+    match done {
+        Ok(()) => 0,
+        Err(fault) => tell(fault, err),
+    }
+}
+
+/// Tells that no memory was had for the words of the command line.
+pub fn out_of_memory<E: Write>(err: &mut E) -> u8
+    ensures { result ≡ 1 }
+{
+    tell(Fault::Memory, err)
+}
+
+/// Tells a fault, as well as `err` takes it.
+fn tell<E: Write>(fault: Fault<'_>, err: &mut E) -> u8
+    ensures { result ≡ 1 }
+{
+    let _ = writeln!(err, "pktkit: {fault}");
+    1
+}
+
+/// Tells why the command line is refused, or the help that it asks for.
+fn refuse<O: Write, E: Write>(refusal: &Error, out: &mut O, err: &mut E) -> u8
+    ensures { result ≤ 2 }
+{
+    if refusal.kind() == clap::error::ErrorKind::OutOfMemory {
+        return tell(Fault::Memory, err);
+    }
+    if refusal.use_stderr() {
+        let _ = write!(err, "{refusal}");
+        return 2;
+    }
+    match write!(out, "{refusal}") {
+        Ok(()) => 0,
+        Err(_) => tell(Fault::Output, err),
+    }
+}
+
+/// Prints the replies to the ring commands of a file, or of the input.
+fn answer_ring<'a, R: Files + AllocGlobal, I: Read + Drop, O: Write>(
+    rt: &R,
+    file: Option<&'a str>,
+    input: I,
+    out: &mut O,
+) -> Result<(), Fault<'a>> {
+    let bytes = read(rt, file, input)?;
+    let mut replies = Vec::new(rt.alloc());
+    let answered = ring_text(rt.alloc(), bytes.as_slice(), &mut replies);
+    print(replies.as_slice(), out)?;
+    well(answered)
+}
+
+/// Prints the replies to the steps of a file.
+fn answer_steps<'a, R: Files + AllocGlobal, I: Read + Drop, O: Write>(
+    rt: &R,
+    file: Option<&'a str>,
+    input: I,
+    out: &mut O,
+) -> Result<(), Fault<'a>> {
+    let bytes = read(rt, file, input)?;
+    let mut replies = Vec::new(rt.alloc());
+    let answered = steps_text(rt.alloc(), bytes.as_slice(), &mut replies);
+    print(replies.as_slice(), out)?;
+    well(answered)
+}
+
+/// What a text is told as that was not answered to its end.
+fn well<'a>(answered: Result<(), TextFault>) -> Result<(), Fault<'a>> {
+    match answered {
+        Ok(()) => Ok(()),
+        Err(fault) => Err(Fault::Text(fault)),
+    }
+}
+
+/// Prints the report of a run over a capture.
+fn answer_run<'a, R: Files + AllocGlobal, T: Threads + Wait + Sync, O: Write>(
+    rt: &R,
+    threads: &T,
+    files: &RunFiles<'a>,
+    out: &mut O,
+) -> Result<(), Fault<'a>>
+where
+    R::File: Send,
+{
+    let report = run_files(rt, threads, files)?;
+    print(report.as_slice(), out)
+}
+
+/// The bytes of a file, or of the input.
+fn read<'a, R: Files + AllocGlobal, I: Read + Drop>(
+    rt: &R,
+    file: Option<&'a str>,
+    mut input: I,
+) -> Result<Vec<u8>, Fault<'a>> {
+    let name = file.unwrap_or(INPUT);
+    let bytes = match file {
+        Some(name) => fs::read(rt, name),
+        None => {
+            let mut bytes = Vec::new(rt.alloc());
+            input.read_to_end(&mut bytes).map(|_| bytes)
+        }
+    };
+    match bytes {
+        Ok(bytes) => Ok(bytes),
+        Err(error) => Err(Fault::of_file(&error, Fault::File(name))),
+    }
+}
+
+/// Writes replies, where there are any.
+fn print<'a, O: Write>(replies: &[u8], out: &mut O) -> Result<(), Fault<'a>> {
+    if replies.is_empty() {
+        return Ok(());
+    }
+    if out.write_all(replies).is_err() || out.flush().is_err() {
+        return Err(Fault::Output);
+    }
+    Ok(())
+}

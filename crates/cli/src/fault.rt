@@ -1,0 +1,87 @@
+//! Why a run of the program ended early: one line on the error stream, after `pktkit: `.
+
+use command_file::TextFault;
+use pcapio::CapFault;
+use settings::SettingsFault;
+use stages::RunFault;
+use std::alloc::AllocError;
+use std::io::{self, ErrorKind};
+use thiserror::Error;
+
+/// Why a run of the program ended early.
+#[derive(Debug, Drop, Error)]
+pub enum Fault<'a> {
+    /// A file that the command line names can't be opened or read.
+    #[error("file {0}")]
+    File(&'a str),
+    /// The file of a port can't be created.
+    #[error("file {0}")]
+    PortFile(String),
+    /// A file of commands wasn't answered to its end.
+    #[error("{0}")]
+    Text(TextFault),
+    /// A document gives no settings.
+    #[error("settings {0}")]
+    Settings(SettingsFault),
+    /// The input of a run is no capture.
+    #[error("capture {0}")]
+    Capture(CapFault),
+    /// The input of a run can't be read.
+    #[error("read")]
+    Read,
+    /// The file of this port can't be written.
+    #[error("write {0}")]
+    Write(u32),
+    /// A thread couldn't be started.
+    #[error("thread")]
+    Thread,
+    /// The input of a run has more records than a number counts.
+    #[error("window")]
+    Window,
+    /// The positions of a ring are used up.
+    #[error("worn")]
+    Worn,
+    /// There was no memory.
+    #[error("memory")]
+    Memory,
+    /// The output can't be written.
+    #[error("output")]
+    Output,
+}
+
+impl<'a> Fault<'a> {
+    /// What is told of a file that can't be opened, created or read, where `fault` tells its name.
+    pub fn of_file(error: &io::Error, fault: Fault<'a>) -> Fault<'a> {
+        match error.kind() {
+            ErrorKind::OutOfMemory => Fault::Memory,
+            _ => fault,
+        }
+    }
+
+    /// What is told of a document that gives no settings.
+    pub fn of_settings(fault: SettingsFault) -> Fault<'a> {
+        match fault {
+            SettingsFault::Memory => Fault::Memory,
+            fault => Fault::Settings(fault),
+        }
+    }
+
+    /// What is told of a run over a capture that has no answer.
+    pub fn of_run(fault: RunFault) -> Fault<'a> {
+        match fault {
+            RunFault::Memory => Fault::Memory,
+            RunFault::Thread => Fault::Thread,
+            RunFault::Read => Fault::Read,
+            RunFault::Write(port) => Fault::Write(port),
+            RunFault::Capture(fault) => Fault::Capture(fault),
+            RunFault::Window => Fault::Window,
+            RunFault::Worn => Fault::Worn,
+        }
+    }
+}
+
+impl From<AllocError> for Fault<'_> {
+    fn from(_error: AllocError) -> Self {
+        Fault::Memory
+    }
+}

@@ -1,0 +1,75 @@
+//! Words that are numbers.
+
+ghost use Rattle.std.specs.Prelude.{◌≡◌, ◌≤◌, length, IsTrue};
+ghost use Rattle.command_file.specs.Text.{number_of, is_digit, is_digits, has_up_to, digits_value};
+
+/// How many digits a number has at most.
+const MAX_DIGITS: usize = 20;
+
+/// As many digits as make a value below 2^64, whatever they are.
+const FEW_DIGITS: usize = 19;
+
+/// A number: 1 to 20 decimal digits with a value below 2^64.
+pub fn number_of(word: &[u8]) -> Option<u64>
+    ensures { result ≡ number_of word.now }
+{
+    if word.len() <= FEW_DIGITS {
+        return short_number(word);
+    }
+    if !is_digits(word) {
+        return None;
+    }
+    u64::try_from(value(word)).ok()
+}
+
+/// Whether a word is 1 to 20 decimal digits.
+fn is_digits(word: &[u8]) -> bool
+    ensures { result ≡ is_digits word.now }
+{
+    let sized = has_up_to(MAX_DIGITS, word);
+    let digits = word.iter().all(|b| is_digit(*b));
+    sized && digits
+}
+
+/// Whether a word has 1 to `most` bytes.
+pub fn has_up_to(most: usize, word: &[u8]) -> bool
+    ensures { result ≡ has_up_to most word.now }
+{
+    !word.is_empty() && word.len() <= most
+}
+
+/// The value of digits, the first one counting most.
+fn value(digits: &[u8]) -> u128
+    requires { IsTrue (is_digits digits.now) }
+    ensures { result ≡ digits_value digits.now }
+{
+    let mut value = 0u128;
+    for digit in digits {
+        value = value * 10 + u128::from(*digit - b'0');
+    }
+    value
+}
+
+/// The number that a word of so few bytes is: each byte is tested and counted in one pass.
+fn short_number(word: &[u8]) -> Option<u64>
+    requires { length word.now ≤ 19 }
+    ensures { result ≡ number_of word.now }
+{
+    if word.is_empty() {
+        return None;
+    }
+    let mut value = 0u64;
+    for digit in word {
+        if !is_digit(*digit) {
+            return None;
+        }
+        value = value * 10 + u64::from(*digit - b'0');
+    }
+    Some(value)
+}
+
+fn is_digit(byte: u8) -> bool
+    ensures { result ≡ is_digit byte }
+{
+    matches!(byte, b'0'..=b'9')
+}

@@ -1,0 +1,37 @@
+//! The words of a line.
+
+ghost use Rattle.std.specs.Prelude.{◌≡◌, OnOk};
+ghost use Rattle.std.specs.Str.Lines.{strip_carriage_return};
+ghost use Rattle.command_file.specs.Text.{texts, words_of, is_skipped};
+
+use std::alloc::AllocError;
+
+/// Makes a list the words of a line: what stands between spaces and tabs.
+pub fn split_words<'a>(line: &'a [u8], words: &mut Vec<&'a [u8]>) -> Result<(), AllocError>
+    ensures { OnOk result (texts words.new.items ≡ words_of line.now) }
+{
+    words.clear();
+    for part in line.split(|b| *b == b' ' || *b == b'\t') {
+        if !part.is_empty() {
+            words.push(part)?;
+        }
+    }
+    Ok(())
+}
+
+/// A line without one 0x0d before its end.
+pub fn without_return(line: &[u8]) -> &[u8]
+    ensures { result.now ≡ strip_carriage_return line.now }
+{
+    line.strip_suffix(b"\r").unwrap_or(line)
+}
+
+/// Whether a line of these words asks for nothing: it has none, or the first begins with `#`.
+pub fn is_skipped(words: &[&[u8]]) -> bool
+    ensures { result ≡ is_skipped (texts words.now) }
+{
+    match words {
+        [] => true,
+        [first, ..] => matches!(first, [b'#', ..]),
+    }
+}

@@ -1,5 +1,0 @@
-use Rattle.pool.specs.Locals.{IsLocalOf}
-use Rattle.fabric_threads.proofs.tests.ways.by_cache.Given as goal
-
-abbrev pub invariant-loop : goal.invariant-loop
-invariant-loop g l = IsLocalOf l.f l.local

@@ -1,0 +1,69 @@
+//! All memory that a process can get, taken by a test, so that every request that follows is refused. For tests alone.
+#![tactic(auto)]
+
+use std::alloc::{AllocError, Global};
+
+/// More pieces than all are: the addresses of a process, by pieces of at most the memory of the machine.
+const PIECES: usize = 262_144;
+
+/// A piece that no process gets, and how often it is halved until pieces are small.
+const LARGEST: usize = 1 << 47;
+
+const HALVINGS: usize = 37;
+
+/// Pieces up to this size are asked for byte by byte, since an allocator keeps small ones that came back for requests
+/// of their own size.
+const SMALL: usize = 2_048;
+
+/// Takes all memory until the answer is dropped. Nothing is written there, so it is addresses that run out, of this
+/// process alone. `None` where requests are served none the less, as in the checked build of `rt try`.
+pub fn exhaust_memory(alloc: Global) -> Result<Option<Vec<Vec<u8>>>, AllocError> {
+    let mut held = Vec::with_capacity(alloc, PIECES)?;
+    let mut size = LARGEST;
+    for _ in 0..HALVINGS {
+        take(alloc, &mut held, size);
+        size /= 2;
+    }
+    for size in (1..SMALL + 1).rev() {
+        take(alloc, &mut held, size);
+    }
+    Ok(if refuses(alloc) { Some(held) } else { None })
+}
+
+/// Takes pieces of one size until one is refused.
+fn take(alloc: Global, held: &mut Vec<Vec<u8>>, size: usize) {
+    for _ in 0..PIECES {
+        let Ok(piece) = Vec::with_capacity(alloc, size) else {
+            return;
+        };
+        if held.push(piece).is_err() {
+            return;
+        }
+    }
+}
+
+/// Whether requests of each of these sizes are refused.
+pub fn refuses(alloc: Global) -> bool {
+    [1, 16, 34, 100, 1_000, 10_000, 65_536]
+        .iter()
+        .all(|size| Vec::<u8>::with_capacity(alloc, *size).is_err())
+}
+
+/// Writes to a mebibyte of the stack, which is more than a test needs: it can't grow any more once all memory is taken.
+/// Gives what was written.
+#[inline(never)]
+pub fn grow_stack() -> u8 {
+    let mut room = [[0u8; 65_536]; 16];
+    touch(&mut room)
+}
+
+/// Writes to each of these bytes, and gives the last.
+#[inline(never)]
+fn touch(room: &mut [[u8; 65_536]]) -> u8 {
+    let mut last = 0u8;
+    for part in room {
+        part.fill(1);
+        last = part.last().copied().unwrap_or(0);
+    }
+    last
+}

@@ -1,6 +1,0 @@
-use Rattle.std.proofs.Common.{◌≡◌, ◌++◌, take}
-use Rattle.steps.specs.Replies.{items_text}
-use Rattle.steps.proofs.reply.list.Given as goal
-
-abbrev pub invariant-loop-item : goal.invariant-loop-item
-invariant-loop-item l = l.text.items ≡ l.initial.text.items ++ items_text (take l.item-index l.items)

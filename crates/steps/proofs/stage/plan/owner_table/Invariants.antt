@@ -1,6 +1,0 @@
-use Rattle.std.proofs.Common.{take}
-use Rattle.steps.specs.Plans.{IsTable}
-use Rattle.steps.proofs.stage.plan.owner_table.Given as goal
-
-abbrev pub invariant-loop-gift : goal.invariant-loop-gift
-invariant-loop-gift l = IsTable l.fn.count l.table.items (take l.gift-index l.gifts)

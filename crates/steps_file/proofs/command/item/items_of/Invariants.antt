@@ -1,0 +1,7 @@
+use Rattle.std.proofs.Common.{◌≡◌, take, Some}
+use Rattle.command_file.specs.Text.{texts}
+use Rattle.steps_file.specs.Forms.{each_of, item_of}
+use Rattle.steps_file.proofs.command.item.items_of.Given as goal
+
+abbrev pub invariant-loop-word : goal.invariant-loop-word
+invariant-loop-word l = each_of item_of (texts (take l.word-index l.words)) ≡ Some l.items.items

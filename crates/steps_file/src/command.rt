@@ -1,0 +1,77 @@
+//! The commands of a steps file, and the forms of their lines.
+
+ghost use Rattle.std.specs.Prelude.{◌≡◌, IfOk};
+ghost use Rattle.command_file.specs.Text.{texts};
+ghost use Rattle.steps_file.specs.Forms.{form_of, actor_form_of};
+
+mod act;
+mod item;
+mod plan_line;
+mod word;
+
+use act::parse_act;
+use geom::RingPlan;
+use plan_line::{parse_actors, parse_give, parse_ring};
+use ringcore_laws::{Numbers, Step};
+use std::alloc::{AllocError, Global};
+use word::{is_word, only_number};
+
+/// A line of the plan that a steps file begins with.
+#[derive(Drop, Debug)]
+pub enum PlanLine {
+    /// `ring KIND N MODE..`: the next ring.
+    Ring(RingPlan),
+    /// `actors N`: how many actors there are.
+    Actors(u64),
+    /// `give A B..`: buffers that an actor holds at the opening.
+    Give(u64, Numbers),
+}
+
+/// What a line of a steps file asks for.
+#[derive(Drop, Debug)]
+pub enum Command {
+    /// A line of the plan.
+    Plan(PlanLine),
+    /// `A VERB ..`: a step of an actor.
+    Act(u64, Step),
+    /// `place B`: the question where a buffer is.
+    Ask(u64),
+}
+
+impl Command {
+    /// The command that these words are, if they have one of the forms.
+    pub fn parse(alloc: Global, words: &[&[u8]]) -> Result<Option<Command>, AllocError>
+        ensures { IfOk result (λ command. command ≡ form_of (texts words.now)) }
+    {
+        let [first, rest @ ..] = words else {
+            return Ok(None);
+        };
+        if is_word(first, b"ring") {
+            return Ok(parse_ring(rest).map(Command::Plan));
+        }
+        if is_word(first, b"actors") {
+            return Ok(parse_actors(rest).map(Command::Plan));
+        }
+        let command = parse_of_actor(alloc, first, rest)?;
+        Ok(command)
+    }
+}
+
+/// A line of an actor, or `place B`.
+fn parse_of_actor(
+    alloc: Global,
+    first: &[u8],
+    rest: &[&[u8]],
+) -> Result<Option<Command>, AllocError>
+    ensures { IfOk result (λ command. command ≡ actor_form_of first.now (texts rest.now)) }
+{
+    if is_word(first, b"give") {
+        let line = parse_give(alloc, rest)?;
+        return Ok(line.map(Command::Plan));
+    }
+    if is_word(first, b"place") {
+        return Ok(only_number(rest).map(Command::Ask));
+    }
+    let command = parse_act(alloc, first, rest)?;
+    Ok(command)
+}
