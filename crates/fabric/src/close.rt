@@ -77,7 +77,7 @@ impl<T: Tagged> Closed<T> {
         requires ring { ring < ring_count self.now }
         ensures { LiesAt self.now ring result }
     {
-        let shape = self.shapes[ring_file];
+        let shape = self.shapes[ring];
         let own = own_word(ring, Side::Take);
         let word = self.table.word(own);
         let put = shape.plan.put;

@@ -271,7 +271,7 @@ impl<T: Tagged, const N: usize> Fabric<T, N> {
         let target = Ring {
             fabric: self,
             index: ring,
-            shape: self.shapes[ring_file],
+            shape: self.shapes[ring],
         };
         match target.start(hand, Side::Put, n, how) {
             Ok((share, place)) => Ok(PutOpen {
@@ -315,7 +315,7 @@ impl<T: Tagged, const N: usize> Fabric<T, N> {
         let target = Ring {
             fabric: self,
             index: ring,
-            shape: self.shapes[ring_file],
+            shape: self.shapes[ring],
         };
         let (share, place) = match target.start(hand, Side::Take, n, how) {
             Ok(started) => started,

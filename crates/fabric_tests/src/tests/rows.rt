@@ -80,7 +80,7 @@ pub(super) fn find_none(f: &Rings, hand: Hand<Ticket>, ring: usize) -> Result<Ha
 }
 
 /// Takes all items of the ring, of these numbers.
-fn exhaust_memory(f: &Rings, hand: Hand<Ticket>, numbers: &[u32]) -> Result<Hand<Ticket>, Wrong>
+fn take_all(f: &Rings, hand: Hand<Ticket>, numbers: &[u32]) -> Result<Hand<Ticket>, Wrong>
     requires hand { IsHandOf f.now hand }
     requires rings { 2 < length (rings_of f.now) }
     ensures { IfOk result (λ h. IsHandOf f.now h) }
@@ -130,7 +130,7 @@ fn put_earlier(
     let other = see_later(f, other, marks, waits)?;
     let hand = settled(f, span, list)?.join(f, other);
     marks.wait_for(ENDED)?;
-    exhaust_memory(f, hand, &[0, 1, 2])
+    take_all(f, hand, &[0, 1, 2])
 }
 
 /// Puts behind the first two positions, by a try call: its settle comes too early, until the other one is settled.
@@ -266,7 +266,7 @@ fn beside_a_peek(
     let Ok(hand) = open.finish(list) else {
         return Err(Wrong("a put isn't finished"));
     };
-    exhaust_memory(f, hand, &[0, 2])
+    take_all(f, hand, &[0, 2])
 }
 
 /// Puts a third item behind two, and peeks: the first is taken, the others are given up, and then taken.

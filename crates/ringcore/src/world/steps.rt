@@ -39,7 +39,7 @@ impl World {
             → a.party.span ≡ m.span
             → result ≡ look_reply (mode_of plan side) l a) }
     {
-        let there = &self.rings[ring_file];
+        let there = &self.rings[ring];
         look(
             &there.plan,
             &there.ring,
@@ -61,7 +61,7 @@ impl World {
             → l.len ≡ (side_words r (other_side side)).tail → a.party.span ≡ m.span → a.observed ≡ m.observed
             → result ≡ room_reply ring side l a)) }
     {
-        room(&self.rings[ring_file].ring, ring, side, &mut self.members[actor])
+        room(&self.rings[ring].ring, ring, side, &mut self.members[actor])
     }
 
     /// Exchanges the own word of a side, if it is the one looked at.
@@ -87,10 +87,10 @@ impl World {
             → result ≡ (if is_some m.span then NoSpan
             else seen_reply plan side how count l m.count (seen_on ring side m.observed))) }
     {
-        let plan = self.rings[ring_file].plan;
+        let plan = self.rings[ring].plan;
         reserve(
             &plan,
-            &mut self.rings[ring_file].ring,
+            &mut self.rings[ring].ring,
             ring,
             side,
             how,
@@ -110,11 +110,11 @@ impl World {
         ensures settled { FoundAt self.old actor ring (λ m plan r. BothSet self.old self.new actor ring (λ n y.
             PutResult plan ring m n r y self.old.places.items self.new.places.items items result)) }
     {
-        let plan = self.rings[ring_file].plan;
+        let plan = self.rings[ring].plan;
         settle_put(
             self.alloc,
             &plan,
-            &mut self.rings[ring_file].ring,
+            &mut self.rings[ring].ring,
             ring,
             items,
             &mut self.members[actor],
@@ -140,11 +140,11 @@ impl World {
             TakeResult plan m n r y self.old.places.items self.new.places.items count x))) }
         ensures memory { OnErr result (IsUnchanged self.old self.new) }
     {
-        let plan = self.rings[ring_file].plan;
+        let plan = self.rings[ring].plan;
         let reply = settle_take(
             self.alloc,
             &plan,
-            &mut self.rings[ring_file].ring,
+            &mut self.rings[ring].ring,
             ring,
             count,
             &mut self.members[actor],
