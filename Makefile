@@ -19,7 +19,7 @@ help:
 	@echo 'make build      proves pktkit and what it stands on, and builds it: 35 to 75 minutes, then what has changed'
 	@echo 'make install    make build; the program, its man page and completions go below PREFIX ($(PREFIX)): seconds'
 	@echo 'make uninstall  removes these again: at once'
-	@echo 'make test       the merge gate: every proof from nothing, must-fail edits, tests, programs, documents: some 280 minutes'
+	@echo 'make test       the merge gate: every proof from nothing, must-fail edits, tests, programs, documents: some hours'
 	@echo 'make bench      measures one part beside its yardstick, NAME=$(NAME): minutes, on a quiet machine'
 	@echo
 	@echo 'Minutes are of one processor; several work side by side where there are several. What can be set, as in'
