@@ -19,7 +19,7 @@ help:
 	@echo 'make build      proves pktkit and what it stands on, and builds it: 35 to 75 minutes, then what has changed'
 	@echo 'make install    make build; the program, its man page and completions go below PREFIX ($(PREFIX)): seconds'
 	@echo 'make uninstall  removes these again: at once'
-	@echo 'make test       the merge gate: every proof from nothing, must-fail edits, tests, programs, documents: some 280 minutes'
+	@echo 'make test       the merge gate: every proof from nothing, must-fail edits, tests, programs, documents: some hours'
 	@echo 'make bench      measures one part beside its yardstick, NAME=$(NAME): minutes, on a quiet machine'
 	@echo
 	@echo 'Minutes are of one processor; several work side by side where there are several. What can be set, as in'
@@ -41,18 +41,20 @@ compare:
 	@for port in $(OUT).alone.*.pcap; do cmp $$port $(OUT)$${port#$(OUT).alone} || exit 1; done
 	@echo "compare: by one thread the same bytes at each port"
 
-# The merge gate: every proof from nothing, the must-fail edits, the tests and the programs; and then the commands of
-# the documents, with the program that was proved there.
+# The merge gate: every proof from nothing, the must-fail edits, the tests and the programs; and then, with the program
+# that was proved there, runs that are refused memory, and the commands of the documents.
 test:
 	rt ci
+	PKTKIT=$(CURDIR)/crates/pktkit/out/pktkit tools/try-memory
 	PKTKIT=$(CURDIR)/crates/pktkit/out/pktkit tools/try-docs
 
-# Proves pktkit and what it stands on, and leaves the program in crates/pktkit/out. The program names the toolchain that
-# proved its source, so another one has to be written there first.
+# Proves pktkit and what it stands on, and leaves the program in crates/pktkit/out. The program names the logic that its
+# source was proved with. A toolchain of another logic proves it anew, and may not accept each proof.
+build: LOGIC = $(lastword $(shell rt version))
 build:
+	@grep -qF '$(LOGIC)' crates/cli/src/help.rt || \
+	  echo "make build: this toolchain's logic is $(LOGIC), and crates/cli/src/help.rt names another one" >&2
 	cd crates/pktkit && rt run < /dev/null > /dev/null
-	@crates/pktkit/out/pktkit --version | grep -qF "$$(rt version)" || { \
-	  echo "make build: VERSION in crates/cli/src/help.rt doesn't name this toolchain, $$(rt version)" >&2; exit 1; }
 
 install: build
 	install -D -m 755 crates/pktkit/out/pktkit $(BIN)/pktkit
