@@ -26,6 +26,7 @@ mod table;
 pub use entry::Entry;
 pub use fault::RouteFault;
 pub use next_hop::NextHop;
+pub use prefix::Prefix;
 pub use table::Table;
 
 #[cfg(test)]
