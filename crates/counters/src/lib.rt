@@ -9,6 +9,3 @@ mod row;
 
 pub use counts::Counts;
 pub use laws::parts_add_up;
-
-#[cfg(test)]
-mod tests;

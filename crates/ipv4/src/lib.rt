@@ -5,7 +5,7 @@
 //! `specs/Forwarding.antt`: a table of drops, and the frame as it leaves. `verdict` and `forward` both answer by it, so
 //! that what one tells the other does.
 //!
-//! A caller, proved in `example.rt`: the two verdicts are the same.
+//! A caller, proved in lookup_tests (`told_and_done`): the two verdicts are the same.
 //!
 //! ```text
 //! let told = verdict(table, ports, chain, wire);
@@ -29,8 +29,3 @@ pub use checksum::sum16;
 pub use laws::{a_sent_frame_is_right, a_sent_frame_is_sent_again};
 pub use ports::{Hop, Ports};
 pub use verdicts::{Reason, Verdict};
-
-#[cfg(test)]
-mod example;
-#[cfg(test)]
-mod tests;

@@ -19,7 +19,4 @@ pub mod Lookups
 pub mod Shows
 pub mod Rights
 pub mod Shallow
-pub mod Listing
-pub mod Sole
 pub mod Rows
-pub mod Joined

@@ -2,7 +2,6 @@ pub mod TableEntry
 pub mod Fault
 pub mod Groups
 pub mod Allocated
-pub mod Listed
 pub mod Match
 pub mod TwoLevels
 pub mod Prefixes

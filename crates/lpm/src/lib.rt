@@ -2,7 +2,7 @@
 //! below it, so that a lookup is one or two loads. Contracts see a table as the finite map of its members, from
 //! prefixes to next hops.
 //!
-//! A caller, proved in `example.rt`: the one route of a table decides over the address that it was added with, so
+//! A caller, proved in lookup_tests (`sole_route`): the one route of a table decides over the address that it was added with, so
 //! `found` is `Some(hop)`.
 //!
 //! ```text
@@ -26,11 +26,5 @@ mod table;
 pub use entry::Entry;
 pub use fault::RouteFault;
 pub use next_hop::NextHop;
+pub use prefix::Prefix;
 pub use table::Table;
-
-#[cfg(test)]
-mod example;
-#[cfg(test)]
-mod plain;
-#[cfg(test)]
-mod tests;

@@ -1,0 +1,18 @@
+//! A caller, proved like the rest: two items that come in the wrong order leave in the right one.
+ghost use Rattle.std.specs.Prelude.{◌≡◌, IfOk, Some};
+
+use reorder::Window;
+use std::alloc::{AllocError, Global};
+
+/// The items of numbers 0 and 1, as they leave the window. Number 1 comes first. Both numbers are free when their items
+/// come, so neither `unwrap` can fail, which the check proves.
+pub fn in_turn(alloc: Global, zero: u32, one: u32) -> Result<(Option<u32>, Option<u32>), AllocError>
+    ensures { IfOk result (λ given. given ≡ (Some zero, Some one)) }
+{
+    let mut window = Window::new(alloc, 2)?;
+    window.insert(1, one).unwrap();
+    window.insert(0, zero).unwrap();
+    let first = window.pop();
+    let second = window.pop();
+    Ok((first, second))
+}
