@@ -1,4 +1,4 @@
-//! The program on worked captures and files at fault, and on each fault and status.
+//! The program on devices that fail, and where memory is refused.
 
 use cli::program;
 use std::alloc::{AllocError, Global};
@@ -8,10 +8,8 @@ use std::thread::Threads;
 
 mod captures;
 mod faults;
-mod help;
 mod no_memory;
 mod run_faults;
-mod run_rows;
 mod starved;
 
 /// What a run left.

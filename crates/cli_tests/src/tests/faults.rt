@@ -1,9 +1,6 @@
-//! Files, and devices that fail.
+//! Devices that fail.
 
-use super::captures::is_at_fault;
-use super::run;
 use cli::program;
-use std::fs;
 use std::io::{self, ErrorKind, Read, Write};
 use std::process::Abort;
 use std::rt::Files;
@@ -47,35 +44,6 @@ impl Write for Stuck {
 
 fn text(bytes: &Vec<u8>) -> Option<&str> {
     std::str::from_utf8(bytes.as_slice()).ok()
-}
-
-#[test]
-fn a_file_of_commands(rt: HostRuntime) -> Result<(), Fail> {
-    let name = "pktkit_a_file_of_commands.ring";
-    fs::write(&rt, name, "ring exact 2\ncount\n")?;
-    let ran = run(&rt, &["ring", name], b"")?;
-    fs::remove_file(&rt, name)?;
-    assert_eq!(rt;
-        (ran.status, text(&ran.out)),
-        (0, Some("ring size 4 capacity 2\ncount 0 free 2\n"))
-    );
-    assert_eq!(rt; text(&ran.err), Some(""));
-    Ok(())
-}
-
-#[test]
-fn a_file_that_is_not_there(rt: HostRuntime) -> Result<(), Fail> {
-    // A folder can't be read.
-    let cases: [(&[&str], &str); 3] = [
-        (&["ring", "no/such/file"], "pktkit: file no/such/file\n"),
-        (&["steps", "no/such/file"], "pktkit: file no/such/file\n"),
-        (&["ring", "."], "pktkit: file .\n"),
-    ];
-    for (words, line) in cases {
-        let ran = run(&rt, words, b"count\n")?;
-        is_at_fault(&rt, &ran, line);
-    }
-    Ok(())
 }
 
 #[test]
