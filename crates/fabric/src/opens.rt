@@ -113,7 +113,7 @@ impl<'f, T: Tagged, const N: usize> TakeSpan<'f, T, N> {
         requires shows { items.old ≡ (take_view self).shown }
         ensures done { IfOk result (λ h. HasTaken self.entry k items.old h × (items.new ≡ take k items.old)) }
         ensures refused { IfErr result (λ e. SameTake self.entry e.0 × (items.new ≡ items.old)
-            × RefusesTake T.numbers self.entry k items.old e.0 e.1) }
+            × RefusesTake T.numbers self.entry k e.0 e.1) }
         ensures kept { IfErr result (λ e. IsKept (take_view self.entry) (take_view e.0)) }
         ensures apart { IfOk result (λ _. AreDistinct (flat_map T.numbers items.new)) }
         ensures named { IfErr result (λ e. e.1 ≡ NotYours → ⊥) }

@@ -74,7 +74,7 @@ impl<T> Split<View<T>> for Halves {
     ghost right = { split_off };
 }
 
-/// Learn: a load by which nothing changes.
+/// Learn: a load that is no step of a start or a settle. It is counted by itself.
 pub struct Learns;
 
 impl<T: Tagged> Play<Option<T>, View<T>> for Learns {

@@ -111,7 +111,7 @@ impl<'f, T: Tagged, const N: usize> TakeOpen<'f, T, N> {
         ensures done { IfOk result (λ h. HasTaken self.entry.span k self.entry.items h.0
             × (h.1 ≡ take k self.entry.items)) }
         ensures refused { IfErr result (λ e. SameTake self.entry.span e.0.span × (e.0.items ≡ self.entry.items)
-            × RefusesTake T.numbers self.entry.span k self.entry.items e.0.span e.1) }
+            × RefusesTake T.numbers self.entry.span k e.0.span e.1) }
         ensures kept { IfErr result (λ e. IsKept (take_view self.entry.span) (take_view e.0.span)) }
         ensures apart { IfOk result (λ h. AreDistinct (flat_map T.numbers h.1)) }
         ensures named { IfErr result (λ e. e.1 ≡ NotYours → ⊥) }

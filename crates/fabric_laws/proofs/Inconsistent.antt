@@ -50,6 +50,7 @@ hand parts plans pool party shown observed = record {
   observed = observed;
   lost = None;
   steps = 0;
+  loads = 0;
   parts = parts;
   plans = plans;
   pool = pool;

@@ -15,6 +15,7 @@ use Rattle.ringcore_laws.specs.Sound.{SoundRing}
 use Rattle.ringcore_laws.proofs.RingLaws.{below_or_not, length-listed}
 use Rattle.fabric_laws.specs.declared.view.View.{View}
 use Rattle.fabric_laws.specs.Rule.{IsConsistent, parties_of_views}
+use Rattle.fabric_laws.specs.Changes.{loaded}
 use Rattle.fabric_laws.specs.Kinds.{IsApart, IsHeldOnce, learn_tells}
 use Rattle.fabric_laws.proofs.Closing.{whole}
 use Rattle.fabric_laws.proofs.Cells.{get_left}
@@ -116,11 +117,13 @@ module _ {T : Type 0} (tags : T → List ℕ) (plans : List RingPlan) (pool : �
   pub learns : (slots id word : ℕ) (me : Me (Option T) (View T)) → 0 < me.0.parts
       → Allows (IsConsistent tags plans pool) slots id me word (λ n. n) (learn_tells tags (step slots word 0 0 none) me)
   learns slots id word me alive s c _ here _ =
-      let told = c.told id me.0 here alive in (
-        me.0,
+      let told = c.told id me.0 here alive in
+      let k = c.views id me.0 here in (
+        loaded me.0,
         keeps,
         tt,
-        stays tags plans pool s c word id me.0 me.0 here alive refl refl refl refl (c.views id me.0 here),
+        stays tags plans pool s c word id me.0 (loaded me.0) here alive refl refl refl refl
+            record { observed = k.observed; shown = k.shown; ends = k.ends },
         (
           refl,
           refl,

@@ -101,8 +101,7 @@ module _ {T : Type 0} (tags : T → List ℕ) (plans : List RingPlan) (pool : �
   unfolding listed
   free_alone = record {
     singles = λ r plan at free.
-        subst (λ (z : RingSide T × RingSide T). list_all (λ x. length (tags x) == 1) (drop z.1.len (listed z.0)) ≡ true)
-        (λ k. (sym (side_empty r Put) k, sym (side_empty r Take) k)) refl;
+        subst (λ (z : RingSide T). list_all (λ x. length (tags x) == 1) (listed z) ≡ true) (sym (side_empty r Put)) refl;
     few = few;
   }
     where

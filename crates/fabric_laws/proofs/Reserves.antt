@@ -32,7 +32,7 @@ use Rattle.ringcore_laws.proofs.RingLaws.{length-listed, reserved_on, takes_le_p
 use Rattle.ringcore_laws.proofs.Laws.{off_put, off_ring, off_take, on_own, reserve_keeps, reserved_other, reserved_own, same_listed, same_or_not, same_plan}
 use Rattle.ringcore_laws.proofs.HeadTailLaws.{IsNext, next_above, on_or_off, orderly_reserved, other_side_reserved}
 use Rattle.ringcore_laws.proofs.HistoryLaws.{is_next}
-use Rattle.ringcore_laws.proofs.FreeKept.{free_opened}
+use Rattle.ringcore_laws.proofs.FreeKept.{free_opened, singles_drop}
 use Rattle.fabric_laws.specs.declared.view.View.{View}
 use Rattle.fabric_laws.specs.Rule.{AreWords, AtHome, IsConsistent, IsTrueView, parties_of_views}
 use Rattle.fabric_laws.specs.Words.{own_at, slot_at, tail_at}
@@ -398,7 +398,8 @@ module _ {T : Type 0} (tags : T → List ℕ) (plans : List RingPlan) (pool : �
                   λ j. reserved record { ring = to j; side = Take; start = position_of (is j).take o.looked_at; count = count j } items v,
                   takes_carried me.1 (run slot start ys) ∙ (λ j. run (slot_at (sym told j) (to j) (is j)) (position_of (is j).take o.looked_at) ys ++ me.1),
                   λ free. singles_queued tags n start (side_of (parties_of_views s.views) r Take).len published first.0
-                      (c.free.singles r plan at (ap (λ (p : RingPlan). p.free) is ∙ free)),
+                      (singles_drop tags (side_of (parties_of_views s.views) r Take).len published
+                      (c.free.singles r plan at (ap (λ (p : RingPlan). p.free) is ∙ free))),
                 ),
                 λ miss. absurd (miss hit),
               ),

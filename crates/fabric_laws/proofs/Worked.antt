@@ -17,7 +17,7 @@ use Rattle.ringcore_laws.proofs.Rows.{ring}
 use Rattle.ringcore_laws.proofs.WornRows.{span}
 use Rattle.ringcore_laws.proofs.Unsound.{quiet, busy, done}
 use Rattle.fabric_laws.specs.declared.view.View.{View}
-use Rattle.fabric_laws.specs.Changes.{asked, both, kept, missed, reserved, settled, split_off, view_after_look}
+use Rattle.fabric_laws.specs.Changes.{asked, both, kept, loaded, missed, reserved, settled, split_off, view_after_look}
 use Rattle.fabric_laws.specs.Closing.{end_left, first_left, left_items, reach_of}
 use Rattle.fabric_laws.specs.Kinds.{cells_of, moved_by, run}
 use Rattle.fabric_laws.specs.Refusals.{room_on}
@@ -56,6 +56,7 @@ hand party shown observed lost steps parts = record {
   observed = observed;
   lost = lost;
   steps = steps;
+  loads = 0;
   parts = parts;
   plans = two;
   pool = 2;
@@ -102,6 +103,10 @@ splits_second = refl
 pub joins : both before (hand (quiet (0 ∷ []) (done Put 2 (Word 8 ∷ []) ∷ [])) [] None None 2 1)
     ≡ hand (quiet (1 ∷ 0 ∷ []) (done Put 2 (Word 8 ∷ []) ∷ [])) [] (Some old_look) (Some 3) 7 7
 joins = refl
+
+-- a load that is no step is counted by itself, and a join adds up both counts
+pub loads : (loaded before).loads ∷ (loaded before).steps ∷ (both (loaded before) (loaded (loaded before))).loads ∷ [] ≡ 1 ∷ 5 ∷ 3 ∷ []
+loads = refl
 
 -- 3. What slots hold as a span is settled: of a put of 1 item in 3 positions, and of a take of the first of 3
 

@@ -43,6 +43,10 @@ module _ {T : Type 0} where
   abbrev pub settled : Span → List T → View T → View T
   settled span items v = record v { party = with_settled v.party span items; shown = []; steps = v.steps + 1 }
 
+  -- a load that is no step: nothing else changes
+  abbrev pub loaded : View T → View T
+  loaded v = record v { loads = v.loads + 1 }
+
   -- a hand that knows nothing yet: these buffers are its own
   abbrev pub newborn : List RingPlan → ℕ → ℕ → List ℕ → View T
   newborn plans pool parts given = record {
@@ -51,6 +55,7 @@ module _ {T : Type 0} where
     observed = None;
     lost = None;
     steps = 0;
+    loads = 0;
     parts = parts;
     plans = plans;
     pool = pool;
@@ -66,7 +71,13 @@ module _ {T : Type 0} where
   -- two hands made one, and what is left of the second
   abbrev pub both : View T → View T → View T
   both v w =
-      record v { party = joined v.party w.party; shown = []; steps = v.steps + w.steps; parts = v.parts + w.parts }
+      record v {
+        party = joined v.party w.party;
+        shown = [];
+        steps = v.steps + w.steps;
+        loads = v.loads + w.loads;
+        parts = v.parts + w.parts;
+      }
 
   abbrev pub spent : View T
   spent = newborn [] 0 0 []

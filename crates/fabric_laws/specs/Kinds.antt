@@ -23,7 +23,7 @@ use Rattle.ringcore_laws.specs.History.{other_side, position_of}
 use Rattle.fabric_laws.specs.declared.view.View.{View}
 use Rattle.fabric_laws.specs.Rule.{all_parts}
 use Rattle.fabric_laws.specs.Words.{own_at, settled_word_at, slot_at, tail_at}
-use Rattle.fabric_laws.specs.Changes.{view_after_look, asked, missed, reserved, settled}
+use Rattle.fabric_laws.specs.Changes.{view_after_look, asked, loaded, missed, reserved, settled}
 use Rattle.fabric_laws.specs.Closing.{IsWhole}
 
 -- slots of positions from p on, with these values
@@ -138,11 +138,12 @@ module _ {T : Type 0} where
     pub same : (r p : ℕ) (plan : RingPlan) (x y : T) → slice_get plans r ≡ Some plan
         → party_items r Put p party ≡ x ∷ [] → party_items r Take p party ≡ y ∷ [] → x ≡ y
 
-  -- Learn: a load of any word, uncounted, by which a hand learns that what it holds doesn't clash, that it has no more
-  -- parts than there are, and that it is the only one where it has all. Nothing changes
+  -- Learn: a load of any word, by which a hand learns that what it holds doesn't clash, that it has no more parts than
+  -- there are, and that it is the only one where it has all. It is counted with the loads, not with the steps, and
+  -- nothing else changes
   abbrev pub learn_tells : (T → List ℕ) → Step (Option T) → Me (Option T) (View T) → ℕ → Me (Option T) (View T) → Type 0
   learn_tells tags st m x m' =
-      (m'.0 ≡ m.0) × (m'.1 ≡ m.1) × IsHeldOnce tags m.0.pool m.0.party × IsApart m.0.plans m.0.party
+      (m'.0 ≡ loaded m.0) × (m'.1 ≡ m.1) × IsHeldOnce tags m.0.pool m.0.party × IsApart m.0.plans m.0.party
       × (m.0.parts ≤ all_parts) × IsWhole tags m.0
 
   -- Settle of a multi side: an exchange of its tail, by which the slots of the span go home. Lost, it found that an

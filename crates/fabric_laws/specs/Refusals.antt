@@ -36,7 +36,7 @@ module _ {T : Type 0} where
       × (other.party.span ≡ Some span) × (span.ring ≡ own.ring) × (span.side ≡ own.side) × (span.start < own.start)
 
 module _ {T : Type 0} (tags : T → List ℕ) where
-  -- the moment of a step: all was consistent, the hand had this view, and this word was x
+  -- a moment at which a step may have been made: all is consistent, the hand has this view, and this word is x
   pub record Was (v : View T) (word x : ℕ) : Type 0 where
     pub state : State (Option T) (View T)
     pub id : ℕ
@@ -44,7 +44,7 @@ module _ {T : Type 0} (tags : T → List ℕ) where
     pub here : get_elem? state.views id ≡ some v
     pub found : slice_index state.words word ≡ x
 
-  -- what a kind of step tells, and the moment at which it found its word
+  -- what a kind of step tells, and a moment at which it may have found its word
   abbrev pub and_was : (Step (Option T) → Me (Option T) (View T) → ℕ → Me (Option T) (View T) → Type 0)
       → Step (Option T) → Me (Option T) (View T) → ℕ → Me (Option T) (View T) → Type 0
   and_was tells st m x m' = tells st m x m' × Was m.0 st.word x

@@ -17,6 +17,9 @@ pub struct View<T> {
     pub lost: Option<u64>,
     /// How many steps on words the hand has made.
     pub steps: u64,
+    /// How many loads it has made beside them: one for each join, and one each time it asked for what it has to be
+    /// told. A start or a settle makes none.
+    pub loads: u64,
     /// Its parts of the whole. A hand that was joined to another has none left.
     pub parts: u64,
     /// The rings of its fabric, and the number of all buffers.

@@ -58,7 +58,7 @@ module _ {T : Type 0} (tags : T → List ℕ) (most : ℕ) (how : How) (n ring :
       → w.pool ≡ v.pool
   pool_before v [] w is = ap (λ u. u.pool) is
   pool_before v (start ∷ before) w is =
-      (refused_kept tags most how n ring side plan start.0 w start.1 is.0).pool ∙ pool_before v before start.0 is.1
+      (refused_kept tags most how n ring side plan start.0 w start.1 is.0).pool ∙ pool_before v before start.0 is.2
 
   -- refused starts leave the hand as many buffers as it had
   pub had_before : (v : View T) (starts : List (View T × StartFault)) (w : View T) → RefusedStarts tags most how n ring side plan v starts w

@@ -93,7 +93,7 @@ module _ {T : Type 0} {G : Ghosts T} (N : ℕ) (tags : T → List ℕ) (how : Ho
       let before = told.2 in (
         (before.2, e) ∷ told.0,
         [],
-        put_after (view h) ((before.2, e) ∷ told.0) answer rest before.0 (refused_yours h (Start e) had open_still told) (before.4, before.3)
+        put_after (view h) ((before.2, e) ∷ told.0) answer rest before.0 (refused_yours h (Start e) had open_still told) (before.4, open_still, before.3)
             (subst (λ l. PutTells tags how ring plan (view h) l [] [] answer rest) before.1 is),
       )
 

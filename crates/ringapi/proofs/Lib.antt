@@ -3,3 +3,4 @@ pub mod Tries
 pub mod Putting
 pub mod Again
 pub mod Taking
+mod Rows

@@ -22,7 +22,7 @@ use Rattle.fabric.proofs.Told.{refused_kept, worn_at}
 use Rattle.ringapi.specs.declared.answers.TakeAnswer.{TakeAnswer}
 use Rattle.ringapi.specs.declared.answers.TakeAnswer.TheVariants.{Done, Refused, Open}
 use Rattle.ringapi.specs.Takes.{IsTakeOf, SettlesTake, TakeHasTold, TakeSettles, TakeTells}
-use Rattle.ringapi.specs.Views.{IsReserved, RefusedStarts}
+use Rattle.ringapi.specs.Views.{IsReserved, PassesBy, RefusedStarts}
 use Rattle.ringapi.proofs.Again.{reserved_after}
 use Rattle.ringapi.proofs.Putting.{whole_count}
 use Rattle.ringapi.proofs.Tries.{moved_settles, reserved_settles, settle_again, starts_kept}
@@ -121,11 +121,12 @@ module _ {T : Type 0} {G : Ghosts T} (N : ℕ) (tags : T → List ℕ) (how : Ho
   abbrev pub refused_take : Hand T G → StartFault → TakeAnswer T N G
   refused_take h e = Refused h e
 
-  pub take_again : (h : Hand T G) (e : StartFault) (had items : List T) (answer : TakeAnswer T N G) → TakeHasTold tags how n ring plan v (refused_take h e) had
-      → TakeTells tags how n ring plan (view h) [] [] answer items → TakeHasTold tags how n ring plan v answer items
-  take_again h e had items answer told is =
+  pub take_again : (h : Hand T G) (e : StartFault) (had items : List T) (answer : TakeAnswer T N G) → PassesBy e
+      → TakeHasTold tags how n ring plan v (refused_take h e) had → TakeTells tags how n ring plan (view h) [] [] answer items
+      → TakeHasTold tags how n ring plan v answer items
+  take_again h e had items answer open_still told is =
       let before = told.2 in
-      ((before.1, e) ∷ told.0, [], take_after (view h) ((before.1, e) ∷ told.0) answer items (before.3, before.2) is)
+      ((before.1, e) ∷ told.0, [], take_after (view h) ((before.1, e) ∷ told.0) answer items (before.3, open_still, before.2) is)
 
   pub settle_more : (o : TakeSpan T N G) (tail : ℕ) (had items : List T) (answer : TakeAnswer T N G) → (take_span o).ring ≡ ring
       → o.ring.shape.plan ≡ plan → TakeHasTold tags how n ring plan v (Open o tail) had → SettlesTake tags o had answer items

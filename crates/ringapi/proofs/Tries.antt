@@ -25,7 +25,7 @@ module _ {T : Type 0} (tags : T → List ℕ) (most : ℕ) (how : How) (n ring :
       → w.party ≡ v.party
   starts_kept v [] w is = ap (λ u. u.party) is
   starts_kept v (start ∷ before) w is =
-      (refused_kept tags most how n ring side plan start.0 w start.1 is.0).party ∙ starts_kept v before start.0 is.1
+      (refused_kept tags most how n ring side plan start.0 w start.1 is.0).party ∙ starts_kept v before start.0 is.2
 
   module _ (v : View T) (starts : List (View T × StartFault)) (start count left : ℕ) (shown : List T) where
     pub reserved_party : (tails : List ℕ) (w : View T) → IsReserved tags most how n ring side plan v starts start count left shown tails w

@@ -1,4 +1,4 @@
--- What the refusal of a whole call says of the spans of all hands, as the step that was refused was made
+-- What the refusal of a whole call says of the spans of all hands, in a state that the step that was refused fits
 use Rattle.std.specs.Prelude.{◌≡◌, ⊤, ℕ, List}
 use Rattle.geom.specs.declared.plan.RingPlan.{RingPlan}
 use Rattle.geom.specs.declared.plan.Side.TheVariants.{Put, Take}

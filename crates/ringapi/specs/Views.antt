@@ -47,11 +47,12 @@ module _ {T : Type 0} where
   refused_settles (tail ∷ before) v = missed tail (refused_settles before v)
 
 module _ {T : Type 0} (tags : T → List ℕ) (most : ℕ) (how : How) (n ring : ℕ) (side : Side) (plan : RingPlan) where
-  -- starts that were refused, one after the other, each with the view that it had: the last of them stands first
+  -- starts that were refused and tried again, one after the other, each with the view that it had: the last of them
+  -- stands first. Each found another span in its way (Busy, Contended); NoRoom, Worn and BadCount are never tried again
   abbrev pub RefusedStarts : View T → List (View T × StartFault) → View T → Type 0
   RefusedStarts v [] w = w ≡ v
   RefusedStarts v (start ∷ before) w =
-      RefusesStart tags most how n ring side plan start.0 w start.1 × RefusedStarts v before start.0
+      RefusesStart tags most how n ring side plan start.0 w start.1 × PassesBy start.1 × RefusedStarts v before start.0
 
   -- a span is reserved, after these starts and settles that were refused
   pub record IsReserved (v : View T) (starts : List (View T × StartFault)) (start count left : ℕ) (shown : List T)

@@ -198,7 +198,7 @@ impl<'f, T: Tagged, const N: usize> PeekSpan<'f, T, N> {
         requires shows { items.old ≡ (take_view self.span).shown }
         ensures done { IfOk result (λ h. HasTaken self.entry.span k items.old h × (items.new ≡ take k items.old)) }
         ensures refused { IfErr result (λ e. SameTake self.entry.span e.0.span × (items.new ≡ items.old)
-            × RefusesTake T.numbers self.entry.span k items.old e.0.span e.1) }
+            × RefusesTake T.numbers self.entry.span k e.0.span e.1) }
         ensures named { IfErr result (λ e. e.1 ≡ BadCount) }
     {
         match self.span.try_settle_into(k, items) {
@@ -238,7 +238,7 @@ impl<'f, T: Tagged, const N: usize> PeekTake<'f, T, N> {
             × (h.1 ≡ take k self.entry.items)) }
         ensures refused { IfErr result (λ e. SameTake self.entry.peek.span e.0.peek.span
             × (e.0.items ≡ self.entry.items)
-            × RefusesTake T.numbers self.entry.peek.span k self.entry.items e.0.peek.span e.1) }
+            × RefusesTake T.numbers self.entry.peek.span k e.0.peek.span e.1) }
         ensures named { IfErr result (λ e. e.1 ≡ BadCount) }
     {
         let PeekTake { peek, mut items } = self;

@@ -12,12 +12,12 @@ use Rattle.ringcore_laws.specs.declared.party.Party.{Party}
 use Rattle.ringcore_laws.specs.Party.{joined, newcomer, with_open, with_settled}
 use Rattle.ringcore_laws.specs.Moves.{reserved_by, settled_by}
 use Rattle.ringcore_laws.specs.RingSide.{RingSide, side_of, listed}
-use Rattle.ringcore_laws.specs.Sound.{Sound, SoundRing, holds, moved, queue}
+use Rattle.ringcore_laws.specs.Sound.{Sound, SoundRing, holds, moved}
 use Rattle.ringcore_laws.specs.FreeRings.{AreSingle, FreeRule, buffers_had}
 use Rattle.ringcore_laws.proofs.SideLaws.{reserves, settles_side_of, side_of_newcomer}
-use Rattle.ringcore_laws.proofs.Laws.{joined_by, joined_sides, off_ring, same_or_not, same_plan, same_queue, settled_other}
+use Rattle.ringcore_laws.proofs.Laws.{joined_by, joined_sides, off_put, off_ring, same_listed, same_or_not, same_plan, settled_other}
 use Rattle.ringcore_laws.proofs.Lists.{each_push, each_set}
-use Rattle.ringcore_laws.proofs.Queues.{put_queue, take_queue}
+use Rattle.ringcore_laws.proofs.Queues.{put_listed}
 
 pub both_true : (b c : Bool) → (b && c) ≡ true → (b ≡ true) × (c ≡ true)
 both_true true c h = (refl, h)
@@ -29,7 +29,7 @@ module _ {I : Type 0} (tags : I → List ℕ) where
       list_all-append (λ x. length (tags x) == 1) xs ys
       ∙ (ap (λ v. v && list_all (λ x. length (tags x) == 1) ys) one ∙ two)
 
-  singles_drop : (n : ℕ) (xs : List I) → AreSingle tags xs → AreSingle tags (drop n xs)
+  pub singles_drop : (n : ℕ) (xs : List I) → AreSingle tags xs → AreSingle tags (drop n xs)
   singles_drop zero xs all = all
   singles_drop (suc n) [] all = all
   singles_drop (suc n) (x ∷ xs) all = singles_drop n xs (both_true (length (tags x) == 1) (list_all (λ y. length (tags y) == 1) xs) all).1
@@ -50,8 +50,9 @@ module _ {I : Type 0} (tags : I → List ℕ) where
         → FreeRule tags plans pool (reserved_by parties i d span)
     free_opened i d span plan lt idle there few = record {
       singles = λ r plan' at free.
-          subst (AreSingle tags) (sym (same_queue tags parties (reserved_by parties i d span) r
-          (λ s. (reserves parties i d span r s lt idle).items_at) (λ s. (reserves parties i d span r s lt idle).len))) (rule.singles r plan' at free);
+          let put = reserves parties i d span r Put lt idle in
+          subst (AreSingle tags) (sym (same_listed (side_of (reserved_by parties i d span) r Put) (side_of parties r Put) put.items_at put.len))
+          (rule.singles r plan' at free);
       few = each_set (Few plans pool) parties i (with_open (slice_index_or parties i d) span) rule.few new;
     }
       where
@@ -88,42 +89,37 @@ module _ {I : Type 0} (tags : I → List ℕ) where
             (settles_side_of parties i d span record { ring = span.ring; side = span.side; start = span.start; items = items } r side lt busy)
             (off_ring span.ring r span.side side apart)
 
-        here : plan.free ≡ true → (s : Side) → span.side ≡ s → AreSingle tags (queue after span.ring)
+        here : plan.free ≡ true → (s : Side) → span.side ≡ s → AreSingle tags (listed (side_of after span.ring Put))
         here free Put put =
             let own : Span = record { ring = span.ring; side = Put; start = span.start; count = span.count } in
             let is : span ≡ own = λ j. record { ring = span.ring; side = put j; start = span.start; count = span.count } in
-            let q = put_queue plan.geometry parties i d span.ring span.start span.count items ring_sound lt (busy ∙ ap (λ (v : Span). Some v) is)
+            let q = put_listed plan.geometry parties i d span.ring span.start span.count items ring_sound lt (busy ∙ ap (λ (v : Span). Some v) is)
             (first ∙ ap (λ v. (side_of parties span.ring v).len) put) in
-            subst (λ (v : Span). AreSingle tags (queue (settled_by parties i d v items) span.ring)) (sym is)
-            (subst (AreSingle tags) (sym q) (singles_append (queue parties span.ring) items (rule.singles span.ring plan there free) (single put free)))
+            subst (λ (v : Span). AreSingle tags (listed (side_of (settled_by parties i d v items) span.ring Put))) (sym is)
+            (subst (AreSingle tags) (sym q) (singles_append (listed (side_of parties span.ring Put)) items (rule.singles span.ring plan there free)
+            (single put free)))
         here free Take taking =
             let own : Span = record { ring = span.ring; side = Take; start = span.start; count = span.count } in
             let is : span ≡ own = λ j. record { ring = span.ring; side = taking j; start = span.start; count = span.count } in
-            let q = take_queue plan.geometry parties i d span.ring span.start span.count items ring_sound lt (busy ∙ ap (λ (v : Span). Some v) is)
-            (first ∙ ap (λ v. (side_of parties span.ring v).len) taking) in
-            subst (λ (v : Span). AreSingle tags (queue (settled_by parties i d v items) span.ring)) (sym is)
-            (subst (AreSingle tags) (sym q) (singles_drop (length items) (queue parties span.ring) (rule.singles span.ring plan there free)))
+            let own_busy : (slice_index_or parties i d).span ≡ Some own = busy ∙ ap (λ (v : Span). Some v) is in
+            let q = settled_other (side_of parties span.ring Put) (side_of (settled_by parties i d own items) span.ring Put) span.ring Put own items
+            (settles_side_of parties i d own record { ring = span.ring; side = Take; start = span.start; items = items } span.ring Put lt own_busy)
+            (off_put span.ring span.ring) in
+            subst (λ (v : Span). AreSingle tags (listed (side_of (settled_by parties i d v items) span.ring Put))) (sym is)
+            (subst (λ (v : RingSide I). AreSingle tags (listed v)) (sym q) (rule.singles span.ring plan there free))
 
         by_ring : (r : ℕ) (plan' : RingPlan) → slice_get plans r ≡ Some plan' → plan'.free ≡ true → (r ≡ span.ring) ⊎ (r ≢ span.ring)
-            → AreSingle tags (queue after r)
+            → AreSingle tags (listed (side_of after r Put))
         by_ring r plan' at free (inl own) =
             let same : plan' ≡ plan = same_plan (sym at ∙ (ap (slice_get plans) own ∙ there)) in
-            subst (λ (v : ℕ). AreSingle tags (queue after v)) (sym own) (here (ap (λ (v : RingPlan). v.free) (sym same) ∙ free) span.side refl)
+            subst (λ (v : ℕ). AreSingle tags (listed (side_of after v Put))) (sym own) (here (ap (λ (v : RingPlan). v.free) (sym same) ∙ free) span.side refl)
         by_ring r plan' at free (inr apart) =
-            subst (AreSingle tags)
-            (sym (ap (λ (v : RingSide I). drop v.len (listed (side_of after r Put))) (off r Take apart)
-            ∙ ap (λ (v : RingSide I). drop (side_of parties r Take).len (listed v)) (off r Put apart)))
-            (rule.singles r plan' at free)
-
-    queue_as : (after : List (Party I)) (r : ℕ) → ((side : Side) → side_of after r side ≡ side_of parties r side) → queue after r ≡ queue parties r
-    queue_as after r same =
-        ap (λ (v : RingSide I). drop v.len (listed (side_of after r Put))) (same Take)
-        ∙ ap (λ (v : RingSide I). drop (side_of parties r Take).len (listed v)) (same Put)
+            subst (λ (v : RingSide I). AreSingle tags (listed v)) (sym (off r Put apart)) (rule.singles r plan' at free)
 
     pub free_newcomer : FreeRule tags plans pool (parties ++ newcomer [] ∷ [])
     free_newcomer = record {
       singles =
-          λ r plan at free. subst (AreSingle tags) (sym (queue_as (parties ++ newcomer [] ∷ []) r (side_of_newcomer parties [] r)))
+          λ r plan at free. subst (λ (v : RingSide I). AreSingle tags (listed v)) (sym (side_of_newcomer parties [] r Put))
           (rule.singles r plan at free);
       few = each_push (Few plans pool) parties (newcomer []) rule.few (λ s plan busy. absurd (let u : None ≡ Some s = busy in cc));
     }
@@ -132,8 +128,8 @@ module _ {I : Type 0} (tags : I → List ℕ) where
         → (slice_index_or parties i d).span ≡ None → (slice_index_or parties j d).span ≡ None → FreeRule tags plans pool (joined_by tags parties i j d)
     free_joined i j d sound at_i at_j apart idle_i idle_j = record {
       singles = λ r plan at free.
-          subst (AreSingle tags) (sym (queue_as (joined_by tags parties i j d) r
-          (λ side. joined_sides tags plans pool parties i j d r plan side sound at at_i at_j apart idle_i idle_j)))
+          subst (λ (v : RingSide I). AreSingle tags (listed v))
+          (sym (joined_sides tags plans pool parties i j d r plan Put sound at at_i at_j apart idle_i idle_j))
           (rule.singles r plan at free);
       few = each_set (Few plans pool) (slice_set parties i (joined (slice_index_or parties i d) (slice_index_or parties j d))) j (newcomer [])
           (each_set (Few plans pool) parties i (joined (slice_index_or parties i d) (slice_index_or parties j d)) rule.few

@@ -22,7 +22,7 @@ use Rattle.ringcore_laws.proofs.Laws.{range_same, sum_range_more, times_in_is}
 use Rattle.ringcore_laws.proofs.RingLaws.{below_or_not, held_cases, length-listed, takes_le_puts}
 use Rattle.ringcore_laws.proofs.HeadTailLaws.{on_or_off, range_part}
 use Rattle.ringcore_laws.proofs.OpeningLaws.{occurrences-cons, sum_none}
-use Rattle.ringcore_laws.proofs.FreeKept.{both_true}
+use Rattle.ringcore_laws.proofs.FreeKept.{both_true, singles_drop}
 
 -- 1. Sums
 
@@ -185,7 +185,7 @@ module _ {I : Type 0} (tags : I → List ℕ) where
     unfolding place_count
     queued_all =
         range_same (λ b. occurrences b (flat_map tags (queue now r))) (λ b. in_ring tags b now r) 0 pool (λ b le lt. times_in_is tags b (queue now r))
-        ∙ (count_all pool (flat_map tags (queue now r)) outside ∙ singles_length (queue now r) (rule.singles r plan there free))
+        ∙ (count_all pool (flat_map tags (queue now r)) outside ∙ singles_length (queue now r) (singles_drop tags taken.len (listed put) (rule.singles r plan there free)))
       where
         outside : (b : ℕ) → pool ≤ b → occurrences b (flat_map tags (queue now r)) ≡ 0
         outside b le =

@@ -146,6 +146,10 @@ unfolding gifts_list
 side_of_opening n gifts r side =
     ap (λ (v : List Actor). side_of (parties_of v) r side) (opening_fresh n 0 gifts) ∙ side_of_fresh (gifts_list n gifts) r side
 
+pub put_of_opening : (n : ℕ) (gifts : List ℕ) (r : ℕ) → listed (side_of (parties_of (opening n gifts)) r Put) ≡ []
+unfolding listed
+put_of_opening n gifts r = ap (λ (v : RingSide Item). listed v) (side_of_opening n gifts r Put)
+
 pub queue_of_opening : (n : ℕ) (gifts : List ℕ) (r : ℕ) → queue (parties_of (opening n gifts)) r ≡ []
 unfolding listed
 queue_of_opening n gifts r =

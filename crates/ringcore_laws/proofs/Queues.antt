@@ -17,6 +17,21 @@ use Rattle.ringcore_laws.proofs.RingLaws.{length-listed, listed_settled, takes_l
 use Rattle.ringcore_laws.proofs.Laws.{on_own, off_put, off_take, settled_own, settled_other}
 
 module _ {I : Type 0} where
+  -- what was put on the ring, once a put is settled
+  pub put_listed : (e : Extent) (parties : List (Party I)) (i : ℕ) (d : Party I) (ring start count : ℕ) (items : List I)
+      → SoundRing e (side_of parties ring Put) (side_of parties ring Take)
+      → i < length parties → (slice_index_or parties i d).span ≡ Some record { ring = ring; side = Put; start = start; count = count }
+      → start ≡ (side_of parties ring Put).len
+      → listed (side_of (settled_by parties i d record { ring = ring; side = Put; start = start; count = count } items) ring Put)
+      ≡ listed (side_of parties ring Put) ++ items
+  put_listed e parties i d ring start count items s lt busy first =
+      let span : Span = record { ring = ring; side = Put; start = start; count = count } in
+      let before = side_of parties ring Put in
+      let after = side_of (settled_by parties i d span items) ring Put in
+      let step = settles_side_of parties i d span record { ring = ring; side = Put; start = start; items = items } ring Put lt busy in
+      ap (λ (v : RingSide I). listed v) (settled_own before after span items s.published first step)
+      ∙ listed_settled before span items after.reach s.published first
+
   pub put_queue : (e : Extent) (parties : List (Party I)) (i : ℕ) (d : Party I) (ring start count : ℕ) (items : List I)
       → SoundRing e (side_of parties ring Put) (side_of parties ring Take)
       → i < length parties → (slice_index_or parties i d).span ≡ Some record { ring = ring; side = Put; start = start; count = count }
@@ -24,12 +39,10 @@ module _ {I : Type 0} where
       → queue (settled_by parties i d record { ring = ring; side = Put; start = start; count = count } items) ring ≡ queue parties ring ++ items
   put_queue e parties i d ring start count items s lt busy first =
       let opposite = settled_other (side_of parties ring Take) (side_of after ring Take) ring Take span items (step Take) (off_take ring ring) in
-      let own = settled_own (side_of parties ring Put) (side_of after ring Put) span items s.published first (step Put) in
       ap (λ (v : RingSide I). drop v.len (listed (side_of after ring Put))) opposite
-      ∙ (ap (λ (v : RingSide I). drop (side_of parties ring Take).len (listed v)) own
-      ∙ (ap (drop (side_of parties ring Take).len) (listed_settled (side_of parties ring Put) span items (side_of after ring Put).reach s.published first)
+      ∙ (ap (drop (side_of parties ring Take).len) (put_listed e parties i d ring start count items s lt busy first)
       ∙ drop-append-le (side_of parties ring Take).len (listed (side_of parties ring Put)) items
-      (omega (arith, length-listed (side_of parties ring Put) s.published, takes_le_puts e (side_of parties ring Put) (side_of parties ring Take) s))))
+      (omega (arith, length-listed (side_of parties ring Put) s.published, takes_le_puts e (side_of parties ring Put) (side_of parties ring Take) s)))
     where
       span : Span
       span = record { ring = ring; side = Put; start = start; count = count }

@@ -36,7 +36,7 @@ use Rattle.ringcore_laws.specs.History.{reply_to_one, reserve_reply, room_by_loo
 use Rattle.ringcore_laws.proofs.Laws.{element, same_plan}
 use Rattle.ringcore_laws.proofs.RingLaws.{below_or_not}
 use Rattle.ringcore_laws.proofs.HistoryLaws.{and_true, event_kept, on_true, parties_length}
-use Rattle.ringcore_laws.proofs.OpeningLaws.{opening_kept, queue_of_opening}
+use Rattle.ringcore_laws.proofs.OpeningLaws.{opening_kept, put_of_opening}
 use Rattle.ringcore_laws.proofs.RunLaws.{replies_of}
 use Rattle.ringcore_laws.proofs.Telling.{contended_tells, look_busy_tells, no_room_tells, on_some_ring, put_early_tells, reserve_tells, take_early_tells}
 use Rattle.ringcore_laws.proofs.Changes.{changes, free_count}
@@ -131,7 +131,7 @@ standing_first : (plans : List RingPlan) (actors : ℕ) (gifts : List ℕ) → I
 standing_first plans actors gifts plan = record {
   kept = opening_kept plans actors gifts plan.to_actors;
   rule = record {
-    singles = λ r p there free. subst (AreSingle tags) (sym (queue_of_opening actors gifts r)) refl;
+    singles = λ r p there free. subst (AreSingle tags) (sym (put_of_opening actors gifts r)) refl;
     few = λ i d lt s p busy there put free. absurd (let u : None ≡ Some s = sym (fresh_party actors gifts i d lt) ∙ busy in cc);
   };
   looks = record { each = λ i a s at seen. absurd (let u : None ≡ Some s = sym (fresh_actor actors gifts i a at).1 ∙ seen in cc) };

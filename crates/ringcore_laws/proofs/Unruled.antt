@@ -1,15 +1,9 @@
 -- States whose open spans don't stand as the words say, and states that break the rule of free rings: for each field one that is
 -- made to break it and no other. Each theorem is named for its field
-use Rattle.std.proofs.Common.{ℕ, ◌≡◌, ◌≤◌, ◌<◌, ◌++◌, List, [], ◌∷◌, refl, true, false, arith}
-use Rattle.std.specs.Prelude.{Some, None}
+use Rattle.std.proofs.Common.{ℕ, ◌≡◌, ◌≤◌, ◌<◌, [], ◌∷◌, refl, true, false, arith}
 use Rattle.geom.specs.declared.plan.Mode.TheVariants.{Multi, Hts}
-use Rattle.geom.specs.declared.plan.Side.{Side}
 use Rattle.geom.specs.declared.plan.Side.TheVariants.{Put, Take}
-use Rattle.geom.specs.declared.plan.RingPlan.{RingPlan}
-use Rattle.ringcore_laws.specs.declared.contents.Item.{Item}
-use Rattle.ringcore_laws.specs.declared.contents.Item.TheVariants.{Word, Buffers}
-use Rattle.ringcore_laws.specs.declared.protocol.Span.{Span}
-use Rattle.ringcore_laws.specs.declared.party.Party.{Party}
+use Rattle.ringcore_laws.specs.declared.contents.Item.TheVariants.{Word}
 use Rattle.ringcore_laws.specs.RingSide.{side_of, listed, party_items, party_count, party_end}
 use Rattle.ringcore_laws.specs.Sound.{holds, moved}
 use Rattle.ringcore_laws.specs.HeadTailRule.{HeadTailRule}

@@ -1,11 +1,10 @@
 -- States that are not sound: for each field of soundness one that is made to break this field and no other. Each theorem is named for
 -- its field
-use Rattle.std.proofs.Common.{ℕ, ◌≡◌, ◌≤◌, ◌<◌, ◌++◌, List, [], ◌∷◌, refl, true, false, arith}
+use Rattle.std.proofs.Common.{ℕ, ◌≡◌, ◌≤◌, ◌<◌, List, [], ◌∷◌, refl, false, arith}
 use Rattle.std.specs.Prelude.{Some, None}
-use Rattle.geom.specs.declared.plan.Mode.TheVariants.{Multi, Hts}
+use Rattle.geom.specs.declared.plan.Mode.TheVariants.{Multi}
 use Rattle.geom.specs.declared.plan.Side.{Side}
 use Rattle.geom.specs.declared.plan.Side.TheVariants.{Put, Take}
-use Rattle.geom.specs.declared.plan.RingPlan.{RingPlan}
 use Rattle.ringcore_laws.specs.declared.contents.Item.{Item}
 use Rattle.ringcore_laws.specs.declared.contents.Item.TheVariants.{Word, Buffers}
 use Rattle.ringcore_laws.specs.declared.protocol.Span.{Span}

@@ -2,7 +2,7 @@ use Rattle.std.proofs.Common.{rules, subst, sym, ◌∙◌}
 use Rattle.ringcore_laws.proofs.Laws.{same_plan}
 use Rattle.fabric.specs.Hands.{rings_of}
 use Rattle.fabric.proofs.Told.{ring_at}
-use Rattle.ringapi.specs.Takes.{IsTakeOf, TakeHasTold}
+use Rattle.ringapi.specs.Takes.{IsTakeOf, IsUnfinishedTake, TakeHasTold}
 use Rattle.ringapi.proofs.Taking.{plan_of, settle_more, take_again}
 use Rattle.ringapi.proofs.take.again.Goals as goal
 
@@ -29,7 +29,7 @@ returns-in-Refused-clause-told g c plan there v told =
     let tags = g.T.Tagged.numbers in
     let had = c.args.into.now in
     take_again g.row.N tags c.args.how c.args.n c.args.ring plan v c.in-Refused.hand c.in-Refused.field-1 had c.try_take.new.into c.try_take.result
-    (subst (λ a. TakeHasTold tags c.args.how c.args.n c.args.ring plan v a had) c.in-Refused.is told) (c.try_take.ensures.told plan there)
+    (subst IsUnfinishedTake c.in-Refused.is c.requires.unfinished) (subst (λ a. TakeHasTold tags c.args.how c.args.n c.args.ring plan v a had) c.in-Refused.is told) (c.try_take.ensures.told plan there)
 
 pub returns-in-Open-clause-told : goal.returns-in-Open-clause-told
 returns-in-Open-clause-told g c plan there v told =

@@ -10,7 +10,7 @@ returns-in-NotYet-clause-so g c ring plan =
     let o = c.args.span in
     let tags = g.T.Tagged.numbers in
     let r = c.in-Err.ensures.refused in
-    let early = subst (RefusesTake tags o c.count.result c.args.items.now c.in-Err.span) c.in-NotYet.is r.2 in (
+    let early = subst (RefusesTake tags o c.count.result c.in-Err.span) c.in-NotYet.is r.2 in (
       take_view o,
       early.3,
       subst (λ (s : Span). IsTrueTooEarly tags s (take_view o) (NotYet c.in-NotYet.tail)) (sym r.0.1)

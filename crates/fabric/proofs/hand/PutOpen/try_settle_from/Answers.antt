@@ -108,10 +108,20 @@ pub returns-clause-refused : goal.returns-clause-refused
 returns-clause-refused g c =
     let o = c.args.self in
     let early = c.in-Some.ensures.early in
+    let mine = c.disown.ensures.mine c.if-not-disown.false in
     let count = subst (λ n. IsCount o.ring.shape.plan.put n o.place.count) c.len.ensures.value (c.is_count.ensures.good c.if-not-is_count.false) in (
       (refl, refl, refl),
       ap somes early.4 ∙ c.items.view_is,
-      (early.0, count_whole o.ring.shape.plan.put (length c.args.items.now) o.place.count early.0 count, early.1, early.2),
+      (
+        early.0,
+        count_whole o.ring.shape.plan.put (length c.args.items.now) o.place.count early.0 count,
+        early.1,
+        early.2,
+        record {
+          owned = put_owns g.T.Tagged.numbers o.share.seat.me.0.pool o.share.seat.me.0.party o.share.owned o.share.row c.args.items.now mine.1;
+          single = mine.2;
+        },
+      ),
     )
 
 pub returns-in_default-clause-owned : goal.returns-in_default-clause-owned

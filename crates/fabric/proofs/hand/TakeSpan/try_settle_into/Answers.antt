@@ -1,4 +1,4 @@
-use Rattle.std.proofs.Common.{refl, rules, ◌<◌, ◌≡◌, Some, ap, length, map, subst, sym, take, ◌∙◌}
+use Rattle.std.proofs.Common.{refl, rules, arith, ◌<◌, ◌≡◌, Some, ap, length, map, subst, sym, take, ◌∙◌}
 use Rattle.std.specs.List.{flat_map}
 use Rattle.geom.specs.declared.plan.Side.TheVariants.{Take}
 use Rattle.ringcore_laws.specs.Party.{with_settled}
@@ -90,7 +90,13 @@ returns-clause-refused g c =
     let count = c.is_count.ensures.good c.if-not-is_count.false in (
       (refl, refl, refl, ap (λ w. w.shown) early.2),
       ap somes early.4 ∙ c.items.view_is,
-      (early.0, count_whole o.ring.shape.plan.take c.args.k o.place.count early.0 count, early.1, early.2),
+      (
+        early.0,
+        count_whole o.ring.shape.plan.take c.args.k o.place.count early.0 count,
+        early.1,
+        early.2,
+        record { owned = λ b. omega arith; single = λ free. refl },
+      ),
     )
 
 pub returns-in_default-clause-apart : goal.returns-in_default-clause-apart
