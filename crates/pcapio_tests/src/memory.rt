@@ -3,10 +3,14 @@ ghost use Rattle.pcapio.specs.Reader.{IsReading};
 ghost use Rattle.pcapio.specs.Writer.{IsWell};
 
 use crate::example::{FILE, NEVER, Slow, Tight, capture, chain};
+use crate::foreign::{BIG_MICRO, FIRST, SECOND};
 use mbuf::Chain;
 use oom::{exhaust_memory, refuses};
-use pcapio::{CapFault, Counted, Reader, Writer, collect_records, copy_capture, copy_records};
+use pcapio::{
+    CapFault, Counted, Head, Reader, Writer, collect_records, copy_capture, copy_records,
+};
 use std::alloc::Global;
+use std::io::Read;
 use std::process::Abort;
 use std::test::Fail;
 
@@ -45,6 +49,73 @@ fn copies_while_every_request_is_refused(rt: HostRuntime) -> Result<(), Fail> {
     let told = copy_starved(&rt, rt.alloc(), &mut reader, &mut writer, &mut chain)?;
     let to = writer.into_inner().into_inner();
     assert!(rt; told == (Ok(Some(false)), Ok(())) && to.as_slice() == wanted.as_slice());
+    Ok(())
+}
+
+/// Reads a capture to its end by `head` and `body`: its heads and their bytes are those of the rows, of which one without
+/// bytes is cut off. Tells whether the end is torn.
+fn stream_rows<R: Read>(
+    rt: &impl Abort,
+    reader: &mut Reader<R>,
+    chain: &mut Chain,
+    rows: &[(Head, &[u8])],
+) -> Result<bool, CapFault> {
+    for (wanted, bytes) in rows {
+        let Some(head) = reader.head()? else {
+            return Err(CapFault::Read);
+        };
+        assert_eq!(rt; head, *wanted);
+        assert!(rt; head.captured as usize <= chain.space());
+        assert_eq!(rt; reader.body(chain)?, !bytes.is_empty());
+        let _some = chain.segments();
+        assert_eq!(rt; chain.part(0), *bytes);
+    }
+    assert_eq!(rt; reader.head()?, None);
+    Ok(reader.torn())
+}
+
+/// The same with all memory taken once the reader is open.
+fn stream_starved(
+    rt: &impl Abort,
+    alloc: Global,
+    file: &[u8],
+    rows: &[(Head, &[u8])],
+) -> Result<bool, Fail> {
+    let mut chain = chain(alloc, 34)?;
+    let Ok(mut reader) = Reader::open(alloc, Counted::new(file)) else {
+        return Err(Fail::new("no reader"));
+    };
+    let held = exhaust_memory(alloc)?.ok_or("memory can't be used up in this build")?;
+    let torn = stream_rows(rt, &mut reader, &mut chain, rows);
+    let refused = refuses(alloc);
+    drop(held);
+    assert!(rt; refused, "reading gave memory back");
+    Ok(torn?)
+}
+
+/// The head of a record, by its four numbers.
+fn head(seconds: u32, fraction: u32, captured: u32, wire: u32) -> Head {
+    Head {
+        seconds,
+        fraction,
+        captured,
+        wire,
+    }
+}
+
+/// A capture that ends in its second record, and a whole one, both big-endian.
+#[test]
+fn streams_while_every_request_is_refused(rt: HostRuntime) -> Result<(), Fail> {
+    let torn = [
+        (head(1, 5, 34, 34), &FILE[40..74]),
+        (head(2, 7, 34, 34), &FILE[..0]),
+    ];
+    assert_eq!(rt; stream_starved(&rt, rt.alloc(), &FILE, &torn)?, true);
+    let whole = [
+        (head(1_767_323_045, 123_456, 10, 16), &FIRST[..10]),
+        (head(1_767_323_046, 7, 14, 14), &SECOND[..]),
+    ];
+    assert_eq!(rt; stream_starved(&rt, rt.alloc(), &BIG_MICRO, &whole)?, false);
     Ok(())
 }
 
