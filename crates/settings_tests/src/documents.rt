@@ -3,6 +3,7 @@
 ghost use Rattle.std.specs.Prelude.{◌≡◌, Err, IsUtf8, OnOk};
 ghost use Rattle.settings.specs.declared.fault.SettingsFault.TheVariants.{NotToml};
 
+use crate::cases::DOCUMENTS;
 use oom::exhaust_memory;
 use settings::{Key, Settings, SettingsFault};
 use std::alloc::{AllocError, Global};
@@ -45,12 +46,6 @@ pub fn joined(alloc: Global, parts: &[&str]) -> Result<String, AllocError> {
     Ok(text)
 }
 
-/// Tests that a text of these parts is refused, and how the refusal is told.
-fn refused<R: Abort + AllocGlobal>(rt: &R, parts: &[&str], told: &str) -> Result<(), Fail> {
-    let text = joined(rt.alloc(), parts)?;
-    refused_text(rt, text.as_str(), told)
-}
-
 /// Tests that a text is refused, and how the refusal is told.
 pub fn refused_text<R: Abort + AllocGlobal>(rt: &R, text: &str, told: &str) -> Result<(), Fail> {
     let fault = read(rt.alloc(), text.as_bytes())
@@ -61,23 +56,10 @@ pub fn refused_text<R: Abort + AllocGlobal>(rt: &R, text: &str, told: &str) -> R
     Ok(())
 }
 
-/// Tests that each of these texts, told by its parts, is refused, and how the refusal is told.
-pub fn all_refused<R: Abort + AllocGlobal>(rt: &R, rows: &[(&[&str], &str)]) -> Result<(), Fail> {
-    for (parts, told) in rows {
-        refused(rt, parts, told)?;
-    }
-    Ok(())
-}
-
 /// Reads a text of these parts, which should be well.
 pub fn well<R: AllocGlobal>(rt: &R, parts: &[&str]) -> Result<Settings, Fail> {
     let text = joined(rt.alloc(), parts)?;
     Ok(read(rt.alloc(), text.as_bytes())?)
-}
-
-/// How many buffers these parts ask for.
-fn buffers<R: AllocGlobal>(rt: &R, parts: &[&str]) -> Result<u32, Fail> {
-    Ok(well(rt, parts)?.buffers)
 }
 
 /// The hop of an address.
@@ -114,25 +96,6 @@ fn the_example(rt: HostRuntime) -> Result<(), Fail> {
 }
 
 #[test]
-fn the_example_with_other_values(rt: HostRuntime) -> Result<(), Fail> {
-    let rows: [(&[&str], &str); 4] = [
-        (&["buffers = 111", REST], "TooFewBuffers"),
-        (&["buffers = 256\nroom = 63", REST], "BadValue room"),
-        (
-            &["buffers = 256", PORT, ROUTE, "prefix = \"10.0.0.0/08\""],
-            "BadRoute 0",
-        ),
-        (
-            &["buffers = 256\n", ROUTE, "prefix = \"10.0.0.0/8\""],
-            "Missing port",
-        ),
-    ];
-    all_refused(&rt, &rows)?;
-    assert_eq!(rt; buffers(&rt, &["buffers = 112", REST])?, 112);
-    Ok(())
-}
-
-#[test]
 fn numbers_and_names_of_faults(rt: HostRuntime) -> Result<(), Fail> {
     let cases = [
         (SettingsFault::NotToml, "1 NotToml"),
@@ -161,69 +124,47 @@ fn numbers_and_names_of_faults(rt: HostRuntime) -> Result<(), Fail> {
     Ok(())
 }
 
+/// Bytes that are no text, a byte order mark, and nothing at all.
 #[test]
-fn texts_that_are_no_documents(rt: HostRuntime) -> Result<(), Fail> {
-    let rows: [(&[&str], &str); 6] = [
-        (&["buffers = 9223372036854775808", PORT], "NotToml"),
-        (
-            &["buffers = 256\nignored = 9223372036854775808", PORT],
-            "NotToml",
-        ),
-        (&["\u{feff}buffers = 256", PORT], "NotToml"),
-        (&["buffers = 256\nbuffers = 256", PORT], "NotToml"),
-        (&["buffers 256", PORT], "NotToml"),
-        (&[""], "Missing buffers"),
-    ];
-    all_refused(&rt, &rows)?;
+fn texts_that_no_line_can_show(rt: HostRuntime) -> Result<(), Fail> {
     assert_eq!(rt;
         read(rt.alloc(), b"buffers = 256 # \xff\n").err(),
         Some(SettingsFault::NotToml)
     );
-    Ok(())
+    let text = joined(rt.alloc(), &["\u{feff}buffers = 256", PORT])?;
+    refused_text(&rt, text.as_str(), "NotToml")?;
+    refused_text(&rt, "", "Missing buffers")
 }
 
+/// What is told of a text: its fault, or the buffers, ports and hops that it asks for.
+fn told(alloc: Global, text: &str) -> Result<String, AllocError> {
+    match read(alloc, text.as_bytes()) {
+        Err(fault) => format!(in alloc; "{fault}"),
+        Ok(settings) => {
+            let (ports, hops) = (settings.ports.sources.len(), settings.ports.hops.len());
+            format!(in alloc; "{} buffers, ports {ports}, hops {hops}", settings.buffers)
+        }
+    }
+}
+
+/// Each of the documents of `cases`.
 #[test]
-fn kinds_of_numbers(rt: HostRuntime) -> Result<(), Fail> {
-    for value in [
-        "256.0",
-        "true",
-        "\"256\"",
-        "2000-01-01",
-        "[256]",
-        "{}",
-        "-1",
-        "0",
-        "65537",
-    ] {
-        refused(&rt, &["buffers = ", value, PORT], "BadValue buffers")?;
+fn documents_and_what_is_told_of_them(rt: HostRuntime) -> Result<(), Fail> {
+    let mut count = 0u32;
+    for case in DOCUMENTS.split("== ").skip(1) {
+        let (wanted, text) = case.split_once('\n').ok_or("no line behind ==")?;
+        assert_eq!(rt; told(rt.alloc(), text)?.as_str(), wanted, "{text}");
+        // Saturating here: no clause bounds it, and it stays small.
+        count = count.saturating_add(1);
     }
-    for value in ["0x100", "2_5_6", "+256", "0o400", "0b100000000"] {
-        assert_eq!(rt; buffers(&rt, &["buffers = ", value, PORT])?, 256);
-    }
-    refused(&rt, &["buffers = 1", PORT], "TooFewBuffers")
+    assert_eq!(rt; count, 51);
+    Ok(())
 }
 
 /// The beginning of an array of ports, and a port in it.
 const PORTS: &str = "buffers = 256\nbits = 16\nport = [";
 
 const MAC: &str = "{mac = \"02:00:00:00:00:10\"},";
-
-#[test]
-fn arrays_of_ports(rt: HostRuntime) -> Result<(), Fail> {
-    let rows: [(&[&str], &str); 7] = [
-        (&[PORTS, "{}, 1]"], "BadValue port"),
-        (&[PORTS, "1, {}]"], "BadValue port"),
-        (&[PORTS, "]"], "Missing port"),
-        (
-            &["buffers = 256\n[port]\nmac = \"02:00:00:00:00:10\""],
-            "BadValue port",
-        ),
-        (&[PORTS, MAC, "{}, {mac = 1}]"], "Missing mac"),
-        (&[PORTS, MAC, "{mac = 1}, {}]"], "BadValue mac"),
-        (&[PORTS, "{mac = \"02:00:00:00:00:1G\"}]"], "BadValue mac"),
-    ];
-    all_refused(&rt, &rows)
-}
 
 /// As many ports as there may be, and this end.
 fn all_ports(alloc: Global, end: &str) -> Result<String, AllocError> {
@@ -242,63 +183,6 @@ fn sixteen_ports_and_more(rt: HostRuntime) -> Result<(), Fail> {
     refused_text(&rt, all_ports(rt.alloc(), "{}]")?.as_str(), "BadValue port")
 }
 
-/// One port, and where a route leads.
-const ONE_PORT: &str = "buffers = 256\nbits = 16\nport = [{mac = \"02:00:00:00:00:10\"}]\n";
-
-const TO: &str = "to = \"02:00:00:00:00:20\"";
-
-#[test]
-fn arrays_of_routes(rt: HostRuntime) -> Result<(), Fail> {
-    assert_eq!(rt; well(&rt, &[ONE_PORT, "route = []"])?.ports.hops.len(), 0);
-    let rows: [(&[&str], &str); 8] = [
-        (&[ONE_PORT, "route = [{}, 1]"], "BadValue route"),
-        (&[ONE_PORT, "[route]\nport = 0"], "BadValue route"),
-        (
-            &[
-                ONE_PORT,
-                "route = [{prefix = \"1.0.0.0/8\", port = 0, ",
-                TO,
-                "}, {}]",
-            ],
-            "BadRoute 1",
-        ),
-        (
-            &[ONE_PORT, "route = [{prefix = 1, port = 0, ", TO, "}]"],
-            "BadRoute 0",
-        ),
-        (
-            &[
-                ONE_PORT,
-                "route = [{prefix = \"1.0.0.0/8\", port = 0.0, ",
-                TO,
-                "}]",
-            ],
-            "BadRoute 0",
-        ),
-        (
-            &[
-                ONE_PORT,
-                "route = [{prefix = \"1.0.0.0/8\", port = 1, ",
-                TO,
-                "}]",
-            ],
-            "BadRoute 0",
-        ),
-        (
-            &[
-                ONE_PORT,
-                "route = [{prefix = \"1.0.0.0/8\", port = 0, to = 1}]",
-            ],
-            "BadRoute 0",
-        ),
-        (
-            &[ONE_PORT, "route = [{prefix = \"1.0.0.0/8\", port = 0}]"],
-            "BadRoute 0",
-        ),
-    ];
-    all_refused(&rt, &rows)
-}
-
 /// The example among keys and tables that mean nothing here.
 const AMONG_OTHERS: &str =
     "name = \"a\"\nbuffers = 256\n[[port]]\nname = 1\nmac = \"02:00:00:00:00:10\"\n\
@@ -310,22 +194,6 @@ fn other_keys_are_ignored(rt: HostRuntime) -> Result<(), Fail> {
     let settings = well(&rt, &[AMONG_OTHERS])?;
     are_the_examples(&rt, &settings);
     Ok(())
-}
-
-#[test]
-fn the_order_of_checks(rt: HostRuntime) -> Result<(), Fail> {
-    let rows: [(&[&str], &str); 6] = [
-        (&["room = 1\nport = 1"], "Missing buffers"),
-        (&["groups = -1\nbuffers = 1\nport = 1"], "BadValue groups"),
-        (&["buffers = 1\nport = []\nroute = 1"], "Missing port"),
-        (&["buffers = 1\nport = [{}]\nroute = 1"], "Missing mac"),
-        (&["buffers = 1", PORT, "[[route]]"], "BadRoute 0"),
-        (
-            &["buffers = 1", PORT, ROUTE, "prefix = \"1.0.0.0/8\""],
-            "TooFewBuffers",
-        ),
-    ];
-    all_refused(&rt, &rows)
 }
 
 /// Reads, with one more piece of memory given back each time that it is refused: how often it was, and what was

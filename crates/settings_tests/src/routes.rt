@@ -1,6 +1,6 @@
 //! Documents of many routes, and of routes that need groups.
 
-use crate::documents::{PORT_ALONE, ROUTE, all_refused, hop, joined, refused_text, well};
+use crate::documents::{PORT_ALONE, ROUTE, hop, joined, refused_text, well};
 use std::alloc::Global;
 use std::test::Fail;
 
@@ -10,49 +10,10 @@ const MAX_ROUTES: u32 = 65_536;
 /// As many routes as no small constant allows for.
 const SOME_ROUTES: u32 = 3000;
 
-const NO_GROUP: &str = "buffers = 256\ngroups = 0";
-
 const ONE_GROUP: &str = "buffers = 256\ngroups = 1";
 
 /// A prefix that needs a group.
 const DEEP: &str = "prefix = \"10.1.2.3/25\"\n";
-
-#[test]
-fn routes_beyond_the_groups(rt: HostRuntime) -> Result<(), Fail> {
-    let rows: [(&[&str], &str); 5] = [
-        (&[NO_GROUP, PORT_ALONE, ROUTE, DEEP], "BadRoute 0"),
-        (
-            &[NO_GROUP, PORT_ALONE, ROUTE, DEEP, "[[route]]"],
-            "BadRoute 0",
-        ),
-        (
-            &[
-                NO_GROUP,
-                "\nbits = 16",
-                PORT_ALONE,
-                ROUTE,
-                "prefix = \"10.1.0.0/17\"",
-            ],
-            "BadRoute 0",
-        ),
-        (
-            &[ONE_GROUP, PORT_ALONE, ROUTE, DEEP, "[[route]]"],
-            "BadRoute 1",
-        ),
-        (
-            &[
-                ONE_GROUP,
-                PORT_ALONE,
-                ROUTE,
-                DEEP,
-                ROUTE,
-                "prefix = \"10.1.3.0/25\"\n",
-            ],
-            "BadRoute 1",
-        ),
-    ];
-    all_refused(&rt, &rows)
-}
 
 #[test]
 fn routes_that_share_a_group(rt: HostRuntime) -> Result<(), Fail> {
