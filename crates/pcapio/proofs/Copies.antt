@@ -56,14 +56,15 @@ begins-captured space order resolution said (Some x) rest old text told same hea
 
 pub endless-captured : (order : ByteOrder) (resolution : Resolution) (a rest : Option (List ℕ)) (n : ℕ)
     → IfSome a (λ bytes. HasHeader bytes order resolution) → IfSome a (λ bytes. rest ≡ Some (drop 24 bytes))
-    → IfSome rest (λ bytes. (packets : List Packet) (end : End) → AreRecords order bytes packets end → n ≤ length packets)
-    → IfSome a (λ bytes. (o : ByteOrder) (r : Resolution) (packets : List Packet) (end : End) → HasHeader bytes o r → AreRecords o (drop 24 bytes) packets end
-    → n ≤ length packets)
+    → IfSome rest (λ bytes. (packets : List Packet) × (end : End) × AreRecords order bytes packets end × (n ≤ length packets))
+    → IfSome a (λ bytes. (o : ByteOrder) × (r : Resolution) × HasHeader bytes o r × (packets : List Packet) × (end : End)
+    × AreRecords o (drop 24 bytes) packets end × (n ≤ length packets))
 endless-captured order resolution None rest n header behind endless = tt
-endless-captured order resolution (Some x) rest n header behind endless = λ o r packets end h records.
-    let Q : Option (List ℕ) → Type 0 = λ v. IfSome v (λ bytes. (packets : List Packet) (end : End) → AreRecords order bytes packets end → n ≤ length packets) in
-    let one = one_magic x order o resolution r header.magic h.magic in
-    subst Q behind endless packets end (subst (λ it. AreRecords it (drop 24 x) packets end) (sym one.0) records)
+endless-captured order resolution (Some x) rest n header behind endless =
+    let Q : Option (List ℕ) → Type 0 =
+    λ v. IfSome v (λ bytes. (packets : List Packet) × (end : End) × AreRecords order bytes packets end × (n ≤ length packets)) in
+    let all = subst Q behind endless in
+    (order, resolution, header, all.0, all.1, all.2, all.3)
 
 pub bad-captured : (order : ByteOrder) (resolution : Resolution) (a rest : Option (List ℕ))
     → IfSome a (λ bytes. HasHeader bytes order resolution) → IfSome a (λ bytes. rest ≡ Some (drop 24 bytes))

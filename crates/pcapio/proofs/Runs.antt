@@ -119,11 +119,12 @@ prefix order x (Some y) packets all e s r =
 
 -- where n were taken, there are not fewer
 pub as_many : (order : ByteOrder) (a b : Option (List ℕ)) (packets : List Packet) (n : ℕ) → Stand order a b packets → n ≤ length packets
-    → IfSome a (λ bytes. (all : List Packet) (e : End) → AreRecords order bytes all e → n ≤ length all)
+    → IfSome a (λ bytes. (all : List Packet) × (e : End) × AreRecords order bytes all e × (n ≤ length all))
 as_many order None b packets n s h = tt
-as_many order (Some x) b packets n s h = λ all e r.
-    let pre = prefix order x b packets all e s r in
-    omega (arith, ap length pre.1, length-append packets pre.0)
+as_many order (Some x) b packets n s h =
+    let all = exists order (length x) x (omega arith) in
+    let pre = prefix order x b packets all.0 all.1 s all.2 in
+    (all.0, all.1, all.2, omega (arith, h, ap length pre.1, length-append packets pre.0))
 
 begins-same : (told old new : Option (List ℕ)) (bs : List ℕ) → Appends old new bs → Begins told new → Begins told (append_known old bs)
 begins-same told None new bs p h = ([], tt)

@@ -101,18 +101,18 @@ StopsBy _ bad read written = ⊥
 module _ {R : Type 0} (remaining : R → Option (List ℕ)) where
   -- more records are to come than can be counted
   abbrev pub IsEndless : Reader R → Type 0
-  IsEndless r = IfSome (rest remaining r) (λ bytes. (packets : List Packet) (end : End)
-      → AreRecords r.order bytes packets end → 2 ^ 64 - 1 ≤ length packets)
+  IsEndless r = IfSome (rest remaining r) (λ bytes. (packets : List Packet) × (end : End)
+      × AreRecords r.order bytes packets end × (2 ^ 64 - 1 ≤ length packets))
 
   -- the records that were to come end with a header that no record has
   abbrev pub EndsBad : Reader R → Type 0
   EndsBad r = IfSome (rest remaining r) (λ bytes. (packets : List Packet) × AreRecords r.order bytes packets Bad)
 
-  -- the same of a device's capture
+  -- a device's bytes have a file header, and more records after it than can be counted
   abbrev pub IsEndlessCapture : Counted R → Type 0
-  IsEndlessCapture from = IfSome (to_come remaining from) (λ bytes. (order : ByteOrder) (resolution : Resolution)
-      (packets : List Packet) (end : End) → HasHeader bytes order resolution
-      → AreRecords order (drop 24 bytes) packets end → 2 ^ 64 - 1 ≤ length packets)
+  IsEndlessCapture from = IfSome (to_come remaining from) (λ bytes. (order : ByteOrder) × (resolution : Resolution)
+      × HasHeader bytes order resolution × (packets : List Packet) × (end : End)
+      × AreRecords order (drop 24 bytes) packets end × (2 ^ 64 - 1 ≤ length packets))
 
 module _ {R W : Type 0} where
   -- why a record wasn't copied: 5 Read, 6 Write

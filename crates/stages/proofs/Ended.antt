@@ -1,5 +1,5 @@
 -- Why a run in threads has no summary, from what its reader and its sink leave.
-use Rattle.std.proofs.Common.{◌≡◌, ℕ, List, drop, map, Option, None, Some, Result, Ok, Err, IfSome, refl, sym, subst}
+use Rattle.std.proofs.Common.{◌≡◌, ℕ, List, drop, map, Option, None, Some, Result, Ok, Err, IfSome, refl, sym, ap, ◌∙◌, subst}
 use Rattle.pcapio.specs.Counted.{to_come, failures_of, HasNotFailed}
 use Rattle.pcapio.specs.Reader.{source_of}
 use Rattle.pcapio.specs.declared.counted.Counted.{Counted}
@@ -12,7 +12,7 @@ use Rattle.stages_laws.specs.Input.{Input}
 use Rattle.stages_laws.specs.declared.run.Run.{Ghosts}
 use Rattle.stages.specs.Ending.{WhyFaulted}
 use Rattle.stages.specs.Failing.{FailedAt}
-use Rattle.stages.specs.Feeding.{ReadFailed, ReadIsHere, IsNoCapture}
+use Rattle.stages.specs.Feeding.{ReadFailed, IsHere, IsNoCapture}
 use Rattle.stages.specs.Threads.{WhyEnded, WhyNoSummaryOfThreads}
 use Rattle.stages.specs.Whole.{WhyNoSummary}
 use Rattle.stages.specs.declared.fault.RunFault.{RunFault}
@@ -20,13 +20,16 @@ use Rattle.stages.specs.declared.fault.RunFault.TheVariants.{Memory, Thread, Rea
 use Rattle.stages.specs.declared.stamped.Stamped.{Stamped}
 use Rattle.stages.proofs.Opened.{input_of, refused_whole}
 
+read_for_thread : {X : Type 0} {R : Type 0} → ◌≡◌ {A = Result X RunFault} (Err Read) (Err Thread) → R
+read_for_thread e = absurd (cc e)
+
 -- what a reader told, and what the end of the run told of it
 pub why_ended : {J R W : Type 0} {G : Ghosts J} (input : Option Input) (failures : List ℕ) (before next : ℕ) (device : Option (Counted R))
-    (answer : Result (Stamped J G) RunFault) (devices : List (Counted W)) (fault : RunFault) → ReadFailed before device answer → ReadIsHere device answer
+    (answer : Result (Stamped J G) RunFault) (devices : List (Counted W)) (fault : RunFault) → ReadFailed before device answer → IsHere device answer
     → IsNoCapture input answer → WhyFaulted failures next answer devices fault → WhyEnded input failures before device devices fault
 why_ended input failures before next device (Ok stamped) devices Read failed here refused why = absurd (let e : Read ≡ Window = why.0 in cc)
 why_ended input failures before next None (Err reason) devices Read failed here refused why =
-    absurd (here refl (λ k. Err (sym why k)))
+    read_for_thread ((λ k. Err (why k)) ∙ here refl)
 why_ended input failures before next (Some d) (Err reason) devices Read failed here refused why =
     (d, refl, failed d refl (λ k. Err (sym why k)))
 why_ended input failures before next device answer devices (Write p) failed here refused why = why

@@ -93,19 +93,20 @@ module _ {W : Type 0} where
         (begun _ known))
 
     run_whole : (a rest : Option (List ℕ)) (writers devices : List (Counted W)) (summary : Summary) → IfSome a (λ bytes. HasHeader bytes order resolution)
-        → IfSome a (λ bytes. rest ≡ Some (drop 24 bytes))
+        → IfSome a (λ bytes. rest ≡ Some (drop 24 bytes)) → length devices ≡ length writers
         → ((all : List Fate) → fates_of (forwarding_by settings) settings.room (input_of order rest) ≡ Some all
         → AreOutputs contents (map (told contents) writers) resolution all devices)
         → Sums (input_of order rest) (length writers) settings.room (forwarding_by settings) summary
         → IfSome a (λ bytes. IsRun contents settings bytes writers devices summary)
-    run_whole None rest writers devices summary header behind outputs sums = tt
-    run_whole (Some x) rest writers devices summary header behind outputs sums =
+    run_whole None rest writers devices summary header behind all outputs sums = tt
+    run_whole (Some x) rest writers devices summary header behind all outputs sums =
         let i = input_in order (drop 24 x) in
         let is : input_of order rest ≡ Some i = ap (input_of order) behind in
         let s = sums i is in
         record {
           capture = record { order = order; resolution = resolution; packets = i.packets; torn = summary.torn };
           is = record { header = header; records = subst (AreRecords order (drop 24 x) i.packets) s.1 (read_in order (drop 24 x)) };
+          all = all;
           outputs = outputs _ (ap (fates_of (forwarding_by settings) settings.room) is);
           counts = s.0;
           torn = refl;
@@ -113,13 +114,13 @@ module _ {W : Type 0} where
 
     pub run_told : (a rest : Option (List ℕ)) (writers devices : List (Counted W)) (r : Result Summary RunFault) → IfSome a
         (λ bytes. HasHeader bytes order resolution)
-        → IfSome a (λ bytes. rest ≡ Some (drop 24 bytes))
+        → IfSome a (λ bytes. rest ≡ Some (drop 24 bytes)) → length devices ≡ length writers
         → OnOk r ((all : List Fate) → fates_of (forwarding_by settings) settings.room (input_of order rest) ≡ Some all
         → AreOutputs contents (map (told contents) writers) resolution all devices)
         → IfOk r (Sums (input_of order rest) (length writers) settings.room (forwarding_by settings))
         → IfOk r (λ summary. IfSome a (λ bytes. IsRun contents settings bytes writers devices summary))
-    run_told a rest writers devices (Ok summary) header behind outputs sums = run_whole a rest writers devices summary header behind outputs sums
-    run_told a rest writers devices (Err fault) header behind outputs sums = tt
+    run_told a rest writers devices (Ok summary) header behind all outputs sums = run_whole a rest writers devices summary header behind all outputs sums
+    run_told a rest writers devices (Err fault) header behind all outputs sums = tt
 
 module _ (order : ByteOrder) (resolution : Resolution) where
   pub refused_whole : (a rest : Option (List ℕ)) (fault : CapFault) → IfSome a (λ bytes. HasHeader bytes order resolution) → IfSome a
@@ -140,15 +141,12 @@ module _ (order : ByteOrder) (resolution : Resolution) where
 
   endless_whole : (a rest : Option (List ℕ)) (n : ℕ) → IfSome a (λ bytes. HasHeader bytes order resolution) → IfSome a (λ bytes. rest ≡ Some (drop 24 bytes))
       → ((i : Input) → input_of order rest ≡ Some i → n ≤ length i.packets)
-      → IfSome a (λ bytes. (o : ByteOrder) (r : Resolution) (packets : List Packet) (end : End) → HasHeader bytes o r → AreRecords o (drop 24 bytes) packets end
-      → n ≤ length packets)
+      → IfSome a (λ bytes. (o : ByteOrder) × (r : Resolution) × HasHeader bytes o r × (packets : List Packet) × (end : End)
+      × AreRecords o (drop 24 bytes) packets end × (n ≤ length packets))
   endless_whole None rest n header behind many = tt
-  endless_whole (Some x) rest n header behind many = λ o r packets end h records.
-      let m = one_magic x order o resolution r header.magic h.magic in
+  endless_whole (Some x) rest n header behind many =
       let i = input_in order (drop 24 x) in
-      let same = one order i.packets packets (drop 24 x) i.ending end (read_in order (drop 24 x))
-      (subst (λ it. AreRecords it (drop 24 x) packets end) (sym m.0) records) in
-      subst (λ ps. n ≤ length ps) same.0 (many i (ap (input_of order) behind))
+      (order, resolution, header, i.packets, i.ending, read_in order (drop 24 x), many i (ap (input_of order) behind))
 
   pub why_whole : {R W : Type 0} (remaining : R → Option (List ℕ)) (rest : Option (List ℕ)) (failures : List ℕ) (reader source : Counted R) (opened : Reader R)
       (writers devices : List (Counted W)) (fault : RunFault) → IfSome (to_come remaining reader) (λ bytes. HasHeader bytes order resolution)

@@ -28,8 +28,9 @@ module _ {R X : Type 0} where
   ReadFailed before device answer = (d : Counted R) → device ≡ Some d → answer ≡ Err Read
       → failures_of d ≡ min (before + 1) (2 ^ 64 - 1)
 
-  abbrev pub ReadIsHere : Option (Counted R) → Result X RunFault → Type 0
-  ReadIsHere device answer = device ≡ None → answer ≡ Err Read → ⊥
+  -- the input's device is here, unless the reader's thread couldn't be started
+  abbrev pub IsHere : Option (Counted R) → Result X RunFault → Type 0
+  IsHere device answer = device ≡ None → answer ≡ Err Thread
 
 -- Capture is told of a record that none of a capture is
 abbrev pub IsNoCapture : {X : Type 0} → Option Input → Result X RunFault → Type 0

@@ -1,5 +1,5 @@
 -- A whole run: a capture in, and what the device of each port is told of it.
-use Rattle.std.specs.Prelude.{◌≡◌, ℕ, List, length, drop, map, Option, IfSome, ⊤}
+use Rattle.std.specs.Prelude.{◌≡◌, ◌<◌, ℕ, List, length, drop, map, slice_get, Option, Some, IfSome, ⊤}
 use Rattle.ipv4.specs.Forwarding.{forwarded}
 use Rattle.pcapio.specs.Copy.{IsEndlessCapture}
 use Rattle.pcapio.specs.Counted.{to_come, told, failures_of, HasFailed}
@@ -30,10 +30,12 @@ abbrev pub HasSomeHeader : List ℕ → Type 0
 HasSomeHeader bytes = (order : ByteOrder) × (resolution : Resolution) × HasHeader bytes order resolution
 
 module _ {W : Type 0} (contents : W → Option (List ℕ)) (settings : Settings) (bytes : List ℕ) where
-  -- the bytes are a capture; each port was told its whole output; and the counts are those of its records
+  -- the bytes are a capture; the device of each port is there, and was told its whole output; and the counts are those
+  -- of its records
   pub record IsRun (writers devices : List (Counted W)) (summary : Summary) : Type 0 where
     pub capture : Capture
     pub is : IsCapture bytes capture
+    pub all : length devices ≡ length writers
     pub outputs : AreOutputs contents (map (told contents) writers) capture.resolution
         (fates (forwarding_by settings) settings.room capture.packets) devices
     pub counts : summary.counts ≡ tally_of (length writers) (forwarding_by settings) settings.room capture.packets
@@ -49,6 +51,10 @@ module _ {W : Type 0} (contents : W → Option (List ℕ)) (settings : Settings)
   -- without a file header nothing was told
   abbrev pub IsUntouched : List (Counted W) → List (Counted W) → Type 0
   IsUntouched writers devices = (¬ HasSomeHeader bytes) → devices ≡ writers
+
+-- what each device was told before is known
+abbrev pub AreKnown : List (Option (List ℕ)) → Type 0
+AreKnown texts = (q : ℕ) → q < length texts → (x : List ℕ) × (slice_get texts q ≡ Some (Some x))
 
 -- why there is no summary of the records: a device failed, the input ends with a header that no record has, it is
 -- endless, or memory was refused

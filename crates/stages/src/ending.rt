@@ -6,7 +6,7 @@ ghost use Rattle.stages.specs.Ports.{AreOutputs, AreBeginnings};
 ghost use Rattle.stages.specs.Tallies.{IsTally, fates_of};
 ghost use Rattle.stages.specs.Faults.{lowest_of};
 ghost use Rattle.stages.specs.Ending.{Sums, WhyFaulted};
-ghost use Rattle.stages.specs.declared.fault.RunFault.TheVariants.{Write, Window};
+ghost use Rattle.stages.specs.declared.fault.RunFault.TheVariants.{Thread, Write, Window};
 
 use crate::closing::close;
 use crate::fault::RunFault;
@@ -67,6 +67,8 @@ pub(crate) fn end<J: Run, W: Write + Drop>(
     requires room { vec_len sink.outputs.writers ≤ vec_capacity spare }
     requires few { vec_len sink.outputs.writers ≤ MOST_PORTS }
     requires failed { (p : ℕ) → stamped ≡ Err (Write p) → sink.outputs.failed ≡ Some p }
+    ensures many { vec_len result.0 ≡ length J.before }
+    ensures thread { stamped ≡ Err Thread → result.1 ≡ Err Thread }
     ensures outputs { OnOk result.1 ((all : List Fate) → fates_of J.forwarding J.room J.input ≡ Some all
         → AreOutputs W.contents J.before J.resolution all result.0.items) }
     ensures begun { (all : List Fate) → fates_of J.forwarding J.room J.input ≡ Some all

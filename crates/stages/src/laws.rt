@@ -3,13 +3,14 @@ ghost use Rattle.std.specs.Prelude.{◌≡◌, ℕ, List, Some, map as mapped, s
 ghost use Rattle.pcapio.specs.Counted.{told};
 ghost use Rattle.pcapio.specs.declared.counted.Counted.{Counted};
 ghost use Rattle.settings.specs.declared.read.Settings.{Settings};
-ghost use Rattle.stages.specs.Whole.{IsRun};
+ghost use Rattle.stages.specs.Whole.{AreKnown, IsRun};
 ghost use Rattle.stages.specs.declared.ending.Summary.{Summary};
 
 use std::io::Write;
 
 /// Workers change nothing: of two runs over the same bytes by the same settings that have a summary, by one thread or
-/// by any number of workers each, both have the same one, and each port's device was told the same.
+/// by any number of workers each, both have the same one, and the devices of the ports were told the same, port by port:
+/// all of them, where it is known what each was told before.
 pub fn workers_change_nothing<W: Write>()
     ensures summary { (settings : Settings) (bytes : List ℕ) (writers one many : List (Counted W)) (a b : Summary)
         → IsRun W.contents settings bytes writers one a → IsRun W.contents settings bytes writers many b
@@ -18,4 +19,7 @@ pub fn workers_change_nothing<W: Write>()
         → IsRun W.contents settings bytes writers one a → IsRun W.contents settings bytes writers many b
         → (q : ℕ) (d e : Counted W) (x : List ℕ) → slice_get one q ≡ Some d → slice_get many q ≡ Some e
         → slice_get (mapped (told W.contents) writers) q ≡ Some (Some x) → told W.contents d ≡ told W.contents e }
+    ensures all { (settings : Settings) (bytes : List ℕ) (writers one many : List (Counted W)) (a b : Summary)
+        → IsRun W.contents settings bytes writers one a → IsRun W.contents settings bytes writers many b
+        → AreKnown (mapped (told W.contents) writers) → mapped (told W.contents) one ≡ mapped (told W.contents) many }
 {}

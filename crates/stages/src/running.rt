@@ -42,6 +42,7 @@ pub fn run_one<R: Read, W: Write + Drop>(
     settings: &Settings,
 ) -> (Counted<R>, Vec<Counted<W>>, Result<Summary, RunFault>)
     requires ports { vec_len writers ≡ vec_len settings.now.ports.sources }
+    ensures many { vec_len result.1 ≡ vec_len writers }
     ensures run { IfOk result.2 (λ summary. IfSome (to_come R.remaining reader) (λ bytes.
         IsRun W.contents settings.now bytes writers.items result.1.items summary)) }
     ensures begun { IfSome (to_come R.remaining reader) (λ bytes.
@@ -79,6 +80,7 @@ fn run_opened<J: Run, R: Read, W: Write + Drop>(
     requires settings { GoesBy settings.now J.room J.forwarding (length J.before) }
     requires outputs { AreReady W.contents outputs spare.items (vec_capacity spare) J.before J.failures J.resolution }
     requires space { min (64 * settings.now.room) 262144 ≤ space_of chain }
+    ensures many { vec_len result.1 ≡ length J.before }
     ensures outputs { OnOk result.2 ((all : List Fate) → fates_of J.forwarding J.room J.input ≡ Some all
         → AreOutputs W.contents J.before J.resolution all result.1.items) }
     ensures begun { (all : List Fate) → fates_of J.forwarding J.room J.input ≡ Some all

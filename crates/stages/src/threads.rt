@@ -1,5 +1,5 @@
 //! A run in threads: a reader, workers, and the sink on the calling thread.
-ghost use Rattle.std.specs.Prelude.{◌≡◌, ◌<◌, ◌≤◌, List, Some, IfErr, IfOk, IfSome, OnOk};
+ghost use Rattle.std.specs.Prelude.{◌≡◌, ◌<◌, ◌≤◌, List, None, Some, Err, IfErr, IfOk, IfSome, OnOk};
 ghost use Rattle.std.specs.Prelude.{length, vec_len, vec_capacity};
 ghost use Rattle.fabric.specs.Hands.{IsHandOf, rings_of};
 ghost use Rattle.pcapio.specs.Counted.{to_come, told};
@@ -11,6 +11,7 @@ ghost use Rattle.stages.specs.Ports.{AreOutputs, AreBeginnings};
 ghost use Rattle.stages.specs.Tallies.{fates_of};
 ghost use Rattle.stages.specs.Threads.{WhyEnded, WhyNoSummaryOfThreads};
 ghost use Rattle.stages.specs.Whole.{IsRun, IsBegun, IsUntouched};
+ghost use Rattle.stages.specs.declared.fault.RunFault.TheVariants.{Thread};
 
 use crate::closing::into_devices;
 use crate::draining::drain;
@@ -39,23 +40,21 @@ use std::sync::Wait;
 use std::thread::{self, Threads};
 
 /// Ends the workers that were started, where a further thread couldn't be: each gets an end mark, and what comes of
-/// them is taken. What was read stays as it is.
-fn call_off<J: Run, R, W: Write + Drop, T: Wait>(
+/// them is taken.
+fn call_off<J: Run, W: Write + Drop, T: Wait>(
     rt: &T,
     f: &Fabric<Packet<J>, SPAN>,
     hand: Hand<Packet<J>>,
-    sink: Sink<J, W>,
+    mut sink: Sink<J, W>,
     started: usize,
     settings: &Settings,
-    fed: Fed<J, R>,
-) -> (Sink<J, W>, Fed<J, R>)
+) -> Sink<J, W>
     requires hand { IsHandOf f.now hand }
     requires rings { AreRings (rings_of f.now) }
     requires few { started ≤ 16 }
     requires room { settings.now.room ≡ J.room }
 {
     let mut station = Station::new(f, hand, settings.cache as usize);
-    let mut sink = sink;
     let mut none = Burst::<Packet<J>, SPAN>::new();
     let sent = dismiss(rt, &mut station, &mut none, started);
     if sent.is_ok() {
@@ -63,7 +62,7 @@ fn call_off<J: Run, R, W: Write + Drop, T: Wait>(
         let room = settings.room as usize;
         let _told = drain(rt, &mut station, &mut sink, started, burst, room);
     }
-    (sink, fed)
+    sink
 }
 
 /// The threads of a run, over rings on which all segments are free.
@@ -105,8 +104,8 @@ fn pass<
                 let (mine, other) = match hand.split(alloc, f) {
                     Ok(both) => both,
                     Err((back, _)) => {
-                        let fed = Fed::nothing(Some(reader.into_inner()), RunFault::Memory);
-                        return call_off(rt, f, back, sink, started, settings, fed);
+                        let sink = call_off(rt, f, back, sink, started, settings);
+                        return (sink, Fed::unread(reader, RunFault::Memory));
                     }
                 };
                 hand = mine;
@@ -118,15 +117,15 @@ fn pass<
                     { work(rt, gate, f, other, burst, &settings.table, &settings.ports) },
                 );
                 if worker.is_err() {
-                    let fed = Fed::nothing(Some(reader.into_inner()), RunFault::Thread);
-                    return call_off(rt, f, hand, sink, started, settings, fed);
+                    let sink = call_off(rt, f, hand, sink, started, settings);
+                    return (sink, Fed::unread(reader, RunFault::Thread));
                 }
             }
             let (mine, other) = match hand.split(alloc, f) {
                 Ok(both) => both,
                 Err((back, _)) => {
-                    let fed = Fed::nothing(Some(reader.into_inner()), RunFault::Memory);
-                    return call_off(rt, f, back, sink, workers, settings, fed);
+                    let sink = call_off(rt, f, back, sink, workers, settings);
+                    return (sink, Fed::unread(reader, RunFault::Memory));
                 }
             };
             let Ok(thread) = scope.spawn(
@@ -139,8 +138,8 @@ fn pass<
                     feed(rt, station, reader, workers, settings)
                 },
             ) else {
-                let fed = Fed::nothing(None, RunFault::Thread);
-                return call_off(rt, f, mine, sink, workers, settings, fed);
+                let sink = call_off(rt, f, mine, sink, workers, settings);
+                return (sink, Fed::lost());
             };
             let mut station = Station::new(f, mine, settings.cache as usize);
             let room = settings.room as usize;
@@ -171,8 +170,7 @@ fn over_rings<
     requires settings { GoesBy settings.now J.room J.forwarding (length J.before) }
 {
     let Some(opened) = open_rings::<J>(alloc, settings) else {
-        let device = Some(reader.into_inner());
-        return (sink, Fed::nothing(device, RunFault::Memory));
+        return (sink, Fed::unread(reader, RunFault::Memory));
     };
     let Opened {
         fabric,
@@ -184,7 +182,7 @@ fn over_rings<
             rt, alloc, gate, workers, &fabric, hand, reader, sink, settings,
         ),
         Err(ring) => {
-            let fed = Fed::nothing(Some(reader.into_inner()), RunFault::Memory);
+            let fed = Fed::unread(reader, RunFault::Memory);
             (sink, fed.with(Err(ring)))
         }
     }
@@ -215,6 +213,8 @@ fn run_started<
     requires input { HasInput R.remaining reader J.input J.read_failures }
     requires settings { GoesBy settings.now J.room J.forwarding (length J.before) }
     requires outputs { AreReady W.contents outputs spare.items (vec_capacity spare) J.before J.failures J.resolution }
+    ensures many { vec_len result.1 ≡ length J.before }
+    ensures here { result.0 ≡ None → result.2 ≡ Err Thread }
     ensures outputs { OnOk result.2 ((all : List Fate) → fates_of J.forwarding J.room J.input ≡ Some all
         → AreOutputs W.contents J.before J.resolution all result.1.items) }
     ensures begun { (all : List Fate) → fates_of J.forwarding J.room J.input ≡ Some all
@@ -267,6 +267,8 @@ pub fn run_threads<
 )
     requires few { workers ≤ 16 }
     requires ports { vec_len writers ≡ vec_len settings.now.ports.sources }
+    ensures many { vec_len result.1 ≡ vec_len writers }
+    ensures here { result.0 ≡ None → result.2 ≡ Err Thread }
     ensures run { IfOk result.2 (λ summary. IfSome (to_come R.remaining reader) (λ bytes.
         IsRun W.contents settings.now bytes writers.items result.1.items summary)) }
     ensures begun { IfSome (to_come R.remaining reader) (λ bytes.

@@ -47,6 +47,8 @@ returns-in-Ok-open_all-clause-run g c =
     let same = c.in-Ok-open_all.ensures.devices in
     run_told contents settings (order_of c.in-Ok.reader) (resolution_of c.in-Ok.reader) (to_come g.R.Read.remaining c.args.reader)
     (rest g.R.Read.remaining c.in-Ok.reader) c.args.writers.items c.run_started.result.1.items r c.in-Ok.ensures.header c.in-Ok.ensures.rest
+    (sym c.run_started.result.1.ok.0 ∙ (c.run_started.ensures.many
+    ∙ (length-map (devices_of c.in-Ok-open_all.outputs.writers.items) (told contents) ∙ ap length same)))
     (subst (λ ds. OnOk r ((all : List Fate) → fates_of (forwarding_by settings) settings.room input ≡ Some all
     → AreOutputs contents (map (told contents) ds) (resolution_of c.in-Ok.reader) all c.run_started.result.1.items)) same c.run_started.ensures.outputs)
     (subst (λ n. IfOk r (Sums input n settings.room (forwarding_by settings)))
