@@ -5,6 +5,7 @@ ghost use Rattle.std.specs.Prelude.{◌≡◌, ◌≤◌};
 
 use crate::command_line::{Asked, RunFiles, read_words};
 use crate::fault::Fault;
+use crate::one_line::OneLine;
 use crate::run_answer::run_files;
 use clap::Error;
 use command_file::TextFault;
@@ -143,7 +144,7 @@ fn read<'a, R: Files + AllocGlobal, I: Read + Drop>(
     };
     match bytes {
         Ok(bytes) => Ok(bytes),
-        Err(error) => Err(Fault::of_file(&error, Fault::File(name))),
+        Err(error) => Err(Fault::of_file(&error, Fault::File(OneLine(name)))),
     }
 }
 

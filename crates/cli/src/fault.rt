@@ -1,5 +1,6 @@
 //! Why a run of the program ended early: one line on the error stream, after `pktkit: `.
 
+use crate::one_line::OneLine;
 use command_file::TextFault;
 use pcapio::CapFault;
 use settings::SettingsFault;
@@ -13,10 +14,10 @@ use thiserror::Error;
 pub enum Fault<'a> {
     /// A file that the command line names can't be opened or read.
     #[error("file {0}")]
-    File(&'a str),
-    /// The file of a port can't be created.
+    File(OneLine<&'a str>),
+    /// The file of a port can't be created, or is a file that the run reads, or another port's.
     #[error("file {0}")]
-    PortFile(String),
+    PortFile(OneLine<String>),
     /// A file of commands wasn't answered to its end.
     #[error("{0}")]
     Text(TextFault),

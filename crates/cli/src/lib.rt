@@ -6,7 +6,9 @@ mod command_line;
 mod entry;
 mod fault;
 mod help;
+mod one_line;
 mod run_answer;
+mod same_file;
 
 pub use command_line::behind_name;
 pub use entry::{out_of_memory, program};

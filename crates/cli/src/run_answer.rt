@@ -6,18 +6,21 @@ ghost use Rattle.counters.specs.Report.{report_of};
 
 use crate::command_line::{MOST_WORKERS, RunFiles};
 use crate::fault::Fault;
+use crate::one_line::OneLine;
+use crate::same_file::{FileId, check_ports, note};
 use itoa::Buffer;
 use pcapio::Counted;
 use settings::Settings;
 use stages::{Open, Summary, run_one, run_threads};
 use std::alloc::{AllocError, Global};
-use std::fs;
+use std::fs::{self, OpenFile};
 use std::rt::Files;
 use std::sync::Wait;
 use std::thread::Threads;
 
 /// The report of a run over these files. The settings are read first, then the capture is opened, then the files of
-/// the ports are created or emptied, and then the run begins: a fault leaves the files alone that come after it.
+/// the ports are created or emptied, and then the run begins: a fault leaves the files alone that come after it. A
+/// port's file that is one of the other files is a fault before any file is created or emptied.
 pub fn run_files<'a, R: Files + AllocGlobal, T: Threads + Wait + Sync>(
     rt: &R,
     threads: &T,
@@ -29,8 +32,9 @@ where
     let settings = read_settings(rt, files.config)?;
     let input = match fs::open(rt, files.input) {
         Ok(input) => Counted::new(input),
-        Err(error) => return Err(Fault::of_file(&error, Fault::File(files.input))),
+        Err(error) => return Err(Fault::of_file(&error, Fault::File(OneLine(files.input)))),
     };
+    check_ports(rt, files, settings.ports.sources.len())?;
     let ports = create_ports(rt, files.out, settings.ports.sources.len())?;
     let summary = if files.workers == 0 {
         let (_input, _ports, summary) = run_one(rt.alloc(), input, ports, &settings);
@@ -64,7 +68,7 @@ fn read_settings<'a, R: Files + AllocGlobal>(
 ) -> Result<Settings, Fault<'a>> {
     let text = match fs::read(rt, config) {
         Ok(text) => text,
-        Err(error) => return Err(Fault::of_file(&error, Fault::File(config))),
+        Err(error) => return Err(Fault::of_file(&error, Fault::File(OneLine(config)))),
     };
     match Settings::read(rt.alloc(), text.as_slice()) {
         Ok(settings) => Ok(settings),
@@ -72,7 +76,8 @@ fn read_settings<'a, R: Files + AllocGlobal>(
     }
 }
 
-/// The files of so many ports, created or emptied in their order, up to the first that can't be.
+/// The files of so many ports, created or emptied in their order, up to the first that can't be. Names that are links to
+/// one file that wasn't there are found here: it is there, and empty, once the first of them is created.
 fn create_ports<'a, R: Files + AllocGlobal>(
     rt: &R,
     prefix: &str,
@@ -81,8 +86,9 @@ fn create_ports<'a, R: Files + AllocGlobal>(
     ensures { IfOk result (λ ports. vec_len ports ≡ count) }
 {
     let mut ports = Vec::new(rt.alloc());
+    let mut created = Vec::<FileId>::new(rt.alloc());
     for port in 0..count {
-        let file = create_port(rt, prefix, port)?;
+        let file = create_port(rt, prefix, port, &mut created)?;
         if ports.push(Counted::new(file)).is_err() {
             return Err(Fault::Memory);
         }
@@ -90,21 +96,27 @@ fn create_ports<'a, R: Files + AllocGlobal>(
     Ok(ports)
 }
 
-/// The file of a port, created or emptied.
+/// The file of a port, created or emptied, which is none of those that were created before.
 fn create_port<'a, R: Files + AllocGlobal>(
     rt: &R,
     prefix: &str,
     port: usize,
+    created: &mut Vec<FileId>,
 ) -> Result<R::File, Fault<'a>> {
     let name = port_name(rt.alloc(), prefix, port)?;
     match fs::create(rt, name.as_str()) {
-        Ok(file) => Ok(file),
-        Err(error) => Err(Fault::of_file(&error, Fault::PortFile(name))),
+        Ok(file) => {
+            if note(created, file.metadata())? {
+                return Err(Fault::PortFile(OneLine(name)));
+            }
+            Ok(file)
+        }
+        Err(error) => Err(Fault::of_file(&error, Fault::PortFile(OneLine(name)))),
     }
 }
 
 /// The name of a port's file.
-fn port_name(alloc: Global, prefix: &str, port: usize) -> Result<String, AllocError>
+pub(crate) fn port_name(alloc: Global, prefix: &str, port: usize) -> Result<String, AllocError>
     ensures { IfOk result (λ name. name.bytes.items ≡ prefix.now ++ (codes "." ++ (decimal port ++ codes ".pcap"))) }
 {
     let mut number = Buffer::new();
