@@ -41,10 +41,12 @@ compare:
 	@for port in $(OUT).alone.*.pcap; do cmp $$port $(OUT)$${port#$(OUT).alone} || exit 1; done
 	@echo "compare: by one thread the same bytes at each port"
 
-# The merge gate: every proof from nothing, the must-fail edits, the tests and the programs; and then, with the program
-# that was proved there, runs that are refused memory, and the commands of the documents.
+# The merge gate: every proof from nothing, the must-fail edits, the tests and the programs; then that each wrong body of
+# the table has its edit or test; and, with the program that was proved there, runs that are refused memory, and the
+# commands of the documents.
 test:
 	rt ci
+	tools/try-bodies
 	PKTKIT=$(CURDIR)/crates/pktkit/out/pktkit tools/try-memory
 	PKTKIT=$(CURDIR)/crates/pktkit/out/pktkit tools/try-docs
 
