@@ -1,8 +1,8 @@
 //! What `--version` prints, and what help says below the options: the lines of files of commands, examples, and what
 //! the statuses mean. `man/pktkit.1` says more.
 
-/// The version, and the logic that this source was proved with: the last word of `rt version`, which is the same for each build of
-/// the toolchain that proves by the same rules.
+/// The version, and the logic that this source was proved with: the last word of `rt version`, which is the same for
+/// each build of the toolchain that proves by the same rules.
 pub const VERSION: &str = "0.1.0\nThis source was proved with Rattle's logic dac8208d650f15bf.";
 
 /// Below the options of the program itself.

@@ -3,8 +3,8 @@
 use std::convert::AsStr;
 use std::fmt::{Display, Error, Formatter, Write};
 
-/// A text in which control characters are written as escapes, a line break as `\n`: a fault is one line whatever its
-/// file is named.
+/// A text whose control characters are written as escapes, a line break as `\n`. So a fault stays one line, even if a
+/// file's name has a line break.
 #[derive(Debug, Drop)]
 pub struct OneLine<S>(pub S);
 

@@ -76,8 +76,8 @@ fn read_settings<'a, R: Files + AllocGlobal>(
     }
 }
 
-/// The files of so many ports, created or emptied in their order, up to the first that can't be. Names that are links to
-/// one file that wasn't there are found here: it is there, and empty, once the first of them is created.
+/// The files of so many ports, created or emptied in their order, up to the first that can't be. If two names are links
+/// to one file that didn't exist, this is found here: creating the first port's file creates it, and leaves it empty.
 fn create_ports<'a, R: Files + AllocGlobal>(
     rt: &R,
     prefix: &str,

@@ -1,5 +1,5 @@
-//! Which names of a run are one file. A port's file is emptied as it is created, so it may be no file that the run reads,
-//! and no other port's.
+//! Finds names of a run that are one file. Creating a port's file empties it, so it must not be a file that the run
+//! reads, nor the file of another port.
 
 use crate::command_line::RunFiles;
 use crate::fault::Fault;
@@ -18,8 +18,8 @@ pub struct FileId {
 }
 
 impl FileId {
-    /// That of a regular file. A device or a pipe has nothing that could be emptied, and where the system numbers no
-    /// files nothing is known.
+    /// The identity of a regular file. A device or a pipe has nothing that could be emptied. None also where the system
+    /// gives files no numbers.
     pub fn of(about: &Metadata) -> Option<FileId> {
         if !about.is_file() || about.ino() == 0 {
             return None;
@@ -31,8 +31,8 @@ impl FileId {
     }
 }
 
-/// Refuses a run of which a port's file is the settings, the capture, or the file of another port, after links are
-/// followed. Nothing is created or emptied. Files that aren't there yet are no others.
+/// Refuses a run in which a port's file is the settings, the capture, or the file of another port. Links are followed.
+/// Nothing is created or emptied. A file that doesn't exist yet can't be one of the others.
 pub fn check_ports<'a, R: Files + AllocGlobal>(
     rt: &R,
     files: &RunFiles<'a>,

@@ -52,8 +52,8 @@ fn copies_while_every_request_is_refused(rt: HostRuntime) -> Result<(), Fail> {
     Ok(())
 }
 
-/// Reads a capture to its end by `head` and `body`: its heads and their bytes are those of the rows, of which one without
-/// bytes is cut off. Tells whether the end is torn.
+/// Reads a capture to its end by `head` and `body`: its heads and their bytes are those of the rows. A row without
+/// bytes stands for a record that is cut off. Answers whether the end is torn.
 fn stream_rows<R: Read>(
     rt: &impl Abort,
     reader: &mut Reader<R>,

@@ -5,8 +5,8 @@
 //! Contracts see a window as a finite map from numbers to items and the number whose turn is next. That number n
 //! stands at place `n mod size` is known to this crate alone.
 //!
-//! A caller, proved in lookup_tests (`in_turn`): two items that come in the wrong order leave in the right one, and neither
-//! `unwrap` can fail.
+//! A caller, proved in lookup_tests (`in_turn`): two items that come in the wrong order leave in the right one, and
+//! neither `unwrap` can fail.
 //!
 //! ```text
 //! let mut window = Window::new(alloc, 2)?;

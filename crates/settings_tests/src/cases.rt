@@ -1,4 +1,4 @@
-//! Documents, each with a line above it that begins with `==` and says what is told of it: its fault, or the buffers,
+//! Documents, each with a line above it that begins with `==` and says the answer: its fault, or the buffers,
 //! ports and hops that it asks for. A line of `#` is a comment, as in each of them.
 
 pub const DOCUMENTS: &str = r#"# The example with other values.

@@ -136,7 +136,7 @@ fn texts_that_no_line_can_show(rt: HostRuntime) -> Result<(), Fail> {
     refused_text(&rt, "", "Missing buffers")
 }
 
-/// What is told of a text: its fault, or the buffers, ports and hops that it asks for.
+/// The answer to a text: its fault, or the buffers, ports and hops that it asks for.
 fn told(alloc: Global, text: &str) -> Result<String, AllocError> {
     match read(alloc, text.as_bytes()) {
         Err(fault) => format!(in alloc; "{fault}"),
@@ -152,7 +152,7 @@ fn told(alloc: Global, text: &str) -> Result<String, AllocError> {
 fn documents_and_what_is_told_of_them(rt: HostRuntime) -> Result<(), Fail> {
     let mut count = 0u32;
     for case in DOCUMENTS.split("== ").skip(1) {
-        let (wanted, text) = case.split_once('\n').ok_or("no line behind ==")?;
+        let (wanted, text) = case.split_once('\n').ok_or("no line after ==")?;
         assert_eq!(rt; told(rt.alloc(), text)?.as_str(), wanted, "{text}");
         // Saturating here: no clause bounds it, and it stays small.
         count = count.saturating_add(1);

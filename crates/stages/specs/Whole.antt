@@ -30,7 +30,7 @@ abbrev pub HasSomeHeader : List ℕ → Type 0
 HasSomeHeader bytes = (order : ByteOrder) × (resolution : Resolution) × HasHeader bytes order resolution
 
 module _ {W : Type 0} (contents : W → Option (List ℕ)) (settings : Settings) (bytes : List ℕ) where
-  -- the bytes are a capture; the device of each port is there, and was told its whole output; and the counts are those
+  -- the bytes are a capture; the device of each port came back, and received its whole output; and the counts are those
   -- of its records
   pub record IsRun (writers devices : List (Counted W)) (summary : Summary) : Type 0 where
     pub capture : Capture
@@ -52,7 +52,7 @@ module _ {W : Type 0} (contents : W → Option (List ℕ)) (settings : Settings)
   abbrev pub IsUntouched : List (Counted W) → List (Counted W) → Type 0
   IsUntouched writers devices = (¬ HasSomeHeader bytes) → devices ≡ writers
 
--- what each device was told before is known
+-- it is known what each device received before
 abbrev pub AreKnown : List (Option (List ℕ)) → Type 0
 AreKnown texts = (q : ℕ) → q < length texts → (x : List ℕ) × (slice_get texts q ≡ Some (Some x))
 

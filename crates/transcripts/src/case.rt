@@ -30,7 +30,7 @@ pub struct Case {
     pub capture: Vec<u8>,
     /// Each command line is run over so many bytes of the capture, from the first number to the second.
     pub cut: Option<(usize, usize)>,
-    /// What has to stand somewhere in the output, which then only begins with the lines that are told.
+    /// What has to stand somewhere in the output, which then only has to begin with the `>` lines.
     pub parts: Vec<Vec<u8>>,
     /// What each run has to leave.
     pub left: Left,

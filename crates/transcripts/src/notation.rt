@@ -7,7 +7,7 @@ use std::collections::BTreeMap;
 /// Bytes that a file of cases gives a name.
 pub type Names = BTreeMap<String, Vec<u8>>;
 
-/// Puts a line of text behind `into`, so many times as `*N ` in front of it says. A backslash with two hexadecimal
+/// Appends a line of text to `into`, as many times as `*N ` in front of it says. A backslash with two hexadecimal
 /// digits is that byte. The end of the line is a byte 0x0a, or nothing where the line ends with a backslash.
 pub fn put_text(into: &mut Vec<u8>, line: &str) -> Result<()> {
     let (times, text) = match line.strip_prefix('*') {
@@ -20,7 +20,7 @@ pub fn put_text(into: &mut Vec<u8>, line: &str) -> Result<()> {
     Ok(())
 }
 
-/// Puts a line of text behind `into` once.
+/// Appends a line of text to `into` once.
 fn put_line(into: &mut Vec<u8>, text: &str) -> Result<()> {
     let mut plain = true;
     for part in text.split('\\') {
@@ -37,7 +37,7 @@ fn put_line(into: &mut Vec<u8>, text: &str) -> Result<()> {
     Ok(())
 }
 
-/// Puts what stands behind a backslash: a byte by its digits, and text.
+/// Appends what follows a backslash: a byte by its digits, and text.
 fn put_escaped(into: &mut Vec<u8>, part: &[u8]) -> Result<()> {
     let [high, low, text @ ..] = part else {
         bail!("a backslash wants two digits");
@@ -57,7 +57,7 @@ fn byte_of(high: u8, low: u8) -> Option<u8> {
     u8::try_from(high * 16 + low).ok()
 }
 
-/// Puts the bytes of words behind `into`: two hexadecimal digits are a byte, `NAME` the bytes of that name, `NAME*N`
+/// Appends the bytes of words to `into`: two hexadecimal digits are a byte, `NAME` the bytes of that name, `NAME*N`
 /// these N times, and `NAME/N` the first N of them.
 pub fn put_bytes(into: &mut Vec<u8>, names: &Names, words: &str) -> Result<()> {
     for word in words.split_whitespace() {
@@ -72,7 +72,7 @@ pub fn put_bytes(into: &mut Vec<u8>, names: &Names, words: &str) -> Result<()> {
     Ok(())
 }
 
-/// Puts the bytes of a name behind `into`, so often or so many as the word says.
+/// Appends the bytes of a name to `into`, as often or as many as the word says.
 fn put_named(into: &mut Vec<u8>, names: &Names, word: &str) -> Result<()> {
     if let Some((name, times)) = word.split_once('*') {
         let bytes = named(names, name)?;

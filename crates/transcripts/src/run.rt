@@ -152,7 +152,7 @@ fn tell<R: AllocGlobal + Print>(rt: &R, left: &Left) -> Result<()> {
     Ok(())
 }
 
-/// Prints the lines of a text behind a mark.
+/// Prints the lines of a text, each after a mark.
 fn tell_text<R: Print>(rt: &R, mark: &str, bytes: &[u8]) -> Result<()> {
     let Ok(text) = std::str::from_utf8(bytes) else {
         return tell_bytes(rt, mark, bytes);
@@ -163,7 +163,7 @@ fn tell_text<R: Print>(rt: &R, mark: &str, bytes: &[u8]) -> Result<()> {
     Ok(())
 }
 
-/// Prints bytes by hexadecimal digits behind a mark.
+/// Prints bytes as hexadecimal digits after a mark.
 fn tell_bytes<R: Print>(rt: &R, mark: &str, bytes: &[u8]) -> Result<()> {
     print!(rt; "{mark}")?;
     for byte in bytes {

@@ -1,7 +1,8 @@
-//! The calls of a table without their clauses: what they answer a test sees as it runs, and so its proof needs none.
+//! The calls of a table without their contracts: a test checks the answers when it runs, so its proof needs none.
 
 use lpm::{RouteFault, Table};
 
+/// Adds a route, once.
 pub fn add_once(table: &mut Table, addr: u32, depth: u8, hop: u32) -> Result<(), RouteFault> {
     table.add(addr, depth, hop)
 }
@@ -16,10 +17,12 @@ pub fn add(table: &mut Table, addr: u32, depth: u8, hop: u32) -> Result<(), Rout
     }
 }
 
+/// Removes a route.
 pub fn remove(table: &mut Table, addr: u32, depth: u8) -> Result<(), RouteFault> {
     table.remove(addr, depth)
 }
 
+/// The next hop for an address.
 pub fn lookup(table: &Table, addr: u32) -> Option<u32> {
     table.lookup(addr)
 }
