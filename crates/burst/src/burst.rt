@@ -126,13 +126,13 @@ impl<T: Drop, const N: usize> Burst<T, N> {
     /// Moves the items behind the first `k` behind those of another list, the last of them first. Asked: there are so
     /// many, and there is room.
     #[inline]
-    pub fn pour(&mut self, k: usize, to: &mut Burst<T, N>)
+    pub fn move_tail_reversed(&mut self, k: usize, to: &mut Burst<T, N>)
         requires fits { k ≤ length self.old }
         requires room { length to.old + (length self.old - k) ≤ N }
         ensures left { self.new ≡ take k self.old }
         ensures moved { to.new ≡ to.old ++ reverse (drop k self.old) }
     {
-        self.cells.pour(k, &mut to.cells);
+        self.cells.move_tail_reversed(k, &mut to.cells);
     }
 
     /// Turns the order of the items round.

@@ -84,7 +84,7 @@ impl<T: Drop, const N: usize> Cells<T, N> {
 
     /// Appends `n` cells that hold nothing, at the price of a number. Asked: there is room for them.
     #[inline]
-    pub fn lengthen(&mut self, n: usize)
+    pub fn grow_empty(&mut self, n: usize)
         requires { length self.old + n ≤ N }
         ensures { self.new ≡ self.old ++ replicate n None }
     {
@@ -93,7 +93,7 @@ impl<T: Drop, const N: usize> Cells<T, N> {
 
     /// Keeps the first `n` cells, at the price of a number. Asked: the others hold nothing.
     #[inline]
-    pub fn shorten(&mut self, n: usize)
+    pub fn truncate_empty(&mut self, n: usize)
         requires fits { n ≤ length self.old }
         requires blank { drop n self.old ≡ replicate (length self.old - n) None }
         ensures { self.new ≡ take n self.old }
@@ -136,19 +136,19 @@ impl<T: Drop, const N: usize> Cells<T, N> {
     {
         let before = self.len();
         let many = other.len();
-        self.lengthen(many);
+        self.grow_empty(many);
         for i in 0..many {
             let cell = other.replace(i, None);
             // the cell held nothing, so that nothing is to be dropped
             let _nothing = ManuallyDrop::new(self.replace(before + i, cell));
         }
-        other.shorten(0);
+        other.truncate_empty(0);
     }
 
     /// Moves the cells behind the first `k` behind those of another list, the last of them first. Asked: there are so
     /// many, and there is room.
     #[inline]
-    pub fn pour(&mut self, k: usize, to: &mut Cells<T, N>)
+    pub fn move_tail_reversed(&mut self, k: usize, to: &mut Cells<T, N>)
         requires fits { k ≤ length self.old }
         requires room { length to.old + (length self.old - k) ≤ N }
         ensures left { self.new ≡ take k self.old }
@@ -156,13 +156,13 @@ impl<T: Drop, const N: usize> Cells<T, N> {
     {
         let before = to.len();
         let all = self.len();
-        to.lengthen(all - k);
+        to.grow_empty(all - k);
         for i in 0..all - k {
             let cell = self.replace(all - 1 - i, None);
             // the cell held nothing, so that nothing is to be dropped
             let _nothing = ManuallyDrop::new(to.replace(before + i, cell));
         }
-        self.shorten(k);
+        self.truncate_empty(k);
     }
 
     /// Turns the order of the cells round.

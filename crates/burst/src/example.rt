@@ -11,6 +11,6 @@ pub(crate) fn last_first(first: u32, second: u32) -> Burst<u32, 4>
     items.push(first);
     items.push(second);
     let mut turned = Burst::<u32, 4>::new();
-    items.pour(0, &mut turned);
+    items.move_tail_reversed(0, &mut turned);
     turned
 }

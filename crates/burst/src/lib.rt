@@ -6,7 +6,7 @@
 //! ```text
 //! items.push(first);
 //! items.push(second);
-//! items.pour(0, &mut turned);  // turned has second, first
+//! items.move_tail_reversed(0, &mut turned);  // turned has second, first
 //! ```
 #![tactic(auto)]
 

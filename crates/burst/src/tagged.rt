@@ -16,14 +16,14 @@ pub trait Tagged: Drop {
     /// Writes the numbers of the item's buffers into `out`, in the order of `numbers`. Asked: `out` is empty.
     fn tags(&self, out: &mut ArrayVec<u32, 64>)
         requires empty { out.old.items ≡ [] }
-        ensures told { out.new.items ≡ numbers self.now }
+        ensures exact { out.new.items ≡ numbers self.now }
         // no item carries a buffer twice: each `impl` shows it, and a generic caller learns it of any item that it asks
         ensures distinct { AreDistinct (numbers self.now) };
 
     /// The number of the item's buffer, where it carries exactly one, as most items do. What is asked of each item on
     /// its way; an `impl` whose `tags` is long has a shorter way to tell it.
     #[inline]
-    fn only_tag(&self) -> Option<u32>
+    fn single_tag(&self) -> Option<u32>
         ensures { result ≡ only (numbers self.now) }
     {
         let mut out = ArrayVec::new();

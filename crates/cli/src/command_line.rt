@@ -11,11 +11,11 @@ use std::alloc::{AllocError, Global};
 use std::env::Args;
 
 /// The most workers that a run may have.
-pub const MOST_WORKERS: usize = 16;
+pub const MAX_WORKERS: usize = 16;
 
 /// What a command line asks for.
 #[derive(Clone, Copy, Debug, PartialEq, Eq)]
-pub enum Asked<'a> {
+pub enum Request<'a> {
     /// The replies to the ring commands of a file, or of the input where no file is named.
     Ring(Option<&'a str>),
     /// The replies to the steps of a file.
@@ -38,26 +38,26 @@ pub struct RunFiles<'a> {
 }
 
 /// The words after the program's name.
-pub fn behind_name(alloc: Global, words: Args) -> Result<Vec<String>, AllocError>
+pub fn skip_program_name(alloc: Global, words: Args) -> Result<Vec<String>, AllocError>
     ensures { IfOk result (λ behind. behind.items ≡ drop 1 (into_iter_items words)) }
 {
     words.skip(1).collect(alloc)
 }
 
 /// Reads the words after the program's name. Without any the input is asked for.
-pub fn read_words<'a>(alloc: Global, words: &'a [String]) -> Result<Asked<'a>, Error> {
+pub fn read_words<'a>(alloc: Global, words: &'a [String]) -> Result<Request<'a>, Error> {
     if words.is_empty() {
-        return Ok(Asked::Ring(None));
+        return Ok(Request::Ring(None));
     }
     let matches = pktkit(alloc)?.try_get_matches_from(words)?;
     match matches.subcommand() {
-        Some(("steps", steps)) => Ok(Asked::Steps(steps.get_str("FILE"))),
+        Some(("steps", steps)) => Ok(Request::Steps(steps.get_str("FILE"))),
         Some(("run", run)) => match run_files(run) {
-            Some(files) => Ok(Asked::Run(files)),
-            None => Err(lacks_a_file(alloc)?),
+            Some(files) => Ok(Request::Run(files)),
+            None => Err(missing_argument(alloc)?),
         },
-        Some((_, ring)) => Ok(Asked::Ring(ring.get_str("FILE"))),
-        None => Ok(Asked::Ring(None)),
+        Some(("ring", ring)) => Ok(Request::Ring(ring.get_str("FILE"))),
+        _ => Err(missing_subcommand(alloc)?),
     }
 }
 
@@ -72,7 +72,7 @@ fn run_files<'a>(run: &ArgMatches<'a>) -> Option<RunFiles<'a>> {
 }
 
 /// The refusal of a run that isn't told each of its files.
-fn lacks_a_file(alloc: Global) -> Result<Error, Error> {
+fn missing_argument(alloc: Global) -> Result<Error, Error> {
     let mut run = run_command(alloc)?.bin_name("pktkit run")?;
     let error = run.error(
         ErrorKind::MissingRequiredArgument,
@@ -81,12 +81,19 @@ fn lacks_a_file(alloc: Global) -> Result<Error, Error> {
     Ok(error)
 }
 
+/// The refusal of words without a subcommand.
+fn missing_subcommand(alloc: Global) -> Result<Error, Error> {
+    let mut command = pktkit(alloc)?;
+    let error = command.error(ErrorKind::MissingSubcommand, "a subcommand is required")?;
+    Ok(error)
+}
+
 /// The command line of `pktkit`.
 fn pktkit<'a>(alloc: Global) -> Result<Command<'a>, Error> {
-    let ring = of_a_file(alloc, "ring", "Ring commands, one a line")?
+    let ring = file_subcommand(alloc, "ring", "Ring commands, one a line")?
         .about("Prints the replies to a file of ring commands")
         .after_help(help::RING);
-    let steps = of_a_file(alloc, "steps", "A plan, and then atomic steps, one a line")?
+    let steps = file_subcommand(alloc, "steps", "A plan, and then atomic steps, one a line")?
         .about("Prints the replies to a file of atomic steps on shared rings")
         .after_help(help::STEPS);
     let command = Command::new(alloc, "pktkit")
@@ -108,7 +115,7 @@ fn run_command<'a>(alloc: Global) -> Result<Command<'a>, Error> {
         .long("workers")
         .value_name("N")
         .action(ArgAction::Set)
-        .value_parser(ValueParser::unsigned(0, MOST_WORKERS as u64))
+        .value_parser(ValueParser::unsigned(0, MAX_WORKERS as u64))
         .default_value("1")
         .help("How many threads judge packets, 0 to 16; with 0 one thread does all");
     let command = Command::new(alloc, "run")
@@ -147,7 +154,7 @@ fn path<'a>(alloc: Global, name: &'a str, value: &'a str, help: &'a str) -> Arg<
 }
 
 /// A subcommand that names a file.
-fn of_a_file<'a>(alloc: Global, name: &'a str, help: &'a str) -> Result<Command<'a>, Error> {
+fn file_subcommand<'a>(alloc: Global, name: &'a str, help: &'a str) -> Result<Command<'a>, Error> {
     let file = Arg::new(alloc, "FILE")
         .required(true)
         .action(ArgAction::Set)

@@ -3,7 +3,7 @@
 
 ghost use Rattle.std.specs.Prelude.{◌≡◌, ◌≤◌};
 
-use crate::command_line::{Asked, RunFiles, read_words};
+use crate::command_line::{Request, RunFiles, read_words};
 use crate::fault::Fault;
 use crate::one_line::OneLine;
 use crate::run_answer::run_files;
@@ -35,9 +35,9 @@ where
     ensures { result ≤ 2 }
 {
     let done = match read_words(rt.alloc(), words) {
-        Ok(Asked::Ring(file)) => answer_ring(rt, file, input, out),
-        Ok(Asked::Steps(file)) => answer_steps(rt, file, input, out),
-        Ok(Asked::Run(files)) => answer_run(rt, threads, &files, out),
+        Ok(Request::Ring(file)) => answer_ring(rt, file, input, out),
+        Ok(Request::Steps(file)) => answer_steps(rt, file, input, out),
+        Ok(Request::Run(files)) => answer_run(rt, threads, &files, out),
         Err(refusal) => return refuse(&refusal, out, err),
     };
     match done {
@@ -47,7 +47,7 @@ where
 }
 
 /// Tells that no memory was had for the words of the command line.
-pub fn out_of_memory<E: Write>(err: &mut E) -> u8
+pub fn report_out_of_memory<E: Write>(err: &mut E) -> u8
     ensures { result ≡ 1 }
 {
     tell(Fault::Memory, err)
@@ -89,7 +89,7 @@ fn answer_ring<'a, R: Files + AllocGlobal, I: Read + Drop, O: Write>(
     let mut replies = Vec::new(rt.alloc());
     let answered = ring_text(rt.alloc(), bytes.as_slice(), &mut replies);
     print(replies.as_slice(), out)?;
-    well(answered)
+    text_result(answered)
 }
 
 /// Prints the replies to the steps of a file.
@@ -103,11 +103,11 @@ fn answer_steps<'a, R: Files + AllocGlobal, I: Read + Drop, O: Write>(
     let mut replies = Vec::new(rt.alloc());
     let answered = steps_text(rt.alloc(), bytes.as_slice(), &mut replies);
     print(replies.as_slice(), out)?;
-    well(answered)
+    text_result(answered)
 }
 
-/// What a text is told as that was not answered to its end.
-fn well<'a>(answered: Result<(), TextFault>) -> Result<(), Fault<'a>> {
+/// The fault of a command file, if it was not answered to its end.
+fn text_result<'a>(answered: Result<(), TextFault>) -> Result<(), Fault<'a>> {
     match answered {
         Ok(()) => Ok(()),
         Err(fault) => Err(Fault::Text(fault)),

@@ -10,6 +10,6 @@ mod one_line;
 mod run_answer;
 mod same_file;
 
-pub use command_line::behind_name;
-pub use entry::{out_of_memory, program};
+pub use command_line::skip_program_name;
+pub use entry::{program, report_out_of_memory};
 pub use fault::Fault;

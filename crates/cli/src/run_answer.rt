@@ -4,7 +4,7 @@
 ghost use Rattle.std.specs.Prelude.{◌≡◌, ◌++◌, IfOk, codes, decimal, vec_len};
 ghost use Rattle.counters.specs.Report.{report_of};
 
-use crate::command_line::{MOST_WORKERS, RunFiles};
+use crate::command_line::{MAX_WORKERS, RunFiles};
 use crate::fault::Fault;
 use crate::one_line::OneLine;
 use crate::same_file::{FileId, check_ports, note};
@@ -40,7 +40,7 @@ where
         let (_input, _ports, summary) = run_one(rt.alloc(), input, ports, &settings);
         summary
     } else {
-        let workers = files.workers.min(MOST_WORKERS);
+        let workers = files.workers.min(MAX_WORKERS);
         let (_input, _ports, summary) = run_threads(
             threads,
             rt.alloc(),

@@ -1,7 +1,7 @@
 -- Files of commands, answered one line after the other
 use Rattle.std.specs.Prelude.{ℕ, ◌-◌, ◌≡◌, ◌<◌, ◌≤◌, ◌&&◌, List, [], ◌∷◌, ◌++◌, length, take, slice_index_or, Bool}
 use Rattle.std.specs.Prelude.{true, false, IsTrue, if◌then◌else◌}
-use Rattle.command_file.specs.Text.{Bytes, words_of, is_skipped}
+use Rattle.command_file.specs.Text.{Bytes, words_of, is_blank_or_comment}
 
 -- 1. A kind of command file: S is what the lines so far leave for the later ones
 
@@ -18,13 +18,13 @@ pub record Kind (S : Type 0) : Type 0 where
 -- 2. Lines, one after the other
 
 abbrev pub is_admitted : {S : Type 0} → Kind S → S → List Bytes → Bool
-is_admitted kind s words = if is_skipped words then true else kind.admits s words
+is_admitted kind s words = if is_blank_or_comment words then true else kind.admits s words
 
 abbrev pub reply_at : {S : Type 0} → Kind S → S → List Bytes → Bytes
-reply_at kind s words = if is_skipped words then [] else kind.answer s words
+reply_at kind s words = if is_blank_or_comment words then [] else kind.answer s words
 
 abbrev pub state_past : {S : Type 0} → Kind S → S → List Bytes → S
-state_past kind s words = if is_skipped words then s else kind.follow s words
+state_past kind s words = if is_blank_or_comment words then s else kind.follow s words
 
 abbrev pub are_admitted : {S : Type 0} → Kind S → S → List Bytes → Bool
 are_admitted kind s [] = true

@@ -26,8 +26,8 @@ abbrev pub words_of : Bytes → List Bytes
 words_of line = filter (λ word. not (length word == 0)) (slice_split is_blank line)
 
 -- whether a line asks for nothing: it has no words, or its first word begins with '#'
-abbrev pub is_skipped : List Bytes → Bool
-is_skipped words = (length words == 0) || (slice_index (first_of words) 0 == 35) where
+abbrev pub is_blank_or_comment : List Bytes → Bool
+is_blank_or_comment words = (length words == 0) || (slice_index (first_of words) 0 == 35) where
   first_of : List Bytes → Bytes
   first_of [] = []
   first_of (word ∷ rest) = word
@@ -40,12 +40,12 @@ abbrev pub digits_value : Bytes → ℕ
 digits_value digits = fold (λ value digit. value * 10 + (digit - 48)) 0 digits
 
 -- whether a word has 1 to `most` bytes
-abbrev pub has_up_to : ℕ → Bytes → Bool
-has_up_to most word = nat_le 1 (length word) && nat_le (length word) most
+abbrev pub len_is_1_to : ℕ → Bytes → Bool
+len_is_1_to most word = nat_le 1 (length word) && nat_le (length word) most
 
 -- 1 to 20 decimal digits
 abbrev pub is_digits : Bytes → Bool
-is_digits word = has_up_to 20 word && list_all is_digit word
+is_digits word = len_is_1_to 20 word && list_all is_digit word
 
 -- a number: 1 to 20 decimal digits with a value below 2^64
 abbrev pub number_of : Bytes → Option ℕ

@@ -10,6 +10,6 @@ mod words;
 
 pub use fault::TextFault;
 pub use how::how_of;
-pub use number::{has_up_to, number_of};
+pub use number::{len_is_1_to, number_of};
 pub use reply::{write_number, write_two_numbers};
-pub use words::{is_skipped, split_words, without_return};
+pub use words::{is_blank_or_comment, split_words, strip_carriage_return};

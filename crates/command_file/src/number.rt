@@ -1,7 +1,7 @@
 //! Words that are numbers.
 
 ghost use Rattle.std.specs.Prelude.{◌≡◌, ◌≤◌, length, IsTrue};
-ghost use Rattle.command_file.specs.Text.{number_of, is_digit, is_digits, has_up_to, digits_value};
+ghost use Rattle.command_file.specs.Text.{number_of, is_digit, is_digits, len_is_1_to, digits_value};
 
 /// How many digits a number has at most.
 const MAX_DIGITS: usize = 20;
@@ -26,14 +26,14 @@ pub fn number_of(word: &[u8]) -> Option<u64>
 fn is_digits(word: &[u8]) -> bool
     ensures { result ≡ is_digits word.now }
 {
-    let sized = has_up_to(MAX_DIGITS, word);
+    let sized = len_is_1_to(MAX_DIGITS, word);
     let digits = word.iter().all(|b| is_digit(*b));
     sized && digits
 }
 
 /// Whether a word has 1 to `most` bytes.
-pub fn has_up_to(most: usize, word: &[u8]) -> bool
-    ensures { result ≡ has_up_to most word.now }
+pub fn len_is_1_to(most: usize, word: &[u8]) -> bool
+    ensures { result ≡ len_is_1_to most word.now }
 {
     !word.is_empty() && word.len() <= most
 }

@@ -2,7 +2,7 @@
 
 ghost use Rattle.std.specs.Prelude.{◌≡◌, OnOk};
 ghost use Rattle.std.specs.Str.Lines.{strip_carriage_return};
-ghost use Rattle.command_file.specs.Text.{texts, words_of, is_skipped};
+ghost use Rattle.command_file.specs.Text.{texts, words_of, is_blank_or_comment};
 
 use std::alloc::AllocError;
 
@@ -20,15 +20,15 @@ pub fn split_words<'a>(line: &'a [u8], words: &mut Vec<&'a [u8]>) -> Result<(), 
 }
 
 /// A line without one 0x0d before its end.
-pub fn without_return(line: &[u8]) -> &[u8]
+pub fn strip_carriage_return(line: &[u8]) -> &[u8]
     ensures { result.now ≡ strip_carriage_return line.now }
 {
     line.strip_suffix(b"\r").unwrap_or(line)
 }
 
 /// Whether a line of these words asks for nothing: it has none, or the first begins with `#`.
-pub fn is_skipped(words: &[&[u8]]) -> bool
-    ensures { result ≡ is_skipped (texts words.now) }
+pub fn is_blank_or_comment(words: &[&[u8]]) -> bool
+    ensures { result ≡ is_blank_or_comment (texts words.now) }
 {
     match words {
         [] => true,

@@ -8,11 +8,8 @@ ghost use Rattle.counters.specs.Tally.{records_of, plus, gathered, SamePorts, wi
 ghost use Rattle.counters.specs.Counted.{counts_of, IsWithin};
 
 use crate::row::{add_row, raise};
-use ipv4::{Reason, Verdict};
+use ipv4::{MAX_PORTS, Reason, Verdict};
 use std::marker::Model;
-
-/// The most ports.
-const MAX_PORTS: usize = 16;
 
 /// How many reasons there are for which a frame is dropped.
 const REASONS: usize = 7;
@@ -45,8 +42,8 @@ impl Model for Counts {
 impl Counts {
     /// Counts of nothing, with 1 to 16 ports.
     pub fn new(ports: usize) -> Counts
-        requires some { 0 < ports }
-        requires few { ports ≤ 16 }
+        requires nonzero { 0 < ports }
+        requires at_most { ports ≤ 16 }
         ensures { result ≡ counts_of ports 0 [] }
     {
         Counts {
@@ -108,7 +105,7 @@ impl Counts {
 
     /// The sums of several counts, at least one, all with as many ports.
     pub fn gather(list: &[Counts]) -> Counts
-        requires some { 0 < length list.now }
+        requires nonzero { 0 < length list.now }
         requires same { SamePorts list.now }
         requires fits { sum_by records_of list.now < 2 ^ 64 }
         ensures { result ≡ gathered list.now }

@@ -6,7 +6,7 @@ ghost use Rattle.counters.specs.Tally.{plus};
 ghost use Rattle.counters.specs.Counted.{counts_of};
 
 /// Parts add up: the counts of two lists of verdicts, one after the other, are the sums of the counts of each.
-pub fn parts_add_up()
+pub fn counts_add_up()
     ensures { (ports before after : ℕ) (verdicts more : List Verdict)
         → plus (counts_of ports before verdicts) (counts_of ports after more)
         ≡ counts_of ports (before + after) (verdicts ++ more) }

@@ -8,4 +8,4 @@ mod report;
 mod row;
 
 pub use counts::Counts;
-pub use laws::parts_add_up;
+pub use laws::counts_add_up;

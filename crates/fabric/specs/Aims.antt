@@ -10,7 +10,7 @@ use Rattle.ringcore_laws.specs.Party.{with_open}
 use Rattle.fabric_laws.specs.declared.view.View.{View}
 use Rattle.fabric.specs.declared.ring.Positions.{Positions}
 use Rattle.fabric.specs.declared.ring.Ring.{Ring}
-use Rattle.fabric.specs.declared.start.Probe.{Probe}
+use Rattle.fabric.specs.declared.spans.start.Probe.{Probe}
 use Rattle.fabric.specs.Rings.{IsSeated, slot_values, slots_of}
 use Rattle.fabric.specs.Starts.{MayAsk, Probes, Starts}
 use Rattle.fabric.specs.Views.{IsKept, span_of}

@@ -9,7 +9,7 @@ use Rattle.ringcore_laws.specs.Sound.{queue}
 use Rattle.fabric_laws.specs.declared.view.View.{View}
 use Rattle.fabric_laws.specs.Closing.{IsWhole, left_items}
 use Rattle.fabric_laws.specs.Rule.{IsConsistent, all_parts}
-use Rattle.fabric.specs.declared.closed.Closed.{Closed}
+use Rattle.fabric.specs.declared.close.closed.Closed.{Closed}
 use Rattle.burst.specs.declared.tagged.Tagged.{Ghosts}
 use Rattle.fabric.specs.Closing.{left_of}
 

@@ -6,13 +6,15 @@ ghost use Rattle.fabric.specs.Closed.{IsAll, IsLast, left, ring_count};
 ghost use Rattle.fabric.specs.Hands.{IsHandOf, pool_of, rings_of, view};
 ghost use Rattle.fabric.specs.Rests.{LiesAt};
 
-use crate::closed::Closed;
+pub(crate) mod closed;
+
+use crate::close::closed::Closed;
 use crate::fabric::Fabric;
 use crate::hand::{Hand, Share};
 use crate::plan::Shape;
-use crate::steps::{own_word, position, settled_word};
+use crate::words::steps::{own_word, position, settled_word};
 use burst::Tagged;
-use geom::{Mode, RESERVED, Side};
+use geom::{Mode, RESERVED_RANGE, Side};
 
 /// How far a side is reserved, by its own word.
 fn reach(mode: Mode, word: u64) -> u64
@@ -20,7 +22,7 @@ fn reach(mode: Mode, word: u64) -> u64
 {
     match mode {
         Mode::Multi => word,
-        Mode::Hts => word / RESERVED + word % RESERVED,
+        Mode::Hts => word / RESERVED_RANGE + word % RESERVED_RANGE,
     }
 }
 
@@ -31,7 +33,7 @@ fn further(mode: Mode, word: u64) -> u64
 {
     match mode {
         Mode::Multi => word + 1,
-        Mode::Hts => word + RESERVED,
+        Mode::Hts => word + RESERVED_RANGE,
     }
 }
 

@@ -3,8 +3,10 @@ ghost use Rattle.std.specs.Prelude.{◌≡◌, ◌*◌, ◌≤◌, ◌<◌, leng
 ghost use Rattle.fabric_laws.specs.Rule.{IsFitting};
 ghost use Rattle.fabric.specs.Shapes.{AreShapes};
 
+mod queries;
+
 use crate::plan::{FabricPlan, Shape};
-use crate::rule::Consistent;
+use crate::words::invariant::Consistent;
 use atomic_table::Table;
 use burst::Tagged;
 use fabric_laws::View;

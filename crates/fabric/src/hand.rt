@@ -6,7 +6,15 @@ ghost use Rattle.fabric_laws.specs.Words.{slot_at};
 ghost use Rattle.fabric.specs.Owned.{IsRow};
 ghost use Rattle.fabric.specs.Views.{span_of};
 
-use crate::owned::Owned;
+pub(crate) mod cache_hand;
+mod join;
+mod may_put;
+mod observe;
+pub(crate) mod owned;
+mod owned_items;
+pub(crate) mod split;
+
+use crate::hand::owned::Owned;
 use crate::ring::{Positions, Ring};
 use atomic_table::Seat;
 use burst::Tagged;
@@ -31,6 +39,7 @@ pub struct Share<T: Tagged> {
 
 /// A thread's hand on a fabric. It has no open span. One that is dropped keeps its buffers for ever.
 #[derive(Drop)]
+#[must_use]
 pub struct Hand<T: Tagged> {
     pub(crate) share: Share<T>,
     pub ghost no_slots: { share.seat.me.1 ≡ [] },
@@ -39,6 +48,7 @@ pub struct Hand<T: Tagged> {
 
 /// A hand with a span that it will put items into. One that is dropped keeps its span for ever.
 #[derive(Drop)]
+#[must_use]
 pub struct PutOpen<'f, T: Tagged, const N: usize> {
     pub(crate) ring: Ring<'f, T, N>,
     pub(crate) share: Share<T>,
@@ -54,7 +64,8 @@ pub struct PutOpen<'f, T: Tagged, const N: usize> {
 
 /// A hand with a span whose items it takes. They were moved out at the start, into a burst that the caller lent.
 #[derive(Drop)]
-pub struct TakeSpan<'f, T: Tagged, const N: usize> {
+#[must_use]
+pub struct TakeOpenLent<'f, T: Tagged, const N: usize> {
     pub(crate) ring: Ring<'f, T, N>,
     pub(crate) share: Share<T>,
     pub(crate) place: Positions,

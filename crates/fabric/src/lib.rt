@@ -1,40 +1,27 @@
 //! Rings and items that threads share: multi-producer multi-consumer and head/tail-sync rings, a mode for each side, on
 //! atomic words.
+//!
+//! `fabric` has the rings, `open` makes them, `close` ends them. `hand` is a thread's access: it is split, joined, and
+//! made a hand that keeps buffers back for a cache. `spans` has the calls: a start reserves a span, a settle publishes
+//! or takes its items. Below them `ring` is one ring of a fabric, `words` has the atomic steps and what each of them
+//! keeps, and `slots` moves items into slots and out of them.
 #![tactic(auto)]
 
-mod about;
-mod carried;
 mod close;
-mod closed;
-mod example;
 mod fabric;
 mod faults;
-mod firsts;
 mod hand;
-mod join;
-mod keeper;
-mod keeps;
-mod learn;
-mod make;
-mod opens;
-mod owned;
+mod open;
 mod plan;
-mod plays;
 mod ring;
-mod rule;
-mod settle;
 mod slots;
-mod split;
-mod start;
-mod steps;
-mod take;
-mod values;
+mod spans;
+mod words;
 
-pub use closed::Closed;
-pub use example::send_and_close;
+pub use close::closed::Closed;
 pub use fabric::Fabric;
-pub use hand::{Hand, PutOpen, SettleFault, StartFault, TakeSpan};
-pub use keeper::Keeper;
-pub use make::{OpenFault, Opened};
-pub use split::SplitFault;
-pub use take::TakeOpen;
+pub use hand::cache_hand::CacheHand;
+pub use hand::split::SplitFault;
+pub use hand::{Hand, PutOpen, SettleFault, StartFault, TakeOpenLent};
+pub use open::{OpenFault, Opened};
+pub use spans::TakeOpen;

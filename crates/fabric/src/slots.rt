@@ -54,7 +54,7 @@ impl<T: Tagged, const N: usize> Ring<'_, T, N> {
             let _nothing = ManuallyDrop::new(found);
             seat.turn();
         }
-        cells.shorten(k);
+        cells.truncate_empty(k);
     }
 
     /// Moves what `count` slots from the position `start` on hold into an empty list. The slots are all of the row.
@@ -76,7 +76,7 @@ impl<T: Tagged, const N: usize> Ring<'_, T, N> {
         ensures emptied { seat.new.me.1 ≡ run (shape_slot self.now.shape) start (replicate count None) }
         ensures cells { cells.new ≡ values seat.old.me.1 }
     {
-        cells.lengthen(count);
+        cells.grow_empty(count);
         for i in 0..count {
             let slot = self.shape.slot(start + i as u64);
             let found = self.fabric.table.shared.exchange(seat, slot, None);

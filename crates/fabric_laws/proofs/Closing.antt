@@ -9,7 +9,7 @@ use Rattle.geom.specs.declared.plan.Mode.TheVariants.{Multi, Hts}
 use Rattle.geom.specs.declared.plan.Side.{Side}
 use Rattle.geom.specs.declared.plan.Side.TheVariants.{Put, Take}
 use Rattle.geom.specs.declared.plan.RingPlan.{RingPlan}
-use Rattle.geom.specs.declared.word.TheConstants.{RESERVED}
+use Rattle.geom.specs.declared.word.TheConstants.{RESERVED_RANGE}
 use Rattle.geom.specs.Plan.{mode_of}
 use Rattle.ringcore_laws.specs.declared.party.Party.{Party}
 use Rattle.ringcore_laws.specs.declared.party.Settled.{Settled}
@@ -123,7 +123,7 @@ module _ {T : Type 0} (tags : T → List ℕ) (plans : List RingPlan) (pool : �
     first_is : reach_of plan.take (get_or s.words (own_at r Take) 0) ≡ takes.reach
     first_is = by_mode plan.take refl
       where
-        of_word : (len few : ℕ) → few < RESERVED → reach_of Hts (len * RESERVED + few) ≡ len + few
+        of_word : (len few : ℕ) → few < RESERVED_RANGE → reach_of Hts (len * RESERVED_RANGE + few) ≡ len + few
         of_word len few lt = omega (arith, lt)
 
         by_mode : (m : Mode) → plan.take ≡ m → reach_of m (get_or s.words (own_at r Take) 0) ≡ takes.reach

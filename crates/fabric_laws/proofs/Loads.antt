@@ -12,7 +12,7 @@ use Rattle.geom.specs.declared.plan.Mode.TheVariants.{Multi, Hts}
 use Rattle.geom.specs.declared.plan.Side.{Side}
 use Rattle.geom.specs.declared.plan.Side.TheVariants.{Put, Take}
 use Rattle.geom.specs.declared.plan.RingPlan.{RingPlan}
-use Rattle.geom.specs.declared.word.TheConstants.{LAST, RESERVED}
+use Rattle.geom.specs.declared.word.TheConstants.{LAST, RESERVED_RANGE}
 use Rattle.geom.specs.Plan.{mode_of}
 use Rattle.ringcore_laws.specs.declared.party.Party.{Party}
 use Rattle.ringcore_laws.specs.declared.protocol.Observed.{Observed}
@@ -59,7 +59,7 @@ module _ {T : Type 0} (tags : T → List ℕ) (plans : List RingPlan) (pool : �
       abbrev found : ℕ
       found = get_or s.words (own_at r side) 0
 
-      looked_true : (whole : mode_of plan side ≡ Hts → (q : ℕ) × (found ≡ q * RESERVED)) → IsTrueView plans parties (looked r side found v)
+      looked_true : (whole : mode_of plan side ≡ Hts → (q : ℕ) × (found ≡ q * RESERVED_RANGE)) → IsTrueView plans parties (looked r side found v)
       looked_true whole =
           let seen : Observed = record { ring = r; side = side; looked_at = found; tail_seen = None } in
           still_true (looked r side found v) refl refl (λ o e. subst (λ (z : Observed). TrueObserved plans parties z × IsBehind plans parties z) (same_plan e) (
@@ -77,23 +77,23 @@ module _ {T : Type 0} (tags : T → List ℕ) (plans : List RingPlan) (pool : �
       pub after_look_true : IsTrueView plans parties (view_after_look (mode_of plan side) r side found v)
       after_look_true = by_mode (mode_of plan side) refl
         where
-          by_test : (t : Bool) → (found % RESERVED == 0) ≡ t → IsTrueView plans parties (if t then looked r side found v else found_busy found v)
+          by_test : (t : Bool) → (found % RESERVED_RANGE == 0) ≡ t → IsTrueView plans parties (if t then looked r side found v else found_busy found v)
           by_test true e =
               looked_true (λ _. (
-                found / RESERVED,
-                let rest : found % RESERVED ≡ 0 = grind (arith, nat_tests) in
-                    let whole : found / RESERVED * RESERVED + found % RESERVED ≡ found = div-add-mod' found RESERVED in omega arith,
+                found / RESERVED_RANGE,
+                let rest : found % RESERVED_RANGE ≡ 0 = grind (arith, nat_tests) in
+                    let whole : found / RESERVED_RANGE * RESERVED_RANGE + found % RESERVED_RANGE ≡ found = div-add-mod' found RESERVED_RANGE in omega arith,
               ))
           by_test false e = still_true (found_busy found v) refl refl (λ o h. absurd (let u : None ≡ Some o = h in cc))
 
           by_mode : (m : Mode) → mode_of plan side ≡ m → IsTrueView plans parties (view_after_look m r side found v)
           by_mode Multi e = looked_true (λ h. absurd (let u : Multi ≡ Hts = sym e ∙ h in cc))
-          by_mode Hts e = by_test (found % RESERVED == 0) refl
+          by_mode Hts e = by_test (found % RESERVED_RANGE == 0) refl
 
       same_rest : (m : Mode) → ((view_after_look m r side found v).party ≡ v.party) × ((view_after_look m r side found v).parts ≡ v.parts)
           × ((view_after_look m r side found v).plans ≡ v.plans) × ((view_after_look m r side found v).pool ≡ v.pool)
       same_rest Multi = (refl, refl, refl, refl)
-      same_rest Hts = by_test (found % RESERVED == 0)
+      same_rest Hts = by_test (found % RESERVED_RANGE == 0)
         where
           either : Bool → View T
           either t = if t then looked r side found v else found_busy found v

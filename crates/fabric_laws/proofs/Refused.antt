@@ -13,7 +13,7 @@ use Rattle.geom.specs.declared.plan.Mode.TheVariants.{Multi, Hts}
 use Rattle.geom.specs.declared.plan.Side.{Side}
 use Rattle.geom.specs.declared.plan.Side.TheVariants.{Put, Take}
 use Rattle.geom.specs.declared.plan.RingPlan.{RingPlan}
-use Rattle.geom.specs.declared.word.TheConstants.{RESERVED}
+use Rattle.geom.specs.declared.word.TheConstants.{RESERVED_RANGE}
 use Rattle.geom.specs.Plan.{granted, mode_of}
 use Rattle.ringcore_laws.specs.declared.party.Party.{Party}
 use Rattle.ringcore_laws.specs.declared.protocol.Observed.{Observed}
@@ -86,7 +86,7 @@ module _ {T : Type 0} (tags : T → List ℕ) (plans : List RingPlan) (pool : �
     (here : get_elem? s.views id ≡ some v) where
   -- Busy
   pub taken : v.party.span ≡ None → (r : ℕ) (side : Side) (plan : RingPlan) → slice_get plans r ≡ Some plan → mode_of plan side ≡ Hts
-      → slice_index s.words (own_at r side) % RESERVED ≢ 0 → IsTaken s.views id r side
+      → slice_index s.words (own_at r side) % RESERVED_RANGE ≢ 0 → IsTaken s.views id r side
   unfolding side_of
   taken idle r side plan at hts some_reserved =
       let l : RingSide T = side_of (parties_of_views s.views) r side in
@@ -175,11 +175,11 @@ module _ {T : Type 0} (tags : T → List ℕ) (plans : List RingPlan) (pool : �
 
 -- the same of the moment of a step
 module _ {T : Type 0} (tags : T → List ℕ) (ring : ℕ) (side : Side) (plan : RingPlan) (v : View T) (at : slice_get v.plans ring ≡ Some plan) where
-  pub was_taken : (x : ℕ) → v.party.span ≡ None → mode_of plan side ≡ Hts → x % RESERVED ≢ 0 → Was tags v (own_at ring side) x → WasTaken tags ring side v x
+  pub was_taken : (x : ℕ) → v.party.span ≡ None → mode_of plan side ≡ Hts → x % RESERVED_RANGE ≢ 0 → Was tags v (own_at ring side) x → WasTaken tags ring side v x
   was_taken x idle hts some_reserved was = (
     was,
     taken tags v.plans v.pool was.state was.consistent was.id v was.here idle ring side plan at hts
-        (λ e. some_reserved (ap (λ n. n % RESERVED) (sym was.found) ∙ e)),
+        (λ e. some_reserved (ap (λ n. n % RESERVED_RANGE) (sym was.found) ∙ e)),
   )
 
   pub was_made : (x : ℕ) → Was tags v (own_at ring side) x → WasMade tags ring side plan v x

@@ -15,7 +15,7 @@ use Rattle.geom.specs.declared.plan.Mode.TheVariants.{Multi, Hts}
 use Rattle.geom.specs.declared.plan.Side.{Side}
 use Rattle.geom.specs.declared.plan.Side.TheVariants.{Put, Take}
 use Rattle.geom.specs.declared.plan.RingPlan.{RingPlan}
-use Rattle.geom.specs.declared.word.TheConstants.{LAST, RESERVED}
+use Rattle.geom.specs.declared.word.TheConstants.{LAST, RESERVED_RANGE}
 use Rattle.geom.specs.Plan.{mode_of}
 use Rattle.ringcore_laws.specs.declared.party.Party.{Party}
 use Rattle.ringcore_laws.specs.declared.protocol.Observed.{Observed}
@@ -95,10 +95,10 @@ module _ {T : Type 0} (tags : T → List ℕ) (plans : List RingPlan) (pool : �
     above = next_above parties span.ring span.side (mode_of plan span.side) span.start (side_ruled tags plans pool s c span.ring plan at span.side) next
 
     -- an HTS word has room for the count, which is at most the capacity
-    small : mode_of plan span.side ≡ Hts → span.count < RESERVED
+    small : mode_of plan span.side ≡ Hts → span.count < RESERVED_RANGE
     small hts = by_side span.side refl
       where
-        by_side : (d : Side) → span.side ≡ d → span.count < RESERVED
+        by_side : (d : Side) → span.side ≡ d → span.count < RESERVED_RANGE
         by_side Put e =
             let lim = subst (λ (z : Side). span.start + span.count ≤ limit plan.geometry parties span.ring z) e within in
             let low' = subst (λ (z : Side). (side_of parties span.ring z).len ≤ span.start) e above.0 in

@@ -15,7 +15,7 @@ use Rattle.geom.specs.declared.plan.Mode.TheVariants.{Multi, Hts}
 use Rattle.geom.specs.declared.plan.Side.{Side}
 use Rattle.geom.specs.declared.plan.Side.TheVariants.{Put, Take}
 use Rattle.geom.specs.declared.plan.RingPlan.{RingPlan}
-use Rattle.geom.specs.declared.word.TheConstants.{RESERVED}
+use Rattle.geom.specs.declared.word.TheConstants.{RESERVED_RANGE}
 use Rattle.geom.specs.Plan.{mode_of}
 use Rattle.ringcore_laws.specs.declared.party.Party.{Party}
 use Rattle.ringcore_laws.specs.declared.party.Settled.{Settled}
@@ -327,11 +327,11 @@ module _ {T : Type 0} (tags : T → List ℕ) (plans : List RingPlan) (pool : �
             ∙ (c.words.tail r side plan' at' m ∙ ap (λ (l : RingSide T). l.len) (sym (untouched r side off)))
 
     -- and of an HTS side its one word, with nothing reserved
-    pub own_words : mode_of plan span.side ≡ Hts → AreWords plans (set s.words (own_at span.ring span.side) ((span.start + length items) * RESERVED)) after
+    pub own_words : mode_of plan span.side ≡ Hts → AreWords plans (set s.words (own_at span.ring span.side) ((span.start + length items) * RESERVED_RANGE)) after
     own_words hts = record {
       own = λ r side plan' at'. by_name r side plan' at' (on_or_off span.ring r span.side side);
       tail = λ r side plan' at' m.
-          word_else s.words (own_at span.ring span.side) (tail_at r side) ((span.start + length items) * RESERVED)
+          word_else s.words (own_at span.ring span.side) (tail_at r side) ((span.start + length items) * RESERVED_RANGE)
           (λ e. own_no_tail span.ring span.side r side (sym e))
           ∙ (c.words.tail r side plan' at' m ∙ tail_stays r side plan' at' m (on_or_off span.ring r span.side side));
     }
@@ -349,21 +349,21 @@ module _ {T : Type 0} (tags : T → List ℕ) (plans : List RingPlan) (pool : �
 
         by_name : (r : ℕ) (side : Side) (plan' : RingPlan) → slice_get plans r ≡ Some plan'
             → ((r ≡ span.ring) × (side ≡ span.side)) ⊎ (is_on span.ring span.side r side ≡ false)
-            → get_or (set s.words (own_at span.ring span.side) ((span.start + length items) * RESERVED)) (own_at r side) 0
+            → get_or (set s.words (own_at span.ring span.side) ((span.start + length items) * RESERVED_RANGE)) (own_at r side) 0
             ≡ own_word (mode_of plan' side) (side_of after r side)
         by_name r side plan' at' (inl this) =
             let is : plan ≡ plan' = same_plan (sym at ∙ (ap (slice_get plans) (sym this.0) ∙ at')) in
-            subst (λ (z : ℕ × Side × RingPlan). get_or (set s.words (own_at span.ring span.side) ((span.start + length items) * RESERVED)) (own_at z.0 z.1) 0
+            subst (λ (z : ℕ × Side × RingPlan). get_or (set s.words (own_at span.ring span.side) ((span.start + length items) * RESERVED_RANGE)) (own_at z.0 z.1) 0
             ≡ own_word (mode_of z.2 z.1) (side_of after z.0 z.1))
             (λ k. (sym this.0 k, sym this.1 k, is k))
-            (word_set s.words (own_at span.ring span.side) ((span.start + length items) * RESERVED)
+            (word_set s.words (own_at span.ring span.side) ((span.start + length items) * RESERVED_RANGE)
             (omega (arith, own_inside span.ring (length plans) span.side known, c.word_count))
-            ∙ subst (λ (m : Mode). (span.start + length items) * RESERVED ≡ own_word m (side_of after span.ring span.side)) (sym hts)
+            ∙ subst (λ (m : Mode). (span.start + length items) * RESERVED_RANGE ≡ own_word m (side_of after span.ring span.side)) (sym hts)
             (let e : (side_of after span.ring span.side).len ≡ span.start + length items = omega (arith, numbers.len, first) in
             let z : (side_of after span.ring span.side).open_count ≡ 0 = omega (arith, numbers.open_count, alone) in
             omega (arith, e, z)))
         by_name r side plan' at' (inr off) =
-            word_else s.words (own_at span.ring span.side) (own_at r side) ((span.start + length items) * RESERVED)
+            word_else s.words (own_at span.ring span.side) (own_at r side) ((span.start + length items) * RESERVED_RANGE)
             (λ e. let this = own_same r side span.ring span.side e in
             (let t : true ≡ false = sym (on_own span.ring span.side) ∙ ((λ k. is_on span.ring span.side (sym this.0 k) (sym this.1 k)) ∙ off) in cc))
             ∙ (c.words.own r side plan' at' ∙ ap (own_word (mode_of plan' side)) (sym (untouched r side off)))
@@ -474,9 +474,9 @@ module _ {T : Type 0} (tags : T → List ℕ) (plans : List RingPlan) (pool : �
 
   -- of an HTS side, by a store of its word
   pub stores : mode_of plan span.side ≡ Hts
-      → Allows (IsConsistent tags plans pool) slots id me (own_at span.ring span.side) (λ _. (span.start + length items) * RESERVED)
-      (λ _. store_tells tags (step slots (own_at span.ring span.side) ((span.start + length items) * RESERVED) 0 none) me
-      ((span.start + length items) * RESERVED))
+      → Allows (IsConsistent tags plans pool) slots id me (own_at span.ring span.side) (λ _. (span.start + length items) * RESERVED_RANGE)
+      (λ _. store_tells tags (step slots (own_at span.ring span.side) ((span.start + length items) * RESERVED_RANGE) 0 none) me
+      ((span.start + length items) * RESERVED_RANGE))
   stores hts s c _ here _ =
       let i : ℕ = own_at span.ring span.side in
       let v : View T = me.0 in
@@ -489,12 +489,12 @@ module _ {T : Type 0} (tags : T → List ℕ) (plans : List RingPlan) (pool : �
       (λ e. (ready.shows e).0) hts in
       let won =
       settle_stays tags plans pool s c id v here alive span ready.busy plan at items first ready.fits no_multi ready.owned ready.single
-      (λ e. (ready.shows e).0) i ((span.start + length items) * RESERVED) words in (
+      (λ e. (ready.shows e).0) i ((span.start + length items) * RESERVED_RANGE) words in (
         settled span items v,
         gives_all (length cells),
         gives_valid (length cells) s.homes me.1,
         subst (λ (hs : List (maybe.Option (Option T))). IsConsistent tags plans pool
-            record { words = set s.words i ((span.start + length items) * RESERVED); homes = hs; views = set s.views id (settled span items v) })
+            record { words = set s.words i ((span.start + length items) * RESERVED_RANGE); homes = hs; views = set s.views id (settled span items v) })
             (sym (goes_home s.homes)) won,
         λ other k e word busy_other.
             let is = same_span other busy_other in

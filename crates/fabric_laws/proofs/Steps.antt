@@ -12,7 +12,7 @@ use Rattle.geom.specs.declared.plan.Mode.TheVariants.{Multi, Hts}
 use Rattle.geom.specs.declared.plan.Side.{Side}
 use Rattle.geom.specs.declared.plan.Side.TheVariants.{Put, Take}
 use Rattle.geom.specs.declared.plan.RingPlan.{RingPlan}
-use Rattle.geom.specs.declared.word.TheConstants.{RESERVED}
+use Rattle.geom.specs.declared.word.TheConstants.{RESERVED_RANGE}
 use Rattle.geom.specs.Plan.{mode_of}
 use Rattle.ringcore_laws.specs.declared.party.Party.{Party}
 use Rattle.ringcore_laws.specs.declared.protocol.Span.{Span}
@@ -35,7 +35,7 @@ abbrev pub St : Type 0 → Type 0
 St T = State (Option T) (View T)
 
 -- the position that an own word shows
-pub position_base : {I : Type 0} (mode : Mode) (l : RingSide I) → (mode ≡ Hts → l.open_count < RESERVED) → position_of mode (own_word mode l) ≡ base mode l
+pub position_base : {I : Type 0} (mode : Mode) (l : RingSide I) → (mode ≡ Hts → l.open_count < RESERVED_RANGE) → position_of mode (own_word mode l) ≡ base mode l
 position_base Multi l small = refl
 position_base Hts l small = let lt = small refl in omega arith
 

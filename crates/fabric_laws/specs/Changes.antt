@@ -4,7 +4,7 @@ use Rattle.geom.specs.declared.plan.Mode.{Mode}
 use Rattle.geom.specs.declared.plan.Mode.TheVariants.{Multi, Hts}
 use Rattle.geom.specs.declared.plan.Side.{Side}
 use Rattle.geom.specs.declared.plan.RingPlan.{RingPlan}
-use Rattle.geom.specs.declared.word.TheConstants.{RESERVED}
+use Rattle.geom.specs.declared.word.TheConstants.{RESERVED_RANGE}
 use Rattle.ringcore_laws.specs.declared.protocol.Observed.{Observed}
 use Rattle.ringcore_laws.specs.declared.protocol.Span.{Span}
 use Rattle.ringcore_laws.specs.Party.{joined, newcomer, with_open, with_settled}
@@ -25,7 +25,7 @@ module _ {T : Type 0} where
   -- a look, by what it found
   abbrev pub view_after_look : Mode → ℕ → Side → ℕ → View T → View T
   view_after_look Multi ring side word v = looked ring side word v
-  view_after_look Hts ring side word v = if word % RESERVED == 0 then looked ring side word v else found_busy word v
+  view_after_look Hts ring side word v = if word % RESERVED_RANGE == 0 then looked ring side word v else found_busy word v
 
   -- a question for room found how far the other side is settled
   abbrev pub asked : ℕ → View T → View T

@@ -8,7 +8,7 @@ use Rattle.geom.specs.declared.plan.Mode.{Mode}
 use Rattle.geom.specs.declared.plan.Mode.TheVariants.{Multi, Hts}
 use Rattle.geom.specs.declared.plan.Side.TheVariants.{Put, Take}
 use Rattle.geom.specs.declared.plan.RingPlan.{RingPlan}
-use Rattle.geom.specs.declared.word.TheConstants.{LAST, RESERVED}
+use Rattle.geom.specs.declared.word.TheConstants.{LAST, RESERVED_RANGE}
 use Rattle.ringcore_laws.specs.RingSide.{listed, side_of}
 use Rattle.ringcore_laws.specs.History.{position_of}
 use Rattle.ringcore_laws.specs.Sound.{Sound, queue}
@@ -19,7 +19,7 @@ use Rattle.fabric_laws.specs.Words.{own_at, settled_word_at, slot_at}
 -- how far a side is reserved, by its own word
 abbrev pub reach_of : Mode → ℕ → ℕ
 reach_of Multi word = word
-reach_of Hts word = word / RESERVED + word % RESERVED
+reach_of Hts word = word / RESERVED_RANGE + word % RESERVED_RANGE
 
 -- the first position of a ring that no take has reserved, and the end of its published ones, by its words
 abbrev pub first_left : List ℕ → ℕ → RingPlan → ℕ

@@ -9,7 +9,7 @@ use Rattle.atomic_table.specs.Table.{Me, Step}
 use Rattle.geom.specs.declared.plan.Side.{Side}
 use Rattle.geom.specs.declared.plan.Side.TheVariants.{Put, Take}
 use Rattle.geom.specs.declared.plan.RingPlan.{RingPlan}
-use Rattle.geom.specs.declared.word.TheConstants.{LAST, RESERVED}
+use Rattle.geom.specs.declared.word.TheConstants.{LAST, RESERVED_RANGE}
 use Rattle.geom.specs.Plan.{mode_of}
 use Rattle.ringcore_laws.specs.declared.party.Party.{Party}
 use Rattle.ringcore_laws.specs.RingSide.{party_items}
@@ -158,6 +158,6 @@ module _ {T : Type 0} where
   -- Settle of an HTS side: a store of its word, by which the slots of the span go home
   abbrev pub store_tells : (T → List ℕ) → Step (Option T) → Me (Option T) (View T) → ℕ → Me (Option T) (View T) → Type 0
   store_tells tags st m x m' =
-      (span : Span) (k : ℕ) → st.word ≡ own_at span.ring span.side → st.first ≡ (span.start + k) * RESERVED
+      (span : Span) (k : ℕ) → st.word ≡ own_at span.ring span.side → st.first ≡ (span.start + k) * RESERVED_RANGE
       → m.0.party.span ≡ Some span
       → (m'.0 ≡ settled span (moved_by span k m) m.0) × (m'.1 ≡ []) × IsHeldOnce tags m'.0.pool m'.0.party

@@ -15,7 +15,7 @@ ghost use Rattle.geom.specs.declared.plan.Mode.TheVariants.{Hts, Multi};
 ghost use Rattle.geom.specs.declared.plan.RingPlan.{RingPlan};
 ghost use Rattle.geom.specs.declared.plan.Side.{Side};
 ghost use Rattle.geom.specs.declared.plan.Side.TheVariants.{Put, Take};
-ghost use Rattle.geom.specs.declared.word.TheConstants.{LAST, RESERVED};
+ghost use Rattle.geom.specs.declared.word.TheConstants.{LAST, RESERVED_RANGE};
 ghost use Rattle.geom.specs.Plan.{granted, mode_of};
 ghost use Rattle.ringcore_laws.specs.declared.protocol.Observed.{Observed};
 ghost use Rattle.ringcore_laws.specs.declared.protocol.Span.{Span};
@@ -90,7 +90,7 @@ pub fn a_settle_is_allowed<T>()
         (span : Span) (plan : RingPlan) (items : List T)
         → slice_get plans span.ring ≡ Some plan → 0 < me.0.parts → IsReady tags plans plan span items me
         → mode_of plan span.side ≡ Hts → let word = own_at span.ring span.side in let new =
-        (span.start + length items) * RESERVED in
+        (span.start + length items) * RESERVED_RANGE in
         Allows (IsConsistent tags plans pool) slots id me word (λ _. new)
         (λ _. store_tells tags (step slots word new 0 none) me new) }
 {}
@@ -123,7 +123,7 @@ pub fn a_refusal_is_true<T>()
     ensures busy { (tags : T → List ℕ) (plans : List RingPlan) (pool : ℕ) (s : State (Option T) (View T))
         → IsConsistent tags plans pool s → (id : ℕ) (v : View T) → get_elem? s.views id ≡ some v → v.party.span ≡ None
         → (r : ℕ) (side : Side) (plan : RingPlan) → slice_get plans r ≡ Some plan → mode_of plan side ≡ Hts
-        → slice_index s.words (own_at r side) % RESERVED ≢ 0 → IsTaken s.views id r side }
+        → slice_index s.words (own_at r side) % RESERVED_RANGE ≢ 0 → IsTaken s.views id r side }
     ensures contended { (tags : T → List ℕ) (plans : List RingPlan) (pool : ℕ) (s : State (Option T) (View T))
         → IsConsistent tags plans pool s → (r : ℕ) (side : Side) (plan : RingPlan) → slice_get plans r ≡ Some plan
         → slice_index s.words (own_at r side)

@@ -9,8 +9,8 @@ mod laws;
 mod view;
 
 pub use laws::{
-    a_fabric_begins_consistent, a_join_is_allowed, a_look_is_allowed,
-    a_question_for_room_is_allowed, a_refusal_is_true, a_reserve_is_allowed, a_settle_is_allowed,
-    a_split_is_allowed, what_is_left_lies_in_the_slots,
+    a_fabric_begins_consistent, a_join_is_allowed, a_load_that_learns_is_allowed,
+    a_look_is_allowed, a_question_for_room_is_allowed, a_refusal_is_true, a_reserve_is_allowed,
+    a_settle_is_allowed, a_split_is_allowed, what_is_left_lies_in_the_slots,
 };
 pub use view::View;

@@ -7,10 +7,10 @@ use crate::{Geometry, How, Mode, RingPlan};
 /// How many of `n` packets an empty ring for `capacity` takes: all of them, or as many as it was made for.
 pub(crate) fn first_burst(capacity: u64, n: u64) -> u64
     requires small { capacity < 2 ^ 20 }
-    requires some { 1 ≤ capacity }
+    requires nonzero { 1 ≤ capacity }
     ensures { result ≡ min n capacity }
 {
     let geometry = Geometry::exact(capacity).unwrap();
-    let plan = RingPlan::alike(geometry, Mode::Multi, false);
+    let plan = RingPlan::same_mode(geometry, Mode::Multi, false);
     How::Burst.granted(n, plan.geometry.capacity())
 }

@@ -6,7 +6,7 @@
 //!
 //! ```text
 //! let geometry = Geometry::exact(capacity).unwrap();
-//! let plan = RingPlan::alike(geometry, Mode::Multi, false);
+//! let plan = RingPlan::same_mode(geometry, Mode::Multi, false);
 //! How::Burst.granted(n, plan.geometry.capacity())  // the smaller of n and capacity
 //! ```
 #![tactic(auto)]
@@ -20,5 +20,5 @@ mod tests;
 mod word;
 
 pub use geometry::{GeomFault, Geometry};
-pub use plan::{How, Mode, RingPlan, Side, all_fit};
-pub use word::{LAST, RESERVED, pack, unpack};
+pub use plan::{How, MAX_ACTORS, MAX_BUFFERS, MAX_RINGS, Mode, RingPlan, Side, all_fit};
+pub use word::{LAST, RESERVED_RANGE, pack, unpack};

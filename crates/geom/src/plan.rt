@@ -6,6 +6,15 @@ ghost use Rattle.geom.specs.Plan.{mode_of, granted};
 
 use crate::geometry::Geometry;
 
+/// The most rings that actors or threads share.
+pub const MAX_RINGS: usize = 64;
+
+/// The most actors.
+pub const MAX_ACTORS: usize = 64;
+
+/// The most buffers.
+pub const MAX_BUFFERS: u32 = 65_536;
+
 /// How the words of one side of a ring are kept.
 #[derive(Clone, Copy, Debug, PartialEq, Eq)]
 pub enum Mode {
@@ -62,7 +71,7 @@ pub struct RingPlan {
 
 impl RingPlan {
     /// The plan of a ring whose sides are alike.
-    pub const fn alike(geometry: Geometry, mode: Mode, free: bool) -> RingPlan
+    pub const fn same_mode(geometry: Geometry, mode: Mode, free: bool) -> RingPlan
         ensures { result ≡ record { geometry = geometry; put = mode; take = mode; free = free } }
     {
         RingPlan {
@@ -84,7 +93,7 @@ impl RingPlan {
     }
 
     /// Whether the ring may stand beside so many buffers: a free ring takes all of them.
-    pub const fn fits(self, buffers: u64) -> bool
+    pub const fn holds_all(self, buffers: u64) -> bool
         ensures { IsTrue result ↔ Fits self buffers }
     {
         let capacity = self.geometry.capacity();
@@ -97,7 +106,7 @@ pub fn all_fit(rings: &[RingPlan], buffers: u64) -> bool
     ensures { IsTrue result ↔ AllFit rings.now buffers }
 {
     for plan in rings {
-        if !plan.fits(buffers) {
+        if !plan.holds_all(buffers) {
             return false;
         }
     }

@@ -2,7 +2,7 @@
 
 ghost use Rattle.std.specs.Prelude.{◌+◌, ◌<◌, ◌^◌, IsTrue};
 
-use crate::{GeomFault, Geometry, How, LAST, Mode, RESERVED, RingPlan, Side, pack, unpack};
+use crate::{GeomFault, Geometry, How, LAST, Mode, RESERVED_RANGE, RingPlan, Side, pack, unpack};
 use std::test::Fail;
 
 /// A caller: the slots of a position and of the one after the next lap are the same, by the contract alone.
@@ -57,10 +57,13 @@ fn refusals_and_their_names(rt: HostRuntime) -> Result<(), Fail> {
 #[test]
 fn words_and_plans(rt: HostRuntime) -> Result<(), Fail> {
     assert_eq!(rt; pack(5, 3), 5 * 1_048_576 + 3);
-    assert_eq!(rt; unpack(pack(LAST, RESERVED - 1)), (LAST, RESERVED - 1));
+    assert_eq!(rt;
+        unpack(pack(LAST, RESERVED_RANGE - 1)),
+        (LAST, RESERVED_RANGE - 1)
+    );
     let geometry = Geometry::exact(5).ok().ok_or("exact")?;
     assert!(rt; laps(geometry, 3));
-    let plan = RingPlan::alike(geometry, Mode::Hts, true);
+    let plan = RingPlan::same_mode(geometry, Mode::Hts, true);
     assert!(rt;
         plan.mode(Side::Put) == Mode::Hts && plan.mode(Side::Take) == Mode::Hts && plan.free
     );

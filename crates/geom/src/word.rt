@@ -9,23 +9,23 @@ ghost use Rattle.geom.specs.Word.{pack as pack_lem, unpack as unpack_lem};
 pub const LAST: u64 = 0xfff_ffff_ffff;
 
 /// What the reserved count of a packed word stays below, 2^20.
-pub const RESERVED: u64 = 1 << 20;
+pub const RESERVED_RANGE: u64 = 1 << 20;
 
 /// The word of a tail at `position` with `reserved` positions reserved from there on.
 pub const fn pack(position: u64, reserved: u64) -> u64
     requires position { position ≤ LAST }
-    requires reserved { reserved < RESERVED }
+    requires reserved { reserved < RESERVED_RANGE }
     ensures { result ≡ pack_lem position reserved }
 {
-    position * RESERVED + reserved
+    position * RESERVED_RANGE + reserved
 }
 
 /// The position and the reserved count of a word: what was packed, and of any other number the quotient and the rest.
 pub const fn unpack(word: u64) -> (u64, u64)
     ensures parts { result ≡ unpack_lem word }
     ensures position { result.0 ≤ LAST }
-    ensures reserved { result.1 < RESERVED }
+    ensures reserved { result.1 < RESERVED_RANGE }
     ensures whole { pack_lem result.0 result.1 ≡ word }
 {
-    (word / RESERVED, word % RESERVED)
+    (word / RESERVED_RANGE, word % RESERVED_RANGE)
 }

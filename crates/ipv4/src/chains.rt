@@ -5,7 +5,7 @@ ghost use Rattle.mbuf.specs.Chain.{bytes_of, shape_of, HasSameSegments};
 ghost use Rattle.ipv4.specs.Forwarding.{forwarded};
 
 use crate::frame::{forward_frame, verdict_of_frame};
-use crate::head::{MOST_HEAD, is_enough};
+use crate::head::{MAX_HEAD, is_enough};
 use crate::ports::Ports;
 use crate::verdicts::Verdict;
 use lpm::Table;
@@ -54,8 +54,8 @@ fn verdict_of_gathered(table: &Table, ports: &Ports, chain: &Chain, wire: usize)
     requires { length (bytes_of chain.now) ≤ wire }
     ensures { result ≡ (forwarded table.now.members ports.now (bytes_of chain.now) wire).verdict }
 {
-    let mut room = [0; MOST_HEAD];
-    let head = &mut room[..chain.len().min(MOST_HEAD)];
+    let mut room = [0; MAX_HEAD];
+    let head = &mut room[..chain.len().min(MAX_HEAD)];
     gather(chain, head);
     verdict_of_frame(head, table, ports, wire)
 }
@@ -69,8 +69,8 @@ fn forward_gathered(chain: &mut Chain, table: &Table, ports: &Ports, wire: usize
     ensures shape { shape_of chain.new ≡ shape_of chain.old }
     ensures kept { HasSameSegments chain.new chain.old }
 {
-    let mut room = [0; MOST_HEAD];
-    let head = &mut room[..chain.len().min(MOST_HEAD)];
+    let mut room = [0; MAX_HEAD];
+    let head = &mut room[..chain.len().min(MAX_HEAD)];
     gather(chain, head);
     let verdict = forward_frame(head, table, ports, wire);
     write_back(chain, head);

@@ -5,7 +5,7 @@ ghost use Rattle.ipv4.specs.Head.{HoldsHeader};
 use crate::fields::{ETHERNET, SHORTEST, header_len, offset_of};
 
 /// The most bytes that a tagged frame has up to the end of its header.
-pub(crate) const MOST_HEAD: usize = 78;
+pub(crate) const MAX_HEAD: usize = 78;
 
 /// Whether the front of a frame of `len` bytes is the frame, or has its whole header.
 #[inline]

@@ -26,6 +26,6 @@ mod verdicts;
 
 pub use chains::{forward, verdict};
 pub use checksum::sum16;
-pub use laws::{a_sent_frame_is_right, a_sent_frame_is_sent_again};
-pub use ports::{Hop, Ports};
+pub use laws::{a_frame_is_sent_by_a_port, a_sent_frame_is_right, a_sent_frame_is_sent_again};
+pub use ports::{Hop, MAX_PORTS, Ports};
 pub use verdicts::{Reason, Verdict};

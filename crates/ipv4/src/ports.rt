@@ -2,6 +2,9 @@
 ghost use Rattle.std.specs.Prelude.{◌≡◌};
 ghost use Rattle.ipv4.specs.Ports.{way_of};
 
+/// The most ports.
+pub const MAX_PORTS: usize = 16;
+
 /// Where a hop number leads: a port, and the address of the neighbour there.
 #[derive(Clone, Copy, Debug, PartialEq, Eq)]
 pub struct Hop {

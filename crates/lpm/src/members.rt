@@ -106,7 +106,7 @@ impl Members {
 
     /// Whether a member deeper than `bits` has the address's first `bits` bits.
     pub fn has_deeper(&self, address: u32, bits: u8) -> bool
-        requires some { 0 < bits }
+        requires nonzero { 0 < bits }
         requires most { bits ≤ 24 }
         requires members { AreMembers self.now }
         ensures { result ≡ has_deeper bits self.now (first_bits address bits) }

@@ -43,7 +43,7 @@ impl PackedEntry {
 
     /// The hop of a member of this depth.
     pub fn route(depth: u8, hop: u32) -> PackedEntry
-        requires some { 0 < depth }
+        requires nonzero { 0 < depth }
         requires most { depth ≤ 32 }
         requires hop { hop < 2 ^ 24 }
         ensures { result ≡ entry_of depth hop }

@@ -14,7 +14,7 @@ pub fn size(bits: u8) -> usize
 
 /// The number that an address's first `bits` bits make.
 pub fn first_of(address: u32, bits: u8) -> usize
-    requires some { 0 < bits }
+    requires nonzero { 0 < bits }
     requires most { bits ≤ 32 }
     ensures value { result ≡ first_bits address bits }
     ensures below { result < 2 ^ bits }
@@ -24,7 +24,7 @@ pub fn first_of(address: u32, bits: u8) -> usize
 
 /// What an address's other bits make.
 pub fn low_of(address: u32, bits: u8) -> usize
-    requires some { 0 < bits }
+    requires nonzero { 0 < bits }
     requires most { bits ≤ 32 }
     ensures value { result ≡ address % size_of bits }
     ensures below { result < size_of bits }
@@ -35,7 +35,7 @@ pub fn low_of(address: u32, bits: u8) -> usize
 /// The index of a place among all groups.
 pub fn place(group: u32, low: usize, bits: u8) -> usize
     requires group { group < 2 ^ 24 }
-    requires some { 0 < bits }
+    requires nonzero { 0 < bits }
     requires most { bits ≤ 32 }
     requires low { low < 2 ^ 32 }
     ensures { result ≡ group * size_of bits + low }

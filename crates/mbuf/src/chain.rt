@@ -14,7 +14,7 @@ use std::alloc::{AllocError, Global};
 use std::marker::Model;
 
 /// The most segments of a chain.
-pub const MOST_SEGMENTS: u32 = 64;
+pub const MAX_SEGMENTS: u32 = 64;
 
 /// A packet in boxed segments, two words wide, so that it is passed on by value at little cost. Contracts see it as the
 /// list of its segments.
@@ -81,8 +81,8 @@ impl Chain {
     #[inline]
     pub fn segments(&self) -> usize
         ensures value { result ≡ length self.now }
-        ensures some { 0 < result }
-        ensures few { result ≤ 64 }
+        ensures nonzero { 0 < result }
+        ensures at_most { result ≤ 64 }
     {
         self.segments as usize
     }
@@ -114,7 +114,7 @@ impl Tagged for Chain {
     }
 
     #[inline]
-    fn only_tag(&self) -> Option<u32> {
+    fn single_tag(&self) -> Option<u32> {
         if self.segments == 1 {
             Some(self.first.number())
         } else {

@@ -4,7 +4,7 @@ ghost use Rattle.mbuf.specs.Chain.{numbers_of, bytes_of, fresh_of, singles};
 ghost use Rattle.mbuf.specs.Links.{rest_of};
 ghost use Rattle.burst.specs.Numbers.{AreDistinct};
 
-use crate::chain::{Chain, MOST_SEGMENTS};
+use crate::chain::{Chain, MAX_SEGMENTS};
 use crate::fault::ChainFault;
 use burst::Burst;
 
@@ -19,7 +19,7 @@ impl Chain {
         ensures refused { IsErr result ↔ (64 < length self + length other) }
         ensures unchanged { IfErr result (λ back. back ≡ (self, other, ChainFault.TooManySegments)) }
     {
-        if self.segments + other.segments > MOST_SEGMENTS {
+        if self.segments + other.segments > MAX_SEGMENTS {
             return Err((self, other, ChainFault::TooManySegments));
         }
         let Chain {

@@ -30,6 +30,6 @@ mod share_table;
 mod walk;
 
 pub use buffers::make;
-pub use chain::{Chain, MOST_SEGMENTS};
+pub use chain::{Chain, MAX_SEGMENTS};
 pub use deck::Deck;
 pub use fault::{ChainFault, DeckFault};

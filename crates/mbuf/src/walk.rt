@@ -46,8 +46,8 @@ impl Link {
 
     /// The link `i` further on, from 1 to 2. There must be one.
     fn within_2(&mut self, i: usize) -> &mut Box<Link>
-        requires some { 0 < i }
-        requires few { i ≤ 2 }
+        requires nonzero { 0 < i }
+        requires at_most { i ≤ 2 }
         requires there { i < length (row self.old) }
         ensures* writes_back { sem 𝓛 (LendsBehind self.entry (i - 1) result) }
         ensures value { row result.now.value ≡ drop i (row self.old) }
@@ -60,8 +60,8 @@ impl Link {
 
     /// The link `i` further on, from 1 to 4. There must be one.
     fn within_4(&mut self, i: usize) -> &mut Box<Link>
-        requires some { 0 < i }
-        requires few { i ≤ 4 }
+        requires nonzero { 0 < i }
+        requires at_most { i ≤ 4 }
         requires there { i < length (row self.old) }
         ensures* writes_back { sem 𝓛 (LendsBehind self.entry (i - 1) result) }
         ensures value { row result.now.value ≡ drop i (row self.old) }
@@ -71,8 +71,8 @@ impl Link {
 
     /// The link `i` further on, from 1 to 8. There must be one.
     fn within_8(&mut self, i: usize) -> &mut Box<Link>
-        requires some { 0 < i }
-        requires few { i ≤ 8 }
+        requires nonzero { 0 < i }
+        requires at_most { i ≤ 8 }
         requires there { i < length (row self.old) }
         ensures* writes_back { sem 𝓛 (LendsBehind self.entry (i - 1) result) }
         ensures value { row result.now.value ≡ drop i (row self.old) }
@@ -82,8 +82,8 @@ impl Link {
 
     /// The link `i` further on, from 1 to 16. There must be one.
     fn within_16(&mut self, i: usize) -> &mut Box<Link>
-        requires some { 0 < i }
-        requires few { i ≤ 16 }
+        requires nonzero { 0 < i }
+        requires at_most { i ≤ 16 }
         requires there { i < length (row self.old) }
         ensures* writes_back { sem 𝓛 (LendsBehind self.entry (i - 1) result) }
         ensures value { row result.now.value ≡ drop i (row self.old) }
@@ -93,8 +93,8 @@ impl Link {
 
     /// The link `i` further on, from 1 to 32. There must be one.
     fn within_32(&mut self, i: usize) -> &mut Box<Link>
-        requires some { 0 < i }
-        requires few { i ≤ 32 }
+        requires nonzero { 0 < i }
+        requires at_most { i ≤ 32 }
         requires there { i < length (row self.old) }
         ensures* writes_back { sem 𝓛 (LendsBehind self.entry (i - 1) result) }
         ensures value { row result.now.value ≡ drop i (row self.old) }
@@ -104,8 +104,8 @@ impl Link {
 
     /// The link `i` further on, from 1 to 64. There must be one.
     fn within_64(&mut self, i: usize) -> &mut Box<Link>
-        requires some { 0 < i }
-        requires few { i ≤ 64 }
+        requires nonzero { 0 < i }
+        requires at_most { i ≤ 64 }
         requires there { i < length (row self.old) }
         ensures* writes_back { sem 𝓛 (LendsBehind self.entry (i - 1) result) }
         ensures value { row result.now.value ≡ drop i (row self.old) }
@@ -116,7 +116,7 @@ impl Link {
     /// The bytes of segment `i`, for writing.
     #[inline]
     pub(crate) fn part_mut(&mut self, i: usize) -> &mut [u8]
-        requires few { i ≤ 64 }
+        requires at_most { i ≤ 64 }
         requires there { i < length (row self.old) }
         ensures* writes_back { sem 𝓛 (LendsPartOfLink self.entry i result) }
         ensures value { result.now ≡ part_of (row self.old) i }

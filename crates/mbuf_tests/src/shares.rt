@@ -226,7 +226,7 @@ fn changes(rt: &impl Abort, chain: &mut Chain) {
 fn looks(rt: &impl Abort, chain: &Chain) {
     assert!(rt; chain.segments() == 1);
     assert_eq!(rt; chain.part(0), [0; 64].as_slice());
-    let tags = (number_of(chain), chain.only_tag());
+    let tags = (number_of(chain), chain.single_tag());
     let bytes = (bytes_at(chain, [63, 64]), two_at(chain, 62));
     assert_eq!(rt;
         (tags, bytes),

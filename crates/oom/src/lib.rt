@@ -7,7 +7,7 @@ use std::alloc::{AllocError, Global};
 const PIECES: usize = 262_144;
 
 /// A piece that no process gets, and how often it is halved until pieces are small.
-const LARGEST: usize = 1 << 47;
+const MAX_REQUEST: usize = 1 << 47;
 
 const HALVINGS: usize = 37;
 
@@ -19,7 +19,7 @@ const SMALL: usize = 2_048;
 /// process alone. `None` where requests are served none the less, as in the checked build of `rt try`.
 pub fn exhaust_memory(alloc: Global) -> Result<Option<Vec<Vec<u8>>>, AllocError> {
     let mut held = Vec::with_capacity(alloc, PIECES)?;
-    let mut size = LARGEST;
+    let mut size = MAX_REQUEST;
     for _ in 0..HALVINGS {
         take(alloc, &mut held, size);
         size /= 2;

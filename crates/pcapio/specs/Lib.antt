@@ -1,10 +1,10 @@
 pub mod Answer
 pub mod Counted
 pub mod Begin
-pub mod Ahead
-pub mod Behind
+pub mod ReadBuffer
+pub mod WriteBuffer
 pub mod Record
-pub mod Stage
+pub mod ReaderState
 pub mod Reader
 pub mod Writer
 pub mod Copy

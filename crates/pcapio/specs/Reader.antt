@@ -6,15 +6,15 @@ use Rattle.pcapio_laws.specs.declared.fault.CapFault.{CapFault}
 use Rattle.pcapio_laws.specs.declared.fault.CapFault.TheVariants.{BadRecord, Read, Write, Memory}
 use Rattle.pcapio_laws.specs.declared.format.ByteOrder.{ByteOrder}
 use Rattle.pcapio_laws.specs.declared.format.Resolution.{Resolution}
-use Rattle.pcapio.specs.Ahead.{unread}
+use Rattle.pcapio.specs.ReadBuffer.{unread}
 use Rattle.pcapio.specs.Counted.{to_come, HasFailed}
 use Rattle.pcapio.specs.Record.{IsHead, packet_of}
-use Rattle.pcapio.specs.Stage.{head_of, GoesOn}
+use Rattle.pcapio.specs.ReaderState.{head_of, GoesOn}
 use Rattle.pcapio.specs.declared.counted.Counted.{Counted}
 use Rattle.pcapio.specs.declared.reader.Reader.{Reader}
 use Rattle.pcapio.specs.declared.record.Head.{Head}
-use Rattle.pcapio.specs.declared.stage.Stage.{Stage}
-use Rattle.pcapio.specs.declared.stage.Stage.TheVariants.{Ended}
+use Rattle.pcapio.specs.declared.reader_state.ReaderState.{ReaderState}
+use Rattle.pcapio.specs.declared.reader_state.ReaderState.TheVariants.{Ended}
 
 -- the next record of what was to come was taken
 abbrev pub TakesRecord : ByteOrder → Option (List ℕ) → Option (List ℕ) → Packet → Type 0
@@ -50,7 +50,7 @@ module _ {R : Type 0} where
   abbrev pub resolution_of : Reader R → Resolution
   resolution_of r = r.resolution
 
-  abbrev pub stage_of : Reader R → Stage
+  abbrev pub stage_of : Reader R → ReaderState
   stage_of r = r.stage
 
   -- the head that was told and whose bytes are still to come

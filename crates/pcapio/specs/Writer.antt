@@ -6,7 +6,7 @@ use Rattle.pcapio_laws.specs.Text.{file_header, record_text}
 use Rattle.pcapio_laws.specs.declared.fault.CapFault.{CapFault}
 use Rattle.pcapio_laws.specs.declared.format.Resolution.{Resolution}
 use Rattle.pcapio.specs.Begin.{Begins}
-use Rattle.pcapio.specs.Behind.{unsent}
+use Rattle.pcapio.specs.WriteBuffer.{unsent}
 use Rattle.pcapio.specs.Counted.{told, HasFailed}
 use Rattle.pcapio.specs.Record.{packet_in}
 use Rattle.pcapio.specs.declared.counted.Counted.{Counted}

@@ -22,8 +22,8 @@ pub fn collect_records<R: Read>(
     requires reading { IsReading reader.old }
     ensures all { IfOk result (Collects R.remaining reader.old list.old.items list.new.items) }
     ensures part { CollectsPart R.remaining reader.old list.old.items list.new.items }
-    ensures well { OnOk result (HasNotFailed (source_of reader.old) (source_of reader.new)) }
-    ensures why { IfErr result (WhyNotAll R.remaining reader.old reader.new) }
+    ensures no_failure { OnOk result (HasNotFailed (source_of reader.old) (source_of reader.new)) }
+    ensures cause { IfErr result (WhyNotAll R.remaining reader.old reader.new) }
 {
     for _count in 0..u64::MAX {
         let Ok(()) = list.reserve(1) else {

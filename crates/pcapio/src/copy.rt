@@ -7,7 +7,7 @@ ghost use Rattle.pcapio.specs.Copy.{CopiesPart, CopiesOut, CopiesCapture, Begins
 ghost use Rattle.pcapio.specs.Copy.{WhyOneStopped, WhyStopped, WhyNotCopied};
 ghost use Rattle.pcapio.specs.Counted.{HasNotFailed};
 ghost use Rattle.pcapio.specs.Reader.{pending_of, source_of, stage_of, IsReading, IsSameFile, EndsTorn};
-ghost use Rattle.pcapio.specs.Stage.{after_bytes};
+ghost use Rattle.pcapio.specs.ReaderState.{after_bytes};
 ghost use Rattle.pcapio.specs.Writer.{sink_of, IsWell};
 
 use crate::counted::Counted;
@@ -35,7 +35,7 @@ pub fn copy_capture<R: Read, W: Write>(
     ensures copied { IfEnded result.2 (CopiesCapture R.remaining W.contents chain.old from to result.1) }
     ensures endless { IfEndless result.2 (IsEndlessCapture R.remaining from) }
     ensures begins { OnErr result.2 (BeginsCapture R.remaining W.contents chain.old from to result.1) }
-    ensures why { IfErr result.2 (WhyNotCopied R.remaining from result.0 to result.1) }
+    ensures cause { IfErr result.2 (WhyNotCopied R.remaining from result.0 to result.1) }
     ensures kept { HasSameSegments chain.new chain.old }
 {
     let mut reader = match Reader::open(alloc, from) {
@@ -57,11 +57,11 @@ fn copy_and_flush<R: Read, W: Write>(
     chain: &mut Chain,
 ) -> Result<Option<bool>, CapFault>
     requires reading { IsReading reader.old }
-    requires well { IsWell writer.old }
+    requires no_failure { IsWell writer.old }
     ensures copied { IfEnded result (CopiesOut R.remaining W.contents chain.old reader.old writer.old writer.new) }
     ensures endless { IfEndless result (IsEndless R.remaining reader.old) }
     ensures begins { OnErr result (BeginsToCopy R.remaining W.contents chain.old reader.old writer.old writer.new) }
-    ensures why { IfErr result (WhyStopped R.remaining reader.old reader.new writer.old writer.new) }
+    ensures cause { IfErr result (WhyStopped R.remaining reader.old reader.new writer.old writer.new) }
     ensures kept { HasSameSegments chain.new chain.old }
 {
     let copied = copy_records(reader, writer, chain)?;
@@ -80,11 +80,11 @@ pub fn copy_records<R: Read, W: Write>(
     chain: &mut Chain,
 ) -> Result<Option<bool>, CapFault>
     requires reading { IsReading reader.old }
-    requires well { IsWell writer.old }
+    requires no_failure { IsWell writer.old }
     ensures copied { IfEnded result (Copies R.remaining W.contents chain.old reader.old writer.old writer.new) }
     ensures endless { IfEndless result (IsEndless R.remaining reader.old) }
     ensures begins { OnErr result (BeginsToCopy R.remaining W.contents chain.old reader.old writer.old writer.new) }
-    ensures why { IfErr result (WhyStopped R.remaining reader.old reader.new writer.old writer.new) }
+    ensures cause { IfErr result (WhyStopped R.remaining reader.old reader.new writer.old writer.new) }
     ensures kept { HasSameSegments chain.new chain.old }
     ensures part { OnOk result (CopiesPart R.remaining W.contents chain.old reader.old writer.old writer.new) }
     ensures read { OnOk result (HasNotFailed (source_of reader.old) (source_of reader.new)) }
@@ -111,7 +111,7 @@ fn copy_record<R: Read, W: Write>(
     head: Head,
 ) -> Result<bool, CapFault>
     requires pending { pending_of reader.old ≡ Some head }
-    requires well { IsWell writer.old }
+    requires no_failure { IsWell writer.old }
     ensures ok { OnAll result (CopiesOne R.remaining W.contents chain.old reader.old reader.new writer.old writer.new) }
     ensures torn { OnCut result (EndsTorn R.remaining reader.old) }
     ensures kept { OnCut result (writer.new ≡ writer.old) }
@@ -122,7 +122,7 @@ fn copy_record<R: Read, W: Write>(
     ensures space { HasSameSegments chain.new chain.old }
     ensures read { OnOk result (HasNotFailed (source_of reader.old) (source_of reader.new)) }
     ensures written { OnOk result (HasNotFailed (sink_of writer.old) (sink_of writer.new)) }
-    ensures why { IfErr result (WhyOneStopped reader.old reader.new writer.old writer.new) }
+    ensures cause { IfErr result (WhyOneStopped reader.old reader.new writer.old writer.new) }
 {
     if head.captured as usize > chain.space() {
         let all = reader.skip()?;

@@ -81,7 +81,7 @@ impl<W: Write> Counted<W> {
     pub(crate) fn write(&mut self, buf: &[u8]) -> Result<usize, Failed>
         requires { 0 < length buf.now }
         ensures bound { WritesAtMost result buf.now }
-        ensures some { IfOk result (λ count. 0 < count) }
+        ensures nonzero { IfOk result (λ count. 0 < count) }
         ensures bytes { WriteAppends (told W.contents self.old) (told W.contents self.new) result buf.now }
         ensures ok { OnOk result (HasNotFailed self.old self.new) }
         ensures err { OnErr result (HasFailed self.old self.new) }

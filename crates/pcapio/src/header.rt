@@ -54,7 +54,7 @@ pub(crate) fn header_in(bytes: &[u8]) -> Result<(ByteOrder, Resolution), CapFaul
 /// The order in which the first four bytes are a magic, and the resolution that this magic names.
 fn magic_in(bytes: &[u8]) -> Option<(ByteOrder, Resolution)>
     requires { 4 ≤ length bytes.now }
-    ensures some { IfSome result (λ said. HasMagic bytes.now said.0 said.1) }
+    ensures found { IfSome result (λ said. HasMagic bytes.now said.0 said.1) }
     ensures none { IfNone result (HasNoMagic bytes.now) }
 {
     match &bytes[..4] {

@@ -7,23 +7,23 @@
 //! takes memory. `copy_records` and `collect_records` show them at work.
 #![tactic(auto)]
 
-mod ahead;
-mod behind;
 mod collect;
 mod copy;
 mod counted;
 mod header;
+mod read_buffer;
 mod reader;
+mod reader_state;
 mod record;
-mod stage;
 mod stream;
 mod text;
+mod write_buffer;
 mod writer;
 
 pub use collect::collect_records;
 pub use copy::{copy_capture, copy_records};
 pub use counted::Counted;
-pub use pcapio_laws::{ByteOrder, CapFault, MOST_CAPTURED, Resolution};
+pub use pcapio_laws::{ByteOrder, CapFault, MAX_CAPTURED, Resolution};
 pub use reader::Reader;
 pub use record::{Head, Record};
 pub use writer::Writer;

@@ -3,18 +3,18 @@ ghost use Rattle.std.specs.Prelude.{◌≡◌, ◌<◌, ◌≤◌, IfOk, IfErr, 
 ghost use Rattle.std.specs.Prelude.{Some, None, Option, Bool, true};
 ghost use Rattle.std.specs.Option.{ForSome};
 ghost use Rattle.std.specs.Io.KnownBytes.{Keeps};
-ghost use Rattle.pcapio.specs.Ahead.{items};
+ghost use Rattle.pcapio.specs.ReadBuffer.{items};
 ghost use Rattle.pcapio.specs.Counted.{to_come, HasFailed, HasNotFailed};
 ghost use Rattle.pcapio.specs.Record.{IsHead};
-ghost use Rattle.pcapio.specs.Stage.{head_of};
+ghost use Rattle.pcapio.specs.ReaderState.{head_of};
 
 mod bodies;
 
-use crate::ahead::Ahead;
 use crate::counted::{Counted, Failed};
 use crate::header::{FILE_HEADER, header_in};
+use crate::read_buffer::ReadBuffer;
+use crate::reader_state::ReaderState;
 use crate::record::{HEAD, Head, head_in};
-use crate::stage::Stage;
 use pcapio_laws::{ByteOrder, CapFault, Resolution};
 use std::alloc::Global;
 use std::io::Read;
@@ -23,10 +23,10 @@ use std::io::Read;
 #[derive(Debug, Drop)]
 pub struct Reader<R> {
     device: Counted<R>,
-    ahead: Ahead,
+    ahead: ReadBuffer,
     order: ByteOrder,
     resolution: Resolution,
-    stage: Stage,
+    stage: ReaderState,
     ghost pending: { ForSome (head_of stage) (λ head. IsHead order (items ahead) head) },
 }
 
@@ -35,8 +35,8 @@ impl<R: Read> Reader<R> {
     ghost use Rattle.pcapio.specs.Reader.{IsSameFile, Refuses, HasHeaderOf, IsBehindHeader, BeginsWithHead};
     ghost use Rattle.pcapio.specs.Reader.{FindsEnd};
     ghost use Rattle.pcapio.specs.Reader.{WhyNoHead};
-    ghost use Rattle.pcapio.specs.Stage.{torn_of};
-    ghost use Rattle.pcapio.specs.declared.stage.Stage.TheVariants.{Between, Pending, Ended, Faulted};
+    ghost use Rattle.pcapio.specs.ReaderState.{torn_of};
+    ghost use Rattle.pcapio.specs.declared.reader_state.ReaderState.TheVariants.{Between, Pending, Ended, Faulted};
 
     /// A reader of the capture that the device has. All memory that `head`, `body` and `skip` need is taken here: a
     /// buffer of 64 KiB.
@@ -47,11 +47,11 @@ impl<R: Read> Reader<R> {
         ensures header { IfOk result (HasHeaderOf R.remaining device) }
         ensures rest { IfOk result (IsBehindHeader R.remaining device) }
         ensures begins { IfOk result (λ opened. stage_of opened ≡ Between) }
-        ensures well { IfOk result (λ opened. HasNotFailed device (source_of opened)) }
-        ensures why { IfErr result (λ back. Refuses (to_come R.remaining device) back.1 (HasFailed device back.0)) }
+        ensures no_failure { IfOk result (λ opened. HasNotFailed device (source_of opened)) }
+        ensures cause { IfErr result (λ back. Refuses (to_come R.remaining device) back.1 (HasFailed device back.0)) }
         ensures untouched { IfErr result (λ back. back.1 ≡ CapFault.Memory → back.0 ≡ device) }
     {
-        let Ok(mut ahead) = Ahead::new(alloc) else {
+        let Ok(mut ahead) = ReadBuffer::new(alloc) else {
             return Err((device, CapFault::Memory));
         };
         match ahead.gather(&mut device, FILE_HEADER) {
@@ -66,7 +66,7 @@ impl<R: Read> Reader<R> {
                         ahead,
                         order,
                         resolution,
-                        stage: Stage::Between,
+                        stage: ReaderState::Between,
                     })
                 }
             },
@@ -92,7 +92,7 @@ impl<R: Read> Reader<R> {
         ensures { result ≡ torn_of (stage_of self.now) }
     {
         match self.stage {
-            Stage::Ended(torn) => torn,
+            ReaderState::Ended(torn) => torn,
             _ => false,
         }
     }
@@ -102,7 +102,7 @@ impl<R: Read> Reader<R> {
         ensures { result ≡ pending_of self.now }
     {
         match self.stage {
-            Stage::Pending(head) => Some(head),
+            ReaderState::Pending(head) => Some(head),
             _ => None,
         }
     }
@@ -132,16 +132,16 @@ impl<R: Read> Reader<R> {
         ensures ended { (torn : Bool) → stage_of self.old ≡ Ended torn → (result ≡ Ok None) × (self.new ≡ self.old) }
 
         // Faults.
-        ensures well { OnOk result (HasNotFailed (source_of self.old) (source_of self.new)) }
+        ensures no_failure { OnOk result (HasNotFailed (source_of self.old) (source_of self.new)) }
         ensures fault { IfErr result (λ fault. stage_of self.new ≡ Faulted fault) }
-        ensures why { IsReading self.old → IfErr result (WhyNoHead R.remaining self.old self.new) }
+        ensures cause { IsReading self.old → IfErr result (WhyNoHead R.remaining self.old self.new) }
         ensures stays { (f : CapFault) → stage_of self.old ≡ Faulted f → (result ≡ Err f) × (self.new ≡ self.old) }
     {
         match self.stage {
-            Stage::Pending(head) => Ok(Some(head)),
-            Stage::Ended(_) => Ok(None),
-            Stage::Faulted(fault) => Err(fault),
-            Stage::Between => self.read_head(),
+            ReaderState::Pending(head) => Ok(Some(head)),
+            ReaderState::Ended(_) => Ok(None),
+            ReaderState::Faulted(fault) => Err(fault),
+            ReaderState::Between => self.read_head(),
         }
     }
 
@@ -154,20 +154,20 @@ impl<R: Read> Reader<R> {
         ensures head { IfOk result (λ found. IfSome found (BeginsWithHead R.remaining self.old)) }
         ensures small { IfOk result (λ found. IfSome found (λ head. head.captured ≤ 262144)) }
         ensures end { IfOk result (λ it. IfNone it (FindsEnd R.remaining self.old self.new)) }
-        ensures well { OnOk result (HasNotFailed (source_of self.old) (source_of self.new)) }
+        ensures no_failure { OnOk result (HasNotFailed (source_of self.old) (source_of self.new)) }
         ensures fault { IfErr result (λ fault. stage_of self.new ≡ Faulted fault) }
-        ensures why { IfErr result (WhyNoHead R.remaining self.old self.new) }
+        ensures cause { IfErr result (WhyNoHead R.remaining self.old self.new) }
     {
         match self.ahead.gather(&mut self.device, HEAD) {
             Err(Failed) => Err(self.give_up(CapFault::Read)),
             Ok(false) => {
-                self.stage = Stage::Ended(self.ahead.len() > 0);
+                self.stage = ReaderState::Ended(self.ahead.len() > 0);
                 Ok(None)
             }
             Ok(true) => match head_in(self.order, self.ahead.as_slice()) {
                 None => Err(self.give_up(CapFault::BadRecord)),
                 Some(head) => {
-                    self.stage = Stage::Pending(head);
+                    self.stage = ReaderState::Pending(head);
                     Ok(Some(head))
                 }
             },
@@ -181,7 +181,7 @@ impl<R: Read> Reader<R> {
         ensures device { source_of self.new ≡ source_of self.old }
         ensures rest { rest R.remaining self.new ≡ rest R.remaining self.old }
     {
-        self.stage = Stage::Faulted(fault);
+        self.stage = ReaderState::Faulted(fault);
         fault
     }
 }

@@ -3,7 +3,7 @@ ghost use Rattle.std.specs.Prelude.{◌≤◌, length, IfSome, IfNone};
 ghost use Rattle.pcapio_laws.specs.Capture.{IsBad};
 
 use crate::header::field;
-use pcapio_laws::{ByteOrder, MOST_CAPTURED};
+use pcapio_laws::{ByteOrder, MAX_CAPTURED};
 
 /// What stands before the bytes of a record.
 #[derive(Clone, Copy, Debug, PartialEq, Eq)]
@@ -11,7 +11,7 @@ pub struct Head {
     pub seconds: u32,
     /// Millionths of a second or thousand-millionths, as the file's resolution says. It may be any number.
     pub fraction: u32,
-    /// How many bytes were captured, at most `MOST_CAPTURED`.
+    /// How many bytes were captured, at most `MAX_CAPTURED`.
     pub captured: u32,
     /// How many bytes the packet had on the wire, not fewer than were captured.
     pub wire: u32,
@@ -40,7 +40,7 @@ pub(crate) fn head_in(order: ByteOrder, bytes: &[u8]) -> Option<Head>
     ensures none { IfNone result (IsBad order bytes.now) }
 {
     let captured = field(order, bytes, 8);
-    if captured > MOST_CAPTURED {
+    if captured > MAX_CAPTURED {
         return None;
     }
     Some(Head {

@@ -1,18 +1,18 @@
 //! The bytes of a record, read into the segments of a chain.
 ghost use Rattle.std.specs.Prelude.{◌≡◌, ◌≤◌, length, OnOk, OnErr};
 ghost use Rattle.mbuf.specs.Chain.{bytes_of, shape_of, fresh_of, HasSameSegments, space_of};
-ghost use Rattle.pcapio.specs.Ahead.{Gives, HasFewer};
+ghost use Rattle.pcapio.specs.ReadBuffer.{Gives, HasFewer};
 ghost use Rattle.pcapio.specs.Answer.{OnAll, OnCut};
 ghost use Rattle.pcapio.specs.Counted.{HasFailed, HasNotFailed};
 
-use crate::ahead::Ahead;
 use crate::counted::{Counted, Failed};
+use crate::read_buffer::ReadBuffer;
 use mbuf::Chain;
 use std::io::Read;
 
 /// Reads over all bytes of the chain, or tells that fewer are left.
 fn fill_chain<R: Read>(
-    ahead: &mut Ahead,
+    ahead: &mut ReadBuffer,
     device: &mut Counted<R>,
     chain: &mut Chain,
 ) -> Result<bool, Failed>
@@ -32,7 +32,7 @@ fn fill_chain<R: Read>(
 
 /// Makes the packet `count` bytes long, and reads them; or makes the chain fresh, and tells that fewer are left.
 pub(crate) fn read_body<R: Read>(
-    ahead: &mut Ahead,
+    ahead: &mut ReadBuffer,
     device: &mut Counted<R>,
     chain: &mut Chain,
     count: usize,

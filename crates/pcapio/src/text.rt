@@ -6,7 +6,7 @@ ghost use Rattle.pcapio.specs.Record.{packet_in};
 
 use byteorder::{ByteOrder as Endian, LittleEndian};
 use mbuf::Chain;
-use pcapio_laws::{MOST_CAPTURED, Resolution};
+use pcapio_laws::{MAX_CAPTURED, Resolution};
 
 /// The bytes of a file's header: version 2.4, the most that a record has captured, and Ethernet.
 pub(crate) fn header_bytes(resolution: Resolution) -> [u8; 24]
@@ -20,7 +20,7 @@ pub(crate) fn header_bytes(resolution: Resolution) -> [u8; 24]
     LittleEndian::write_u32(&mut bytes, magic);
     LittleEndian::write_u16(&mut bytes[4..], 2);
     LittleEndian::write_u16(&mut bytes[6..], 4);
-    LittleEndian::write_u32(&mut bytes[16..], MOST_CAPTURED);
+    LittleEndian::write_u32(&mut bytes[16..], MAX_CAPTURED);
     LittleEndian::write_u32(&mut bytes[20..], 1);
     bytes
 }

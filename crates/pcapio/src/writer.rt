@@ -1,12 +1,12 @@
 //! The writer of a capture: little-endian, of Ethernet, with the resolution that it is opened with.
 ghost use Rattle.std.specs.Prelude.{◌≡◌, Some, None, IfOk, IfErr, OnOk, OnErr};
 ghost use Rattle.std.specs.Io.KnownBytes.{Keeps};
-ghost use Rattle.pcapio.specs.Behind.{AddsRecord, BeginsToAddRecord, SendsAll, BeginsToSend, KeepsUnsent};
+ghost use Rattle.pcapio.specs.WriteBuffer.{AddsRecord, BeginsToAddRecord, SendsAll, BeginsToSend, KeepsUnsent};
 ghost use Rattle.pcapio.specs.Counted.{HasFailed, HasNotFailed};
 
-use crate::behind::Behind;
 use crate::counted::{Counted, Failed};
 use crate::text::{header_bytes, header_of};
+use crate::write_buffer::WriteBuffer;
 use mbuf::Chain;
 use pcapio_laws::{CapFault, Resolution};
 use std::alloc::Global;
@@ -16,7 +16,7 @@ use std::io::Write;
 #[derive(Debug, Drop)]
 pub struct Writer<W> {
     device: Counted<W>,
-    behind: Behind,
+    behind: WriteBuffer,
     fault: Option<CapFault>,
 }
 
@@ -36,9 +36,9 @@ impl<W: Write> Writer<W> {
         ensures text { IfOk result (Opens W.contents device resolution) }
         ensures begins { IfOk result IsWell }
         ensures device { IfOk result (λ opened. sink_of opened ≡ device) }
-        ensures why { IfErr result (λ refused. refused ≡ (device, CapFault.Memory)) }
+        ensures cause { IfErr result (λ refused. refused ≡ (device, CapFault.Memory)) }
     {
-        let Ok(mut behind) = Behind::new(alloc) else {
+        let Ok(mut behind) = WriteBuffer::new(alloc) else {
             return Err((device, CapFault::Memory));
         };
         behind.begin(&header_bytes(resolution));
@@ -51,7 +51,7 @@ impl<W: Write> Writer<W> {
 
     /// Adds the record of a packet whose bytes lie in a chain. It takes no memory.
     ///
-    /// That the file is a capture is known where the chain has at most `MOST_CAPTURED` bytes and `wire` isn't below its
+    /// That the file is a capture is known where the chain has at most `MAX_CAPTURED` bytes and `wire` isn't below its
     /// length; this call doesn't test it.
     ///
     /// Refused with 6 `Write` where the device failed.
@@ -63,13 +63,13 @@ impl<W: Write> Writer<W> {
         chain: &Chain,
     ) -> Result<(), CapFault>
         ensures ok { OnOk result (Puts W.contents self.old self.new seconds fraction wire chain.now) }
-        ensures well { OnOk result (IsWell self.new) }
+        ensures no_failure { OnOk result (IsWell self.new) }
         ensures worked { OnOk result (HasNotFailed (sink_of self.old) (sink_of self.new)) }
 
         // Faults. The device was then told a beginning of what it would have been told.
         ensures begins { OnErr result (BeginsToPut W.contents self.old self.new seconds fraction wire chain.now) }
         ensures fault { IfErr result (λ fault. fault_of self.new ≡ Some fault) }
-        ensures why { IsWell self.old → IfErr result (λ fault. fault ≡ CapFault.Write) }
+        ensures cause { IsWell self.old → IfErr result (λ fault. fault ≡ CapFault.Write) }
         ensures failed { IsWell self.old → OnErr result (Fails self.old self.new) }
         ensures stays { (f : CapFault) → fault_of self.old ≡ Some f → (result ≡ Err f) × (self.new ≡ self.old) }
     {
@@ -89,13 +89,13 @@ impl<W: Write> Writer<W> {
     pub fn flush(&mut self) -> Result<(), CapFault>
         ensures ok { OnOk result (IsTold W.contents self.old self.new) }
         ensures text { OnOk result (Keeps (text W.contents self.old) (text W.contents self.new)) }
-        ensures well { OnOk result (IsWell self.new) }
+        ensures no_failure { OnOk result (IsWell self.new) }
         ensures worked { OnOk result (HasNotFailed (sink_of self.old) (sink_of self.new)) }
 
         // Faults. The device was then told a beginning of it.
         ensures begins { OnErr result (IsToldPart W.contents self.old self.new) }
         ensures fault { IfErr result (λ fault. fault_of self.new ≡ Some fault) }
-        ensures why { IsWell self.old → IfErr result (λ fault. fault ≡ CapFault.Write) }
+        ensures cause { IsWell self.old → IfErr result (λ fault. fault ≡ CapFault.Write) }
         ensures failed { IsWell self.old → OnErr result (Fails self.old self.new) }
         ensures stays { (f : CapFault) → fault_of self.old ≡ Some f → (result ≡ Err f) × (self.new ≡ self.old) }
     {
@@ -127,14 +127,14 @@ impl<W: Write> Writer<W> {
 
 /// Adds a record to what waits. After a failure the device was told a beginning of all.
 fn put_record<W: Write>(
-    behind: &mut Behind,
+    behind: &mut WriteBuffer,
     device: &mut Counted<W>,
     head: &[u8],
     chain: &Chain,
 ) -> Result<(), Failed>
     ensures ok { OnOk result (AddsRecord W.contents behind.old device.old behind.new device.new head.now chain.now) }
     ensures begins { OnErr result (BeginsToAddRecord W.contents behind.old device.old device.new head.now chain.now) }
-    ensures well { OnOk result (HasNotFailed device.old device.new) }
+    ensures no_failure { OnOk result (HasNotFailed device.old device.new) }
     ensures failed { OnErr result (HasFailed device.old device.new) }
 {
     behind.add(device, head)?;
@@ -145,11 +145,11 @@ fn put_record<W: Write>(
 }
 
 /// Writes all that waits, and asks the device to pass it on.
-fn flush_all<W: Write>(behind: &mut Behind, device: &mut Counted<W>) -> Result<(), Failed>
-    ensures told { OnOk result (SendsAll W.contents behind.old device.old device.new) }
+fn flush_all<W: Write>(behind: &mut WriteBuffer, device: &mut Counted<W>) -> Result<(), Failed>
+    ensures exact { OnOk result (SendsAll W.contents behind.old device.old device.new) }
     ensures kept { OnOk result (KeepsUnsent W.contents behind.old device.old behind.new device.new) }
     ensures begins { OnErr result (BeginsToSend W.contents behind.old device.old device.new) }
-    ensures well { OnOk result (HasNotFailed device.old device.new) }
+    ensures no_failure { OnOk result (HasNotFailed device.old device.new) }
     ensures failed { OnErr result (HasFailed device.old device.new) }
 {
     behind.write_out(device)?;

@@ -15,4 +15,4 @@ pub enum Resolution {
 }
 
 /// The most bytes that a record has captured.
-pub const MOST_CAPTURED: u32 = 262_144;
+pub const MAX_CAPTURED: u32 = 262_144;

@@ -20,13 +20,13 @@ pub fn written_again()
 
 /// Bytes are records in one way: these packets, and this end.
 pub fn one_reading()
-    ensures some { (order : ByteOrder) (bytes : List ℕ) → HasReading order bytes }
+    ensures exists { (order : ByteOrder) (bytes : List ℕ) → HasReading order bytes }
     ensures one { (order : ByteOrder) (bytes : List ℕ) → HasOneReading order bytes }
 {}
 
 /// Each list of bytes is in exactly one case: a capture in one way, or refused for one reason.
 pub fn one_case()
-    ensures some { (bytes : List ℕ) → (case : Case) × IsCase bytes case }
+    ensures exists { (bytes : List ℕ) → (case : Case) × IsCase bytes case }
     ensures one { (bytes : List ℕ) (a b : Case) → IsCase bytes a → IsCase bytes b → a ≡ b }
 {}
 

@@ -11,5 +11,5 @@ mod format;
 mod laws;
 
 pub use fault::CapFault;
-pub use format::{ByteOrder, MOST_CAPTURED, Resolution};
+pub use format::{ByteOrder, MAX_CAPTURED, Resolution};
 pub use laws::{one_case, one_reading, worked_cuts, worked_headers, worked_lengths, written_again};

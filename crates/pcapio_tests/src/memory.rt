@@ -23,7 +23,7 @@ fn copy_starved(
     chain: &mut Chain,
 ) -> Result<(Result<Option<bool>, CapFault>, Result<(), CapFault>), Fail>
     requires reading { IsReading reader.old }
-    requires well { IsWell writer.old }
+    requires no_failure { IsWell writer.old }
 {
     let held = exhaust_memory(alloc)?.ok_or("memory can't be used up in this build")?;
     let copied = copy_records(reader, writer, chain);

@@ -2,7 +2,7 @@
 //! over the words and the standard streams alone.
 #![tactic(auto)]
 
-use cli::{behind_name, out_of_memory, program};
+use cli::{program, report_out_of_memory, skip_program_name};
 use std::alloc::AllocError;
 use std::env;
 use std::io::ErrorKind;
@@ -13,12 +13,12 @@ const REFUSED: u8 = 2;
 
 fn main(rt: HostRuntime) -> ExitCode {
     let words = match env::args(&rt) {
-        Ok(words) => behind_name(rt.alloc(), words),
+        Ok(words) => skip_program_name(rt.alloc(), words),
         Err(error) if error.kind() == ErrorKind::OutOfMemory => Err(AllocError),
         Err(_) => return ExitCode::from(REFUSED),
     };
     let Ok(words) = words else {
-        return ExitCode::from(out_of_memory(&mut rt.stderr()));
+        return ExitCode::from(report_out_of_memory(&mut rt.stderr()));
     };
     let status = program(
         &rt,

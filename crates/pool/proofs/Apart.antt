@@ -8,7 +8,7 @@ use Rattle.burst.specs.Numbers.{AreDistinct}
 use Rattle.ringcore_laws.specs.Sound.{holds}
 use Rattle.ringcore_laws.proofs.Laws.{times_in_is}
 use Rattle.fabric.specs.declared.fabric.Fabric.{Fabric}
-use Rattle.fabric.specs.declared.keeper.Keeper.{Keeper}
+use Rattle.fabric.specs.declared.hand.cache_hand.CacheHand.{CacheHand}
 use Rattle.fabric.specs.Settles.{AreOwnBuffers}
 use Rattle.pool.specs.declared.local.Local.{Local}
 use Rattle.pool.specs.Hands.{IsIn, IsSameIn, view_in}
@@ -20,7 +20,7 @@ module _ {T : Type 0} {G : Ghosts T} {N : ℕ} (l : Local T N G) where
   cache_own = ((λ b. omega (arith, l.kept b)), l.single)
 
   -- a hand that is there has no buffer twice
-  held_once : (o : Option (Keeper T G)) → is_some o ≡ true → (b : ℕ) → holds G.numbers b (view_in o).party ≤ 1
+  held_once : (o : Option (CacheHand T G)) → is_some o ≡ true → (b : ℕ) → holds G.numbers b (view_in o).party ≤ 1
   held_once None here b = absurd (let z : false ≡ true = here in cc)
   held_once (Some k) here b = (k.well b).0
 
@@ -28,7 +28,7 @@ module _ {T : Type 0} {G : Ghosts T} {N : ℕ} (l : Local T N G) where
   cache_apart b = omega (arith, cache_own.0 b, held_once l.hand l.here b, times_in_is G.numbers b (cache_of l))
 
 module _ {T : Type 0} {G : Ghosts T} {N : ℕ} (f : Fabric T N) where
-  kept_in : (o later : Option (Keeper T G)) → IsSameIn o later → IsIn f o → IsIn f later
+  kept_in : (o later : Option (CacheHand T G)) → IsSameIn o later → IsIn f o → IsIn f later
   kept_in None later same mine = absurd same
   kept_in (Some k) None same mine = absurd same
   kept_in (Some k) (Some m) same mine = same_mine f k m same mine

@@ -6,12 +6,12 @@ use Rattle.ringcore_laws.specs.Sound.{holds, occurrences_in}
 use Rattle.burst.specs.declared.tagged.Tagged.{Ghosts}
 use Rattle.fabric_laws.specs.declared.view.View.{View}
 use Rattle.fabric.specs.declared.hand.Hand.{Hand}
-use Rattle.fabric.specs.declared.keeper.Keeper.{Keeper}
+use Rattle.fabric.specs.declared.hand.cache_hand.CacheHand.{CacheHand}
 use Rattle.fabric.specs.declared.hand.StartFault.{StartFault}
 use Rattle.fabric.specs.declared.hand.StartFault.TheVariants.{Busy, Contended, NoRoom, BadCount}
 use Rattle.fabric.specs.declared.hand.StartFault.TheVariants as start
 use Rattle.fabric.specs.Hands.{view}
-use Rattle.fabric.specs.Keepers.{IsKeeperFor}
+use Rattle.fabric.specs.CacheHands.{IsCacheHandFor}
 use Rattle.ringapi.specs.declared.answers.Moved.{Moved}
 use Rattle.ringapi.specs.declared.answers.PutAnswer.TheVariants as put
 use Rattle.ringapi.specs.declared.answers.Refusal.TheVariants.{Start}
@@ -85,10 +85,10 @@ module _ {T : Type 0} {G : Ghosts T} (tags : T → List ℕ) (most ring : ℕ) (
 
   -- What it answers to put the oldest of a cache on the ring until `size` are left, with what is handed back and the
   -- cache after it. Where it is refused, the items behind the first `before` are handed back
-  abbrev pub Sheds : ℕ → ℕ → View T → List T → Result (Keeper T G) (Keeper T G) → List T → List T → Type 0
+  abbrev pub Sheds : ℕ → ℕ → View T → List T → Result (CacheHand T G) (CacheHand T G) → List T → List T → Type 0
   Sheds size before v cache (Ok k) rest later =
       (rest ≡ []) × (later ≡ drop (length cache - size) cache) × (h : Hand T G)
-      × Spills v (take (length cache - size) cache) (Ok h) × IsKeeperFor h k
+      × Spills v (take (length cache - size) cache) (Ok h) × IsCacheHandFor h k
   Sheds size before v cache (Err k) rest later =
       (rest ≡ drop before cache) × (later ≡ take before cache) × (h : Hand T G)
-      × Spills v (take (length cache - size) cache) (Err h) × IsKeeperFor h k
+      × Spills v (take (length cache - size) cache) (Err h) × IsCacheHandFor h k

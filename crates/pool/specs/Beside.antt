@@ -4,7 +4,7 @@ use Rattle.geom.specs.declared.plan.RingPlan.{RingPlan}
 use Rattle.burst.specs.declared.tagged.Tagged.{Ghosts}
 use Rattle.fabric.specs.declared.hand.Hand.{Hand}
 use Rattle.fabric.specs.declared.hand.StartFault.{StartFault}
-use Rattle.fabric.specs.declared.keeper.Keeper.{Keeper}
+use Rattle.fabric.specs.declared.hand.cache_hand.CacheHand.{CacheHand}
 use Rattle.fabric.specs.Hands.{view}
 use Rattle.fabric.specs.Settles.{AreNotYours}
 use Rattle.ringapi.specs.declared.answers.Moved.{Moved}
@@ -18,7 +18,7 @@ use Rattle.ringapi.specs.Views.{by_burst}
 use Rattle.pool.specs.Hands.{view_in}
 
 module _ {T : Type 0} {G : Ghosts T} (tags : T → List ℕ) (most ring : ℕ) (plan : RingPlan)
-    (k l : Option (Keeper T G)) where
+    (k l : Option (CacheHand T G)) where
   -- What a put by burst answers, by the hand k, which is l then: items that aren't the hand's to put beside
   -- what is cached are refused before anything else, and the rest is the put's own answer
   abbrev pub Sends : List T → List T → Result Moved Refusal → List T → Type 0

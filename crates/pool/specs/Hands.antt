@@ -7,9 +7,9 @@ use Rattle.fabric_laws.specs.declared.view.View.{View}
 use Rattle.fabric_laws.specs.Changes.{spent}
 use Rattle.fabric.specs.declared.fabric.Fabric.{Fabric}
 use Rattle.fabric.specs.declared.hand.Hand.{Hand}
-use Rattle.fabric.specs.declared.keeper.Keeper.{Keeper}
+use Rattle.fabric.specs.declared.hand.cache_hand.CacheHand.{CacheHand}
 use Rattle.fabric.specs.Hands.{rings_of}
-use Rattle.fabric.specs.Keepers.{IsKeeperFor, IsKeeperOf, SameKeeper, spare, view_of_keeper}
+use Rattle.fabric.specs.CacheHands.{IsCacheHandFor, IsCacheHandOf, SameCacheHand, spare, view_of_cache_hand}
 
 -- a ring of these is a free ring
 abbrev pub IsFreeRing : List RingPlan → ℕ → Type 0
@@ -18,33 +18,33 @@ IsFreeRing plans ring =
 
 module _ {T : Type 0} {G : Ghosts T} where
   -- the view of a hand that is there
-  abbrev pub view_in : Option (Keeper T G) → View T
+  abbrev pub view_in : Option (CacheHand T G) → View T
   view_in None = spent
-  view_in (Some k) = view_of_keeper k
+  view_in (Some k) = view_of_cache_hand k
 
   -- it is there, and comes from this fabric
-  abbrev pub IsIn : {N : ℕ} → Fabric T N → Option (Keeper T G) → Type 0
+  abbrev pub IsIn : {N : ℕ} → Fabric T N → Option (CacheHand T G) → Type 0
   IsIn f None = ⊥
-  IsIn f (Some k) = IsKeeperOf f k
+  IsIn f (Some k) = IsCacheHandOf f k
 
   -- it is there, and is this hand
-  abbrev pub IsHandIn : Hand T G → Option (Keeper T G) → Type 0
+  abbrev pub IsHandIn : Hand T G → Option (CacheHand T G) → Type 0
   IsHandIn h None = ⊥
-  IsHandIn h (Some k) = IsKeeperFor h k
+  IsHandIn h (Some k) = IsCacheHandFor h k
 
   -- it is the same hand still
-  abbrev pub IsSameIn : Option (Keeper T G) → Option (Keeper T G) → Type 0
+  abbrev pub IsSameIn : Option (CacheHand T G) → Option (CacheHand T G) → Type 0
   IsSameIn None after = ⊥
   IsSameIn (Some k) None = ⊥
-  IsSameIn (Some k) (Some l) = SameKeeper k l
+  IsSameIn (Some k) (Some l) = SameCacheHand k l
 
   -- how often it has a buffer beside those that it keeps back
-  abbrev pub spare_in : Option (Keeper T G) → ℕ → ℕ
+  abbrev pub spare_in : Option (CacheHand T G) → ℕ → ℕ
   spare_in None b = 0
   spare_in (Some k) b = spare k b
 
   -- the buffers that it keeps back are those of these items
-  abbrev pub KeepsIn : (T → List ℕ) → Option (Keeper T G) → List T → Type 0
+  abbrev pub KeepsIn : (T → List ℕ) → Option (CacheHand T G) → List T → Type 0
   KeepsIn tags o items = (b : ℕ) → spare_in o b + occurrences_in tags b items ≡ holds tags b (view_in o).party
 
 -- a ring of a fabric is a free ring

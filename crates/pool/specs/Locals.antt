@@ -4,7 +4,7 @@ use Rattle.burst.specs.declared.tagged.Tagged.{Ghosts}
 use Rattle.fabric_laws.specs.declared.view.View.{View}
 use Rattle.fabric.specs.declared.fabric.Fabric.{Fabric}
 use Rattle.fabric.specs.declared.hand.Hand.{Hand}
-use Rattle.fabric.specs.declared.keeper.Keeper.{Keeper}
+use Rattle.fabric.specs.declared.hand.cache_hand.CacheHand.{CacheHand}
 use Rattle.pool.specs.declared.local.Local.{Local}
 use Rattle.pool.specs.Hands.{IsHandIn, IsIn, IsSameIn, view_in}
 
@@ -20,7 +20,7 @@ module _ {T : Type 0} {G : Ghosts T} {N : ℕ} where
   abbrev pub ring_of : Local T N G → ℕ
   ring_of l = l.ring
 
-  abbrev pub hand_of : Local T N G → Option (Keeper T G)
+  abbrev pub hand_of : Local T N G → Option (CacheHand T G)
   hand_of l = l.hand
 
   -- the view of its hand

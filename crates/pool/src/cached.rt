@@ -5,9 +5,9 @@ ghost use Rattle.pool.specs.Calls.{GetsCached, PutsCached};
 ghost use Rattle.pool.specs.Locals.{HasSameHand, SameRing, cache_of, cache_size, view_of};
 
 use crate::faults::PoolFault;
-use crate::keeping::give;
+use crate::list_moves::push_all;
 use crate::local::Local;
-use crate::moves::push_all;
+use crate::set_aside::give;
 use burst::{Burst, Tagged};
 
 impl<T: Tagged, const N: usize> Local<T, N> {
@@ -17,14 +17,14 @@ impl<T: Tagged, const N: usize> Local<T, N> {
     pub fn get_cached_into(&mut self, n: usize, into: &mut Burst<T, N>) -> Result<(), PoolFault>
         requires empty { into.old ≡ [] }
         ensures same { SameRing self.old self.new × HasSameHand self.old self.new }
-        ensures told { GetsCached n (cache_of self.old) result into.new (cache_of self.new) }
+        ensures exact { GetsCached n (cache_of self.old) result into.new (cache_of self.new) }
         ensures own { IfOk result (λ _. AreOwnBuffers T.numbers (view_of self.new) (into.new ++ cache_of self.new)) }
     {
         if self.cache.len() < n {
             return Err(PoolFault::Short);
         }
         match &mut self.hand {
-            Some(keeper) => give(keeper, &mut self.cache, n, into),
+            Some(cache_hand) => give(cache_hand, &mut self.cache, n, into),
             None => unreachable!(),
         }
         Ok(())
@@ -37,18 +37,18 @@ impl<T: Tagged, const N: usize> Local<T, N> {
     #[inline]
     pub fn put_cached_from(&mut self, list: &mut Burst<T, N>) -> Result<(), PoolFault>
         ensures same { SameRing self.old self.new × HasSameHand self.old self.new }
-        ensures told { PutsCached T.numbers (view_of self.old) (cache_size self.old) (cache_of self.old) list.old result
-            list.new (cache_of self.new) }
+        ensures exact { PutsCached T.numbers (view_of self.old) (cache_size self.old) (cache_of self.old) list.old
+            result list.new (cache_of self.new) }
     {
-        let keeper = match &mut self.hand {
-            Some(keeper) => keeper,
+        let cache_hand = match &mut self.hand {
+            Some(cache_hand) => cache_hand,
             None => unreachable!(),
         };
-        if !keeper.keep(list) {
+        if !cache_hand.set_aside(list) {
             return Err(PoolFault::NotYours);
         }
         if list.len() > 3 * self.size / 2 - self.cache.len() {
-            keeper.release(list);
+            cache_hand.restore(list);
             return Err(PoolFault::CacheFull);
         }
         push_all(&mut self.cache, list);

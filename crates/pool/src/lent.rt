@@ -5,10 +5,10 @@ ghost use Rattle.fabric.specs.Settles.{AreOwnBuffers};
 ghost use Rattle.pool.specs.Calls.{FlushTells, GetTells, PutBackTells};
 ghost use Rattle.pool.specs.Locals.{IsLocalOf, SameRing, cache_of, ring_of, view_of};
 
-use crate::asks::{empty, fetch};
 use crate::faults::PoolFault;
-use crate::keeping::{admit, keep_back, shed};
 use crate::local::Local;
+use crate::ring_requests::{empty, fetch};
+use crate::set_aside::{admit, keep_back, shed};
 use burst::{Burst, Tagged};
 use fabric::Fabric;
 use std::sync::Wait;
@@ -28,22 +28,22 @@ impl<T: Tagged, const N: usize> Local<T, N> {
         into: &mut Burst<T, N>,
     ) -> Result<(), PoolFault>
         requires local { IsLocalOf f.now self.old }
-        requires some { 0 < n }
-        requires few { n ≤ 64 }
+        requires nonzero { 0 < n }
+        requires at_most { n ≤ 64 }
         requires empty { into.old ≡ [] }
         ensures local { IsLocalOf f.now self.new }
         ensures same { SameRing self.old self.new }
-        ensures told { OnRing f.now (ring_of self.old)
+        ensures exact { OnRing f.now (ring_of self.old)
             (λ plan. GetTells T.numbers plan self.old self.new n result into.new) }
         ensures own { IfOk result (λ _. AreOwnBuffers T.numbers (view_of self.new) (into.new ++ cache_of self.new)) }
     {
         if n <= self.cache.len() {
             return self.get_cached_into(n, into);
         }
-        let Some(keeper) = self.hand.take() else {
+        let Some(cache_hand) = self.hand.take() else {
             unreachable!();
         };
-        let hand = keeper.whole(&self.cache);
+        let hand = cache_hand.into_hand(&self.cache);
         match fetch(rt, f, hand, self.ring, self.size, &mut self.cache, n, into) {
             Ok(hand) => {
                 self.hand = Some(keep_back(hand, &self.cache));
@@ -69,15 +69,15 @@ impl<T: Tagged, const N: usize> Local<T, N> {
         list: &mut Burst<T, N>,
     ) -> Result<(), PoolFault>
         requires local { IsLocalOf f.now self.old }
-        requires few { length list.old ≤ 64 }
+        requires at_most { length list.old ≤ 64 }
         ensures local { IsLocalOf f.now self.new }
         ensures same { SameRing self.old self.new }
-        ensures told { OnRing f.now (ring_of self.old)
+        ensures exact { OnRing f.now (ring_of self.old)
             (λ plan. PutBackTells T.numbers plan self.old self.new list.old result list.new) }
     {
         let before = self.cache.len();
         let may = match &mut self.hand {
-            Some(keeper) => admit(keeper, &mut self.cache, list),
+            Some(cache_hand) => admit(cache_hand, &mut self.cache, list),
             None => unreachable!(),
         };
         if !may {
@@ -86,25 +86,25 @@ impl<T: Tagged, const N: usize> Local<T, N> {
         if self.cache.len() <= 3 * self.size / 2 {
             return Ok(());
         }
-        let Some(keeper) = self.hand.take() else {
+        let Some(cache_hand) = self.hand.take() else {
             unreachable!();
         };
         match shed(
             rt,
             f,
-            keeper,
+            cache_hand,
             self.ring,
             self.size,
             before,
             &mut self.cache,
             list,
         ) {
-            Ok(keeper) => {
-                self.hand = Some(keeper);
+            Ok(cache_hand) => {
+                self.hand = Some(cache_hand);
                 Ok(())
             }
-            Err(keeper) => {
-                self.hand = Some(keeper);
+            Err(cache_hand) => {
+                self.hand = Some(cache_hand);
                 Err(PoolFault::Worn)
             }
         }
@@ -117,12 +117,12 @@ impl<T: Tagged, const N: usize> Local<T, N> {
         requires local { IsLocalOf f.now self.old }
         ensures local { IsLocalOf f.now self.new }
         ensures same { SameRing self.old self.new }
-        ensures told { OnRing f.now (ring_of self.old) (λ plan. FlushTells T.numbers plan self.old self.new result) }
+        ensures exact { OnRing f.now (ring_of self.old) (λ plan. FlushTells T.numbers plan self.old self.new result) }
     {
-        let Some(keeper) = self.hand.take() else {
+        let Some(cache_hand) = self.hand.take() else {
             unreachable!();
         };
-        let hand = keeper.whole(&self.cache);
+        let hand = cache_hand.into_hand(&self.cache);
         match empty(rt, f, hand, self.ring, &mut self.cache) {
             Ok(hand) => {
                 self.hand = Some(keep_back(hand, &self.cache));

@@ -2,16 +2,17 @@
 //! buffers that this thread's hand owns, so that most gets and puts touch no word of the ring.
 #![tactic(auto)]
 
-mod asks;
-mod beside;
 mod cached;
 mod faults;
-mod keeping;
 mod lent;
+mod list_moves;
 mod local;
-mod moves;
 mod opening;
+mod other_rings;
+mod queries;
+mod ring_requests;
 mod rings;
+mod set_aside;
 mod values;
 
 pub use faults::PoolFault;

@@ -6,10 +6,10 @@ ghost use Rattle.pool.specs.Caches.{threshold};
 ghost use Rattle.pool.specs.Hands.{IsFreeRing, KeepsIn, view_in};
 
 use burst::{Burst, Tagged};
-use fabric::Keeper;
+use fabric::CacheHand;
 
 /// The largest size of a cache.
-pub(crate) const LARGEST: usize = 512;
+pub(crate) const MAX_CACHE: usize = 512;
 
 /// The most items that one call gets or puts.
 pub(crate) const BATCH: usize = 64;
@@ -20,7 +20,7 @@ pub(crate) const BATCH: usize = 64;
 /// The hand is in a place of its own since calls on rings take it whole; between calls it is always there.
 #[derive(Drop)]
 pub struct Local<T: Tagged, const N: usize> {
-    pub(crate) hand: Option<Keeper<T>>,
+    pub(crate) hand: Option<CacheHand<T>>,
     pub(crate) ring: usize,
     pub(crate) size: usize,
     pub(crate) cache: Burst<T, N>,

@@ -8,7 +8,7 @@ ghost use Rattle.pool.specs.Locals.{HasHand, cache_of, ring_of, cache_size};
 ghost use Rattle.pool.specs.declared.faults.PoolFault.TheVariants.{BadSize};
 
 use crate::faults::PoolFault;
-use crate::local::{BATCH, LARGEST, Local};
+use crate::local::{BATCH, Local, MAX_CACHE};
 use burst::{Burst, Tagged};
 use fabric::Hand;
 
@@ -18,7 +18,7 @@ fn may_be(size: usize, most: usize) -> bool
     ensures fits { result ≡ true → (size ≤ 512) × (threshold size + 64 ≤ most) }
     ensures other { result ≡ false → (512 < size) ⊎ (most < threshold size + 64) }
 {
-    if size > LARGEST {
+    if size > MAX_CACHE {
         return false;
     }
     3 * size / 2 + BATCH <= most
@@ -40,7 +40,7 @@ impl<T: Tagged, const N: usize> Local<T, N> {
             return Err((hand, PoolFault::BadSize));
         }
         Ok(Local {
-            hand: Some(hand.keeper()),
+            hand: Some(hand.into_cache_hand()),
             ring,
             size,
             cache: Burst::new(),
@@ -67,16 +67,16 @@ impl<T: Tagged, const N: usize> Local<T, N> {
         if !may_be(size, N) {
             return Err((hand, items, PoolFault::BadSize));
         }
-        let mut keeper = hand.keeper();
-        if !keeper.keep(&items) {
+        let mut cache_hand = hand.into_cache_hand();
+        if !cache_hand.set_aside(&items) {
             let none: Burst<T, N> = Burst::new();
-            return Err((keeper.whole(&none), items, PoolFault::NotYours));
+            return Err((cache_hand.into_hand(&none), items, PoolFault::NotYours));
         }
         if items.len() > 3 * size / 2 {
-            return Err((keeper.whole(&items), items, PoolFault::CacheFull));
+            return Err((cache_hand.into_hand(&items), items, PoolFault::CacheFull));
         }
         Ok(Local {
-            hand: Some(keeper),
+            hand: Some(cache_hand),
             ring,
             size,
             cache: items,
@@ -90,7 +90,7 @@ impl<T: Tagged, const N: usize> Local<T, N> {
     {
         let Local { hand, cache, .. } = self;
         match hand {
-            Some(keeper) => (keeper.whole(&cache), cache),
+            Some(cache_hand) => (cache_hand.into_hand(&cache), cache),
             None => unreachable!(),
         }
     }

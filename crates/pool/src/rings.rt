@@ -4,8 +4,8 @@ ghost use Rattle.fabric.specs.Hands.{OnRing, rings_of};
 ghost use Rattle.pool.specs.Beside.{Receives, Sends};
 ghost use Rattle.pool.specs.Locals.{IsLocalOf, SameCache, SameRing, cache_of, hand_of};
 
-use crate::beside::{receive, send};
 use crate::local::Local;
+use crate::other_rings::{receive, send};
 use burst::{Burst, Tagged};
 use fabric::{Fabric, StartFault};
 use ringapi::{Moved, Refusal};
@@ -29,14 +29,14 @@ impl<T: Tagged, const N: usize> Local<T, N> {
         requires ring { ring < length (rings_of f.now) }
         ensures local { IsLocalOf f.now self.new }
         ensures same { SameRing self.old self.new × SameCache self.old self.new }
-        ensures told { OnRing f.now ring (λ plan. Sends T.numbers N ring plan (hand_of self.old) (hand_of self.new)
+        ensures exact { OnRing f.now ring (λ plan. Sends T.numbers N ring plan (hand_of self.old) (hand_of self.new)
             (cache_of self.old) list.old result list.new) }
     {
-        let Some(keeper) = self.hand.take() else {
+        let Some(cache_hand) = self.hand.take() else {
             unreachable!();
         };
-        let (keeper, answer) = send(rt, f, keeper, ring, &self.cache, list);
-        self.hand = Some(keeper);
+        let (cache_hand, answer) = send(rt, f, cache_hand, ring, &self.cache, list);
+        self.hand = Some(cache_hand);
         answer
     }
 
@@ -58,14 +58,14 @@ impl<T: Tagged, const N: usize> Local<T, N> {
         requires empty { into.old ≡ [] }
         ensures local { IsLocalOf f.now self.new }
         ensures same { SameRing self.old self.new × SameCache self.old self.new }
-        ensures told { OnRing f.now ring (λ plan. Receives T.numbers N ring plan (hand_of self.old)
+        ensures exact { OnRing f.now ring (λ plan. Receives T.numbers N ring plan (hand_of self.old)
             (hand_of self.new) n result into.new) }
     {
-        let Some(keeper) = self.hand.take() else {
+        let Some(cache_hand) = self.hand.take() else {
             unreachable!();
         };
-        let (keeper, answer) = receive(rt, f, keeper, ring, n, &self.cache, into);
-        self.hand = Some(keeper);
+        let (cache_hand, answer) = receive(rt, f, cache_hand, ring, n, &self.cache, into);
+        self.hand = Some(cache_hand);
         answer
     }
 }

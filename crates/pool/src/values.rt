@@ -20,11 +20,11 @@ impl<T: Tagged, const N: usize> Local<T, N> {
         n: usize,
     ) -> Result<Burst<T, N>, PoolFault>
         requires local { IsLocalOf f.now self.old }
-        requires some { 0 < n }
-        requires few { n ≤ 64 }
+        requires nonzero { 0 < n }
+        requires at_most { n ≤ 64 }
         ensures local { IsLocalOf f.now self.new }
         ensures same { SameRing self.old self.new }
-        ensures told { OnRing f.now (ring_of self.old)
+        ensures exact { OnRing f.now (ring_of self.old)
             (λ plan. GetTells T.numbers plan self.old self.new n result (given result)) }
         ensures own { IfOk result (λ items. AreOwnBuffers T.numbers (view_of self.new) (items ++ cache_of self.new)) }
     {
@@ -43,10 +43,10 @@ impl<T: Tagged, const N: usize> Local<T, N> {
         items: Burst<T, N>,
     ) -> Result<(), (Burst<T, N>, PoolFault)>
         requires local { IsLocalOf f.now self.old }
-        requires few { length items ≤ 64 }
+        requires at_most { length items ≤ 64 }
         ensures local { IsLocalOf f.now self.new }
         ensures same { SameRing self.old self.new }
-        ensures told { OnRing f.now (ring_of self.old)
+        ensures exact { OnRing f.now (ring_of self.old)
             (λ plan. PutBackTells T.numbers plan self.old self.new items (answer_of result) (handed_back result)) }
     {
         let mut list = items;
@@ -59,7 +59,7 @@ impl<T: Tagged, const N: usize> Local<T, N> {
     /// `get_cached_into` a list of its own.
     pub fn get_cached(&mut self, n: usize) -> Result<Burst<T, N>, PoolFault>
         ensures same { SameRing self.old self.new × HasSameHand self.old self.new }
-        ensures told { GetsCached n (cache_of self.old) result (given result) (cache_of self.new) }
+        ensures exact { GetsCached n (cache_of self.old) result (given result) (cache_of self.new) }
         ensures own { IfOk result (λ items. AreOwnBuffers T.numbers (view_of self.new) (items ++ cache_of self.new)) }
     {
         let mut items = Burst::new();
@@ -72,7 +72,7 @@ impl<T: Tagged, const N: usize> Local<T, N> {
     /// `put_cached_from` a list by value, which comes back at a refusal.
     pub fn put_cached(&mut self, items: Burst<T, N>) -> Result<(), (Burst<T, N>, PoolFault)>
         ensures same { SameRing self.old self.new × HasSameHand self.old self.new }
-        ensures told { PutsCached T.numbers (view_of self.old) (cache_size self.old) (cache_of self.old) items
+        ensures exact { PutsCached T.numbers (view_of self.old) (cache_size self.old) (cache_of self.old) items
             (answer_of result) (handed_back result) (cache_of self.new) }
     {
         let mut list = items;

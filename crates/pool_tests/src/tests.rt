@@ -53,7 +53,7 @@ fn opened(alloc: Global, slots: u64, buffers: u32) -> Result<Opened<Ticket, MOST
         return Err("a geometry".into());
     };
     let mut rings = Vec::new(alloc);
-    rings.push(RingPlan::alike(geometry, Mode::Multi, true))?;
+    rings.push(RingPlan::same_mode(geometry, Mode::Multi, true))?;
     let mut tickets = Vec::new(alloc);
     for number in 0..buffers {
         tickets.push(Ticket { number })?;

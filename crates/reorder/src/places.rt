@@ -40,7 +40,7 @@ pub(crate) fn put<T>(places: &mut Vec<Option<T>>, place: usize, item: T)
 
 /// The least number from `next` on, below `seq`, whose place has an item, or `seq` where there is none.
 pub(crate) fn first_held<T>(places: &Vec<Option<T>>, next: u64, seq: u64) -> u64
-    requires some { 0 < vec_len places.now }
+    requires nonzero { 0 < vec_len places.now }
     requires ahead { next ≤ seq }
     ensures { IsFirstHeld places.now.items next seq result }
 {

@@ -40,7 +40,7 @@ impl<T> Window<T> {
     /// A window of `size` numbers, from 1 to 65,536, that waits for number 0. It takes memory for its places, and no
     /// other call takes any.
     pub fn new(alloc: Global, size: usize) -> Result<Self, AllocError>
-        requires some { 0 < size }
+        requires nonzero { 0 < size }
         requires small { size ≤ MAX_SIZE }
         ensures { IfOk result (λ window. window ≡ empty_window size) }
     {

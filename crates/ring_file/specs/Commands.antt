@@ -4,7 +4,7 @@ use Rattle.std.specs.Option.{option_map}
 use Rattle.std.specs.List.{list_all}
 use Rattle.std.specs.Str.{bytes_eq}
 use Rattle.geom.specs.declared.plan.How.{How}
-use Rattle.command_file.specs.Text.{Bytes, has_up_to, number_of}
+use Rattle.command_file.specs.Text.{Bytes, len_is_1_to, number_of}
 use Rattle.command_file.specs.Hows.{how_of}
 use Rattle.ring_file.specs.declared.command.Command.{Command}
 use Rattle.ring_file.specs.declared.command.Command.TheVariants.{Power, Exact, Put, Take, Count}
@@ -15,7 +15,7 @@ is_graphic b = nat_le 33 b && nat_le b 126
 
 -- an item: a word of 1 to 32 bytes, each from 0x21 to 0x7e
 abbrev pub is_item : Bytes → Bool
-is_item word = has_up_to 32 word && list_all is_graphic word
+is_item word = len_is_1_to 32 word && list_all is_graphic word
 
 -- `ring power N` or `ring exact N`, by the words after `ring`
 abbrev pub sized_of : Bytes → List Bytes → Option Command

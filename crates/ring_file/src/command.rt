@@ -5,7 +5,7 @@ ghost use Rattle.std.specs.List.{list_all};
 ghost use Rattle.command_file.specs.Text.{texts};
 ghost use Rattle.ring_file.specs.Commands.{command_of, longer_of, sized_of, put_of, take_of, is_item};
 
-use command_file::{has_up_to, how_of, number_of};
+use command_file::{how_of, len_is_1_to, number_of};
 use geom::How;
 
 /// How many bytes an item has at most.
@@ -92,7 +92,7 @@ impl Command {
 fn is_item(word: &[u8]) -> bool
     ensures { result ≡ is_item word.now }
 {
-    let sized = has_up_to(MAX_ITEM, word);
+    let sized = len_is_1_to(MAX_ITEM, word);
     let graphic = word.iter().all(|b| matches!(*b, 0x21..=0x7e));
     sized && graphic
 }

@@ -8,7 +8,7 @@ ghost use Rattle.ring_file.specs.Replies.{contents, done, told, ring_file};
 
 use crate::answer::{Ring, answer};
 use crate::command::Command;
-use command_file::{TextFault, is_skipped, split_words, without_return};
+use command_file::{TextFault, is_blank_or_comment, split_words, strip_carriage_return};
 use std::alloc::{AllocError, Global};
 
 /// Appends the replies to a file of ring commands to `out`.
@@ -36,7 +36,7 @@ pub fn ring_text(alloc: Global, bytes: &[u8], out: &mut Vec<u8>) -> Result<(), T
             alloc,
             &mut ring,
             number,
-            without_return(line),
+            strip_carriage_return(line),
             &mut words,
             &mut reply,
         )?;
@@ -66,7 +66,7 @@ fn answer_line<'a>(
     ensures no_plan { result ≡ Err TextFault.BadPlan → ⊥ }
 {
     split_words(line, words).map_err(|_| TextFault::Memory)?;
-    if is_skipped(words.as_slice()) {
+    if is_blank_or_comment(words.as_slice()) {
         return Ok(());
     }
     let Some(command) = Command::parse(words.as_slice()) else {

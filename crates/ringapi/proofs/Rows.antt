@@ -6,22 +6,22 @@ use Rattle.geom.specs.declared.plan.Side.{Side}
 use Rattle.fabric_laws.specs.declared.view.View.{View}
 use Rattle.fabric.specs.declared.hand.StartFault.{StartFault}
 use Rattle.fabric.specs.declared.hand.StartFault.TheVariants.{Busy, Contended, NoRoom, Worn, BadCount}
-use Rattle.ringapi.specs.Views.{PassesBy, RefusedStarts}
+use Rattle.ringapi.specs.Views.{IsTransient, RefusedStarts}
 
 -- each refusal of a start: two are tried again, three are answered
-busy_passes_by : (x : ℕ) → PassesBy (Busy x)
+busy_passes_by : (x : ℕ) → IsTransient (Busy x)
 busy_passes_by x = tt
 
-contended_passes_by : (x : ℕ) → PassesBy (Contended x)
+contended_passes_by : (x : ℕ) → IsTransient (Contended x)
 contended_passes_by x = tt
 
-no_room_is_answered : (left : ℕ) → PassesBy (NoRoom left) → ⊥
+no_room_is_answered : (left : ℕ) → IsTransient (NoRoom left) → ⊥
 no_room_is_answered left passes = passes
 
-worn_is_answered : PassesBy Worn → ⊥
+worn_is_answered : IsTransient Worn → ⊥
 worn_is_answered passes = passes
 
-bad_count_is_answered : PassesBy BadCount → ⊥
+bad_count_is_answered : IsTransient BadCount → ⊥
 bad_count_is_answered passes = passes
 
 module _ {T : Type 0} (tags : T → List ℕ) (most : ℕ) (how : How) (n ring : ℕ) (side : Side) (plan : RingPlan) (v u w : View T)

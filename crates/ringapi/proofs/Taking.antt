@@ -11,7 +11,7 @@ use Rattle.fabric_laws.specs.declared.view.View.{View}
 use Rattle.fabric_laws.specs.Changes.{settled}
 use Rattle.fabric.specs.declared.fabric.Fabric.{Fabric}
 use Rattle.fabric.specs.declared.hand.Hand.{Hand}
-use Rattle.fabric.specs.declared.hand.TakeSpan.{TakeSpan}
+use Rattle.fabric.specs.declared.hand.TakeOpenLent.{TakeOpenLent}
 use Rattle.fabric.specs.declared.hand.SettleFault.{SettleFault}
 use Rattle.fabric.specs.declared.hand.SettleFault.TheVariants.{BadCount, NotYet, NotYours}
 use Rattle.fabric.specs.declared.hand.StartFault.{StartFault}
@@ -22,7 +22,7 @@ use Rattle.fabric.proofs.Told.{refused_kept, worn_at}
 use Rattle.ringapi.specs.declared.answers.TakeAnswer.{TakeAnswer}
 use Rattle.ringapi.specs.declared.answers.TakeAnswer.TheVariants.{Done, Refused, Open}
 use Rattle.ringapi.specs.Takes.{IsTakeOf, SettlesTake, TakeHasTold, TakeSettles, TakeTells}
-use Rattle.ringapi.specs.Views.{IsReserved, PassesBy, RefusedStarts}
+use Rattle.ringapi.specs.Views.{IsReserved, IsTransient, RefusedStarts}
 use Rattle.ringapi.proofs.Again.{reserved_after}
 use Rattle.ringapi.proofs.Putting.{whole_count}
 use Rattle.ringapi.proofs.Tries.{moved_settles, reserved_settles, settle_again, starts_kept}
@@ -36,19 +36,19 @@ only_early tags mode plan k count start items v w (NotYet x) all r other early =
 
 module _ {T : Type 0} {G : Ghosts T} {N : ℕ} where
   -- the plan of an open span's ring
-  pub plan_of : (o : TakeSpan T N G) (f : Fabric T N) (ring : ℕ) → take_fabric o ≡ f → (take_span o).ring ≡ ring
+  pub plan_of : (o : TakeOpenLent T N G) (f : Fabric T N) (ring : ℕ) → take_fabric o ≡ f → (take_span o).ring ≡ ring
       → slice_get (rings_of f) ring ≡ Some o.ring.shape.plan
   plan_of o f ring same at = (λ i. slice_get (rings_of (sym same i)) (sym at i)) ∙ o.ring.in_plan.0
 
   -- all items of a span
-  pub all_of : (o : TakeSpan T N G) (items : List T) (k : ℕ) → items ≡ (take_view o).shown → k ≡ (take_span o).count
+  pub all_of : (o : TakeOpenLent T N G) (items : List T) (k : ℕ) → items ≡ (take_view o).shown → k ≡ (take_span o).count
       → (length items ≡ k) × (take k items ≡ items)
   all_of o items k shows all =
       let long : length items ≡ k = ap length shows ∙ (o.many ∙ sym all) in
       (long, ap (λ n. take n items) (sym long) ∙ take-length items)
 
   -- a settle keeps the fabric
-  pub settled_of : (tags : T → List ℕ) (f : Fabric T N) (ring : ℕ) (o : TakeSpan T N G) (items : List T) (answer : TakeAnswer T N G) (rest : List T)
+  pub settled_of : (tags : T → List ℕ) (f : Fabric T N) (ring : ℕ) (o : TakeOpenLent T N G) (items : List T) (answer : TakeAnswer T N G) (rest : List T)
       → take_fabric o ≡ f → (take_span o).ring ≡ ring → SettlesTake tags o items answer rest → IsTakeOf f ring answer
   settled_of tags f ring o items (Done h moved) rest same at is = subst (λ (z : Fabric T N). IsHandOf z h) same is.0
   settled_of tags f ring o items (Refused h e) rest same at is = absurd is
@@ -57,7 +57,7 @@ module _ {T : Type 0} {G : Ghosts T} {N : ℕ} where
 module _ {T : Type 0} {G : Ghosts T} (N : ℕ) (tags : T → List ℕ) (how : How) (n ring : ℕ) (plan : RingPlan) (v : View T) where
   module _ (starts : List (View T × StartFault)) (tails : List ℕ) where
     -- a settle of a span that was reserved
-    pub settled_tells : (o : TakeSpan T N G) (items : List T) (answer : TakeAnswer T N G) (rest : List T) → (take_span o).ring ≡ ring
+    pub settled_tells : (o : TakeOpenLent T N G) (items : List T) (answer : TakeAnswer T N G) (rest : List T) → (take_span o).ring ≡ ring
         → o.ring.shape.plan ≡ plan → items ≡ (take_view o).shown
         → IsReserved tags N how n ring Take plan v starts (take_span o).start (take_span o).count (take_left o) items tails (take_view o)
         → SettlesTake tags o items answer rest → TakeTells tags how n ring plan v starts tails answer rest
@@ -121,14 +121,14 @@ module _ {T : Type 0} {G : Ghosts T} (N : ℕ) (tags : T → List ℕ) (how : Ho
   abbrev pub refused_take : Hand T G → StartFault → TakeAnswer T N G
   refused_take h e = Refused h e
 
-  pub take_again : (h : Hand T G) (e : StartFault) (had items : List T) (answer : TakeAnswer T N G) → PassesBy e
+  pub take_again : (h : Hand T G) (e : StartFault) (had items : List T) (answer : TakeAnswer T N G) → IsTransient e
       → TakeHasTold tags how n ring plan v (refused_take h e) had → TakeTells tags how n ring plan (view h) [] [] answer items
       → TakeHasTold tags how n ring plan v answer items
   take_again h e had items answer open_still told is =
       let before = told.2 in
       ((before.1, e) ∷ told.0, [], take_after (view h) ((before.1, e) ∷ told.0) answer items (before.3, open_still, before.2) is)
 
-  pub settle_more : (o : TakeSpan T N G) (tail : ℕ) (had items : List T) (answer : TakeAnswer T N G) → (take_span o).ring ≡ ring
+  pub settle_more : (o : TakeOpenLent T N G) (tail : ℕ) (had items : List T) (answer : TakeAnswer T N G) → (take_span o).ring ≡ ring
       → o.ring.shape.plan ≡ plan → TakeHasTold tags how n ring plan v (Open o tail) had → SettlesTake tags o had answer items
       → TakeHasTold tags how n ring plan v answer items
   settle_more o tail had items answer at same told is =

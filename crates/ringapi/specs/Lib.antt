@@ -3,3 +3,4 @@ pub mod Puts
 pub mod Takes
 pub mod Truths
 pub mod Faults
+pub mod Whole

@@ -18,7 +18,7 @@ use Rattle.fabric.specs.Views.{IsWornAt}
 use Rattle.ringapi.specs.declared.answers.PutAnswer.{PutAnswer}
 use Rattle.ringapi.specs.declared.answers.PutAnswer.TheVariants.{Done, Refused, Open}
 use Rattle.ringapi.specs.declared.answers.Refusal.TheVariants.{Start, NotYours}
-use Rattle.ringapi.specs.Views.{HasSettled, IsMoved, IsReserved, PassesBy, RefusedStarts}
+use Rattle.ringapi.specs.Views.{HasSettled, IsMoved, IsReserved, IsTransient, RefusedStarts}
 use Rattle.ringapi.specs.Views.{SettledNothing}
 
 module _ {T : Type 0} {G : Ghosts T} {N : ℕ} where
@@ -63,7 +63,7 @@ module _ {T : Type 0} {G : Ghosts T} {N : ℕ} where
   -- what a waiting put doesn't answer, but tries again
   abbrev pub IsUnfinishedPut : PutAnswer T N G → Type 0
   IsUnfinishedPut (Done h moved) = ⊥
-  IsUnfinishedPut (Refused h (Start e)) = PassesBy e
+  IsUnfinishedPut (Refused h (Start e)) = IsTransient e
   IsUnfinishedPut (Refused h NotYours) = ⊥
   IsUnfinishedPut (Open o tail) = ⊤
 

@@ -10,7 +10,7 @@ use Rattle.burst.specs.declared.tagged.Tagged.{Ghosts}
 use Rattle.fabric_laws.specs.declared.view.View.{View}
 use Rattle.fabric_laws.specs.Changes.{missed, settled}
 use Rattle.fabric.specs.declared.fabric.Fabric.{Fabric}
-use Rattle.fabric.specs.declared.hand.TakeSpan.{TakeSpan}
+use Rattle.fabric.specs.declared.hand.TakeOpenLent.{TakeOpenLent}
 use Rattle.fabric.specs.declared.hand.StartFault.{StartFault}
 use Rattle.fabric.specs.declared.hand.StartFault.TheVariants.{Worn}
 use Rattle.fabric.specs.Hands.{IsHandOf, SameTake, take_fabric, take_left, take_span, take_view, view}
@@ -18,7 +18,7 @@ use Rattle.fabric.specs.Starts.{RefusesCount, RefusesStart}
 use Rattle.fabric.specs.Views.{IsWornAt}
 use Rattle.ringapi.specs.declared.answers.TakeAnswer.{TakeAnswer}
 use Rattle.ringapi.specs.declared.answers.TakeAnswer.TheVariants.{Done, Refused, Open}
-use Rattle.ringapi.specs.Views.{HasSettled, IsMoved, IsReserved, PassesBy, RefusedStarts}
+use Rattle.ringapi.specs.Views.{HasSettled, IsMoved, IsReserved, IsTransient, RefusedStarts}
 use Rattle.ringapi.specs.Views.{SettledNothing}
 
 module _ {T : Type 0} {G : Ghosts T} {N : ℕ} where
@@ -57,11 +57,11 @@ module _ {T : Type 0} {G : Ghosts T} {N : ℕ} where
   -- what a waiting take doesn't answer, but tries again
   abbrev pub IsUnfinishedTake : TakeAnswer T N G → Type 0
   IsUnfinishedTake (Done h moved) = ⊥
-  IsUnfinishedTake (Refused h e) = PassesBy e
+  IsUnfinishedTake (Refused h e) = IsTransient e
   IsUnfinishedTake (Open o tail) = ⊤
 
   -- what the settle of a take's span with all its items answers
-  abbrev pub SettlesTake : (T → List ℕ) → TakeSpan T N G → List T → TakeAnswer T N G → List T → Type 0
+  abbrev pub SettlesTake : (T → List ℕ) → TakeOpenLent T N G → List T → TakeAnswer T N G → List T → Type 0
   SettlesTake tags o items (Done h moved) rest =
       IsHandOf (take_fabric o) h × (view h ≡ settled (take_span o) items (take_view o))
       × (length items ≡ moved.count) × (moved.count ≡ (take_span o).count) × (moved.left ≡ take_left o)

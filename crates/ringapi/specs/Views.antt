@@ -20,12 +20,12 @@ abbrev pub by_burst : How
 by_burst = Burst
 
 -- a refusal of a start that a waiting call takes for no answer
-abbrev pub PassesBy : StartFault → Type 0
-PassesBy (Busy x) = ⊤
-PassesBy (Contended x) = ⊤
-PassesBy (NoRoom left) = ⊥
-PassesBy Worn = ⊥
-PassesBy BadCount = ⊥
+abbrev pub IsTransient : StartFault → Type 0
+IsTransient (Busy x) = ⊤
+IsTransient (Contended x) = ⊤
+IsTransient (NoRoom left) = ⊥
+IsTransient Worn = ⊥
+IsTransient BadCount = ⊥
 
 module _ {T : Type 0} where
   -- a span of a side, settled with these items
@@ -52,7 +52,7 @@ module _ {T : Type 0} (tags : T → List ℕ) (most : ℕ) (how : How) (n ring :
   abbrev pub RefusedStarts : View T → List (View T × StartFault) → View T → Type 0
   RefusedStarts v [] w = w ≡ v
   RefusedStarts v (start ∷ before) w =
-      RefusesStart tags most how n ring side plan start.0 w start.1 × PassesBy start.1 × RefusedStarts v before start.0
+      RefusesStart tags most how n ring side plan start.0 w start.1 × IsTransient start.1 × RefusedStarts v before start.0
 
   -- a span is reserved, after these starts and settles that were refused
   pub record IsReserved (v : View T) (starts : List (View T × StartFault)) (start count left : ℕ) (shown : List T)

@@ -3,7 +3,7 @@ ghost use Rattle.std.specs.Prelude.{◌≡◌};
 ghost use Rattle.ringapi.specs.Faults.{number_of};
 
 use burst::Tagged;
-use fabric::{Hand, PutOpen, SettleFault, StartFault, TakeSpan};
+use fabric::{Hand, PutOpen, SettleFault, StartFault, TakeOpenLent};
 use thiserror::Error;
 
 /// How many items moved, and how many positions more were free, or items queued, as the span was reserved.
@@ -57,5 +57,5 @@ pub enum TakeAnswer<'f, T: Tagged, const N: usize> {
     /// Nothing was moved, and the burst is empty.
     Refused(Hand<T>, StartFault),
     /// A span is reserved, and an earlier one isn't settled yet: the tail found. The burst shows the items.
-    Open(TakeSpan<'f, T, N>, u64),
+    Open(TakeOpenLent<'f, T, N>, u64),
 }

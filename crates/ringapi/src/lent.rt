@@ -3,10 +3,8 @@
 ghost use Rattle.std.specs.Prelude.{◌≡◌, ◌<◌, [], length};
 ghost use Rattle.fabric.specs.Hands.{IsHandOf, OnRing, rings_of, view};
 ghost use Rattle.fabric.specs.Settles.{AreYours};
-ghost use Rattle.ringapi.specs.Truths.{IsTruePut, IsTrueTake};
-ghost use Rattle.ringapi.specs.Puts.{IsPutOf, IsUnfinishedPut, PutHasTold, PutSettles, PutTells};
 ghost use Rattle.ringapi.specs.Views.{by_bulk, by_burst};
-ghost use Rattle.ringapi.specs.Takes.{IsTakeOf, IsUnfinishedTake, TakeHasTold, TakeSettles, TakeTells};
+ghost use Rattle.ringapi.specs.Whole.{MakesPut, MakesTake, TriesPut, TriesTake};
 
 use crate::answers::{PutAnswer, TakeAnswer};
 use crate::put::{put, put_own, try_put};
@@ -28,11 +26,7 @@ pub fn try_put_bulk_from<'f, T: Tagged, const N: usize>(
 ) -> PutAnswer<'f, T, N>
     requires hand { IsHandOf f.now hand }
     requires ring { ring < length (rings_of f.now) }
-    ensures made { IsPutOf f.now ring result }
-    ensures told { OnRing f.now ring
-        (λ plan. PutTells T.numbers by_bulk ring plan (view hand) list.old [] [] result list.new) }
-    ensures settled { PutSettles ring (view hand) list.old result }
-    ensures so { OnRing f.now ring (λ plan. IsTruePut T.numbers ring plan result) }
+    ensures { TriesPut T.numbers by_bulk f.now ring hand list.old result list.new }
 {
     try_put(f, hand, ring, How::Bulk, list)
 }
@@ -50,11 +44,7 @@ pub fn try_put_burst_from<'f, T: Tagged, const N: usize>(
 ) -> PutAnswer<'f, T, N>
     requires hand { IsHandOf f.now hand }
     requires ring { ring < length (rings_of f.now) }
-    ensures made { IsPutOf f.now ring result }
-    ensures told { OnRing f.now ring
-        (λ plan. PutTells T.numbers by_burst ring plan (view hand) list.old [] [] result list.new) }
-    ensures settled { PutSettles ring (view hand) list.old result }
-    ensures so { OnRing f.now ring (λ plan. IsTruePut T.numbers ring plan result) }
+    ensures { TriesPut T.numbers by_burst f.now ring hand list.old result list.new }
 {
     try_put(f, hand, ring, How::Burst, list)
 }
@@ -72,12 +62,7 @@ pub fn put_bulk_from<'f, T: Tagged, const N: usize, R: Wait>(
 ) -> PutAnswer<'f, T, N>
     requires hand { IsHandOf f.now hand }
     requires ring { ring < length (rings_of f.now) }
-    ensures made { IsPutOf f.now ring result }
-    ensures told { OnRing f.now ring
-        (λ plan. PutHasTold T.numbers by_bulk ring plan (view hand) list.old result list.new) }
-    ensures settled { PutSettles ring (view hand) list.old result }
-    ensures so { OnRing f.now ring (λ plan. IsTruePut T.numbers ring plan result) }
-    ensures finished { IsUnfinishedPut result → ⊥ }
+    ensures { MakesPut T.numbers by_bulk f.now ring hand list.old result list.new }
 {
     put(rt, f, hand, ring, How::Bulk, list)
 }
@@ -96,12 +81,7 @@ pub fn put_burst_from<'f, T: Tagged, const N: usize, R: Wait>(
 ) -> PutAnswer<'f, T, N>
     requires hand { IsHandOf f.now hand }
     requires ring { ring < length (rings_of f.now) }
-    ensures made { IsPutOf f.now ring result }
-    ensures told { OnRing f.now ring
-        (λ plan. PutHasTold T.numbers by_burst ring plan (view hand) list.old result list.new) }
-    ensures settled { PutSettles ring (view hand) list.old result }
-    ensures so { OnRing f.now ring (λ plan. IsTruePut T.numbers ring plan result) }
-    ensures finished { IsUnfinishedPut result → ⊥ }
+    ensures { MakesPut T.numbers by_burst f.now ring hand list.old result list.new }
 {
     put(rt, f, hand, ring, How::Burst, list)
 }
@@ -120,12 +100,7 @@ pub fn put_own_bulk_from<'f, T: Tagged, const N: usize, R: Wait>(
     requires hand { IsHandOf f.now hand }
     requires ring { ring < length (rings_of f.now) }
     requires yours { OnRing f.now ring (λ plan. AreYours T.numbers plan (view hand) list.old) }
-    ensures made { IsPutOf f.now ring result }
-    ensures told { OnRing f.now ring
-        (λ plan. PutHasTold T.numbers by_bulk ring plan (view hand) list.old result list.new) }
-    ensures settled { PutSettles ring (view hand) list.old result }
-    ensures so { OnRing f.now ring (λ plan. IsTruePut T.numbers ring plan result) }
-    ensures finished { IsUnfinishedPut result → ⊥ }
+    ensures { MakesPut T.numbers by_bulk f.now ring hand list.old result list.new }
 {
     put_own(rt, f, hand, ring, How::Bulk, list)
 }
@@ -144,12 +119,7 @@ pub fn put_own_burst_from<'f, T: Tagged, const N: usize, R: Wait>(
     requires hand { IsHandOf f.now hand }
     requires ring { ring < length (rings_of f.now) }
     requires yours { OnRing f.now ring (λ plan. AreYours T.numbers plan (view hand) list.old) }
-    ensures made { IsPutOf f.now ring result }
-    ensures told { OnRing f.now ring
-        (λ plan. PutHasTold T.numbers by_burst ring plan (view hand) list.old result list.new) }
-    ensures settled { PutSettles ring (view hand) list.old result }
-    ensures so { OnRing f.now ring (λ plan. IsTruePut T.numbers ring plan result) }
-    ensures finished { IsUnfinishedPut result → ⊥ }
+    ensures { MakesPut T.numbers by_burst f.now ring hand list.old result list.new }
 {
     put_own(rt, f, hand, ring, How::Burst, list)
 }
@@ -168,11 +138,7 @@ pub fn try_take_bulk_into<'f, T: Tagged, const N: usize>(
     requires hand { IsHandOf f.now hand }
     requires ring { ring < length (rings_of f.now) }
     requires empty { into.old ≡ [] }
-    ensures made { IsTakeOf f.now ring result }
-    ensures told { OnRing f.now ring
-        (λ plan. TakeTells T.numbers by_bulk n ring plan (view hand) [] [] result into.new) }
-    ensures settled { TakeSettles ring (view hand) result into.new }
-    ensures so { OnRing f.now ring (λ plan. IsTrueTake T.numbers ring plan result) }
+    ensures { TriesTake T.numbers by_bulk n f.now ring hand result into.new }
 {
     try_take(f, hand, ring, n, How::Bulk, into)
 }
@@ -191,11 +157,7 @@ pub fn try_take_burst_into<'f, T: Tagged, const N: usize>(
     requires hand { IsHandOf f.now hand }
     requires ring { ring < length (rings_of f.now) }
     requires empty { into.old ≡ [] }
-    ensures made { IsTakeOf f.now ring result }
-    ensures told { OnRing f.now ring
-        (λ plan. TakeTells T.numbers by_burst n ring plan (view hand) [] [] result into.new) }
-    ensures settled { TakeSettles ring (view hand) result into.new }
-    ensures so { OnRing f.now ring (λ plan. IsTrueTake T.numbers ring plan result) }
+    ensures { TriesTake T.numbers by_burst n f.now ring hand result into.new }
 {
     try_take(f, hand, ring, n, How::Burst, into)
 }
@@ -215,12 +177,7 @@ pub fn take_bulk_into<'f, T: Tagged, const N: usize, R: Wait>(
     requires hand { IsHandOf f.now hand }
     requires ring { ring < length (rings_of f.now) }
     requires empty { into.old ≡ [] }
-    ensures made { IsTakeOf f.now ring result }
-    ensures told { OnRing f.now ring
-        (λ plan. TakeHasTold T.numbers by_bulk n ring plan (view hand) result into.new) }
-    ensures settled { TakeSettles ring (view hand) result into.new }
-    ensures so { OnRing f.now ring (λ plan. IsTrueTake T.numbers ring plan result) }
-    ensures finished { IsUnfinishedTake result → ⊥ }
+    ensures { MakesTake T.numbers by_bulk n f.now ring hand result into.new }
 {
     take(rt, f, hand, ring, n, How::Bulk, into)
 }
@@ -241,12 +198,7 @@ pub fn take_burst_into<'f, T: Tagged, const N: usize, R: Wait>(
     requires hand { IsHandOf f.now hand }
     requires ring { ring < length (rings_of f.now) }
     requires empty { into.old ≡ [] }
-    ensures made { IsTakeOf f.now ring result }
-    ensures told { OnRing f.now ring
-        (λ plan. TakeHasTold T.numbers by_burst n ring plan (view hand) result into.new) }
-    ensures settled { TakeSettles ring (view hand) result into.new }
-    ensures so { OnRing f.now ring (λ plan. IsTrueTake T.numbers ring plan result) }
-    ensures finished { IsUnfinishedTake result → ⊥ }
+    ensures { MakesTake T.numbers by_burst n f.now ring hand result into.new }
 {
     take(rt, f, hand, ring, n, How::Burst, into)
 }

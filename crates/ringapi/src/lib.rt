@@ -16,7 +16,7 @@ pub use lent::{
     take_burst_into, try_put_bulk_from, try_put_burst_from, try_take_bulk_into,
     try_take_burst_into,
 };
-pub use peek::{PeekPut, PeekSpan, PeekTake, peek_put, peek_take, peek_take_into};
+pub use peek::{PeekPut, PeekTake, PeekTakeLent, peek_put, peek_take, peek_take_into};
 pub use values::{
     put_bulk, put_burst, take_bulk, take_burst, try_put_bulk, try_put_burst, try_take_bulk,
     try_take_burst,

@@ -12,11 +12,12 @@ ghost use Rattle.fabric.specs.Truths.{IsTrueRefusal};
 ghost use Rattle.fabric.specs.declared.hand.SettleFault.TheVariants.{BadCount, NotYet};
 
 use burst::{Burst, Tagged};
-use fabric::{Fabric, Hand, PutOpen, SettleFault, StartFault, TakeSpan};
+use fabric::{Fabric, Hand, PutOpen, SettleFault, StartFault, TakeOpenLent};
 use geom::How;
 
 /// A hand with a span of a head/tail-sync put side. One that is dropped keeps its span for ever.
 #[derive(Drop)]
+#[must_use]
 pub struct PeekPut<'f, T: Tagged, const N: usize> {
     pub(crate) span: PutOpen<'f, T, N>,
     pub ghost hts: { span.ring.shape.plan.put ≡ Hts },
@@ -25,15 +26,17 @@ pub struct PeekPut<'f, T: Tagged, const N: usize> {
 /// A hand with a span of a head/tail-sync take side, whose items are in a list that the caller lends. One that is
 /// dropped keeps its span for ever.
 #[derive(Drop)]
-pub struct PeekSpan<'f, T: Tagged, const N: usize> {
-    pub(crate) span: TakeSpan<'f, T, N>,
+#[must_use]
+pub struct PeekTakeLent<'f, T: Tagged, const N: usize> {
+    pub(crate) span: TakeOpenLent<'f, T, N>,
     pub ghost hts: { span.ring.shape.plan.take ≡ Hts },
 }
 
 /// A hand with a span of a head/tail-sync take side, and its items. One that is dropped keeps its span for ever.
 #[derive(Drop)]
+#[must_use]
 pub struct PeekTake<'f, T: Tagged, const N: usize> {
-    pub(crate) peek: PeekSpan<'f, T, N>,
+    pub(crate) peek: PeekTakeLent<'f, T, N>,
     pub(crate) items: Burst<T, N>,
     pub ghost shows: { items ≡ (take_view peek.span).shown },
 }
@@ -57,7 +60,7 @@ pub fn peek_put<'f, T: Tagged, const N: usize>(
     ensures refused { IfErr result (λ e. IsHandOf f.now e.0
         × OnRing f.now ring (λ plan. RefusesStart T.numbers N how n ring Put plan (view hand) (view e.0) e.1
         × RefusesCount T.numbers N n Put plan (view hand) e.1)) }
-    ensures so { IfErr result (λ e. OnRing f.now ring
+    ensures true_refusal { IfErr result (λ e. OnRing f.now ring
         (λ plan. IsTrueRefusal T.numbers ring Put plan (view hand) (view e.0) e.1)) }
 {
     match f.try_start_put(hand, ring, n, how) {
@@ -76,7 +79,7 @@ pub fn peek_take_into<'f, T: Tagged, const N: usize>(
     n: usize,
     how: How,
     into: &mut Burst<T, N>,
-) -> Result<PeekSpan<'f, T, N>, (Hand<T>, StartFault)>
+) -> Result<PeekTakeLent<'f, T, N>, (Hand<T>, StartFault)>
     requires hand { IsHandOf f.now hand }
     requires ring { ring < length (rings_of f.now) }
     requires hts { OnRing f.now ring (λ plan. plan.take ≡ Hts) }
@@ -88,11 +91,11 @@ pub fn peek_take_into<'f, T: Tagged, const N: usize>(
     ensures refused { IfErr result (λ e. IsHandOf f.now e.0 × (into.new ≡ [])
         × OnRing f.now ring (λ plan. RefusesStart T.numbers N how n ring Take plan (view hand) (view e.0) e.1
         × RefusesCount T.numbers N n Take plan (view hand) e.1)) }
-    ensures so { IfErr result (λ e. OnRing f.now ring
+    ensures true_refusal { IfErr result (λ e. OnRing f.now ring
         (λ plan. IsTrueRefusal T.numbers ring Take plan (view hand) (view e.0) e.1)) }
 {
     match f.try_start_take_into(hand, ring, n, how, into) {
-        Ok(span) => Ok(PeekSpan { span }),
+        Ok(span) => Ok(PeekTakeLent { span }),
         Err((hand, fault)) => Err((hand, fault)),
     }
 }
@@ -115,7 +118,7 @@ pub fn peek_take<'f, T: Tagged, const N: usize>(
     ensures refused { IfErr result (λ e. IsHandOf f.now e.0
         × OnRing f.now ring (λ plan. RefusesStart T.numbers N how n ring Take plan (view hand) (view e.0) e.1
         × RefusesCount T.numbers N n Take plan (view hand) e.1)) }
-    ensures so { IfErr result (λ e. OnRing f.now ring
+    ensures true_refusal { IfErr result (λ e. OnRing f.now ring
         (λ plan. IsTrueRefusal T.numbers ring Take plan (view hand) (view e.0) e.1)) }
 {
     let mut items = Burst::new();
@@ -126,11 +129,25 @@ pub fn peek_take<'f, T: Tagged, const N: usize>(
 }
 
 impl<'f, T: Tagged, const N: usize> PeekPut<'f, T, N> {
+    /// The first position of the span.
+    pub fn start(&self) -> u64
+        ensures { result ≡ (put_span self.now.span).start }
+    {
+        self.span.start()
+    }
+
     /// How many positions are reserved, 1 to `N`.
     pub fn count(&self) -> usize
         ensures { result ≡ (put_span self.now.span).count }
     {
         self.span.count()
+    }
+
+    /// How many positions more were free as the span was reserved.
+    pub fn left(&self) -> u64
+        ensures { result ≡ put_left self.now.span }
+    {
+        self.span.left()
     }
 
     /// Puts the items at the first positions, and gives up the others. The list is empty then; at a refusal it is
@@ -173,16 +190,30 @@ impl<'f, T: Tagged, const N: usize> PeekPut<'f, T, N> {
     pub fn abort(self) -> Hand<T>
         ensures { HasPut self.entry.span [] result }
     {
-        self.span.give_up()
+        self.span.abort()
     }
 }
 
-impl<'f, T: Tagged, const N: usize> PeekSpan<'f, T, N> {
+impl<'f, T: Tagged, const N: usize> PeekTakeLent<'f, T, N> {
+    /// The first position of the span.
+    pub fn start(&self) -> u64
+        ensures { result ≡ (take_span self.now.span).start }
+    {
+        self.span.start()
+    }
+
     /// How many items are reserved, 1 to `N`.
     pub fn count(&self) -> usize
         ensures { result ≡ (take_span self.now.span).count }
     {
         self.span.count()
+    }
+
+    /// How many items more were queued as the span was reserved.
+    pub fn left(&self) -> u64
+        ensures { result ≡ take_left self.now.span }
+    {
+        self.span.left()
     }
 
     /// Takes the first `k` items; the others are queued again. The list then has those that were taken; at a
@@ -194,7 +225,7 @@ impl<'f, T: Tagged, const N: usize> PeekSpan<'f, T, N> {
         self,
         k: usize,
         items: &mut Burst<T, N>,
-    ) -> Result<Hand<T>, (PeekSpan<'f, T, N>, SettleFault)>
+    ) -> Result<Hand<T>, (PeekTakeLent<'f, T, N>, SettleFault)>
         requires shows { items.old ≡ (take_view self.span).shown }
         ensures done { IfOk result (λ h. HasTaken self.entry.span k items.old h × (items.new ≡ take k items.old)) }
         ensures refused { IfErr result (λ e. SameTake self.entry.span e.0.span × (items.new ≡ items.old)
@@ -203,13 +234,13 @@ impl<'f, T: Tagged, const N: usize> PeekSpan<'f, T, N> {
     {
         match self.span.try_settle_into(k, items) {
             Ok(hand) => Ok(hand),
-            Err((span, fault)) => Err((PeekSpan { span }, fault)),
+            Err((span, fault)) => Err((PeekTakeLent { span }, fault)),
         }
     }
 
     /// Takes nothing: all items are queued again, and the list is empty. Asked: it has the items that the start
     /// showed. No memory; one step on a word.
-    pub fn abort_into(self, items: &mut Burst<T, N>) -> Hand<T>
+    pub fn abort(self, items: &mut Burst<T, N>) -> Hand<T>
         requires shows { items.old ≡ (take_view self.span).shown }
         ensures done { HasTaken self.entry.span 0 items.old result }
         ensures empty { items.new ≡ [] }
@@ -222,6 +253,27 @@ impl<'f, T: Tagged, const N: usize> PeekSpan<'f, T, N> {
 }
 
 impl<'f, T: Tagged, const N: usize> PeekTake<'f, T, N> {
+    /// The first position of the span.
+    pub fn start(&self) -> u64
+        ensures { result ≡ (take_span self.now.peek.span).start }
+    {
+        self.peek.start()
+    }
+
+    /// How many items are reserved, 1 to `N`.
+    pub fn count(&self) -> usize
+        ensures { result ≡ (take_span self.now.peek.span).count }
+    {
+        self.peek.count()
+    }
+
+    /// How many items more were queued as the span was reserved.
+    pub fn left(&self) -> u64
+        ensures { result ≡ take_left self.now.peek.span }
+    {
+        self.peek.left()
+    }
+
     /// The items that are reserved, in order.
     pub fn items(&self) -> &Burst<T, N>
         ensures { result.now ≡ self.now.items }
@@ -229,7 +281,7 @@ impl<'f, T: Tagged, const N: usize> PeekTake<'f, T, N> {
         &self.items
     }
 
-    /// `PeekSpan::finish_into` its own list, which is given with the items that were taken.
+    /// `PeekTakeLent::finish_into` with its own list, which is returned with the items that were taken.
     pub fn finish(
         self,
         k: usize,
@@ -248,11 +300,11 @@ impl<'f, T: Tagged, const N: usize> PeekTake<'f, T, N> {
         }
     }
 
-    /// `PeekSpan::abort_into` its own list.
+    /// `PeekTakeLent::abort` with its own list.
     pub fn abort(self) -> Hand<T>
         ensures { HasTaken self.entry.peek.span 0 self.entry.items result }
     {
         let PeekTake { peek, mut items } = self;
-        peek.abort_into(&mut items)
+        peek.abort(&mut items)
     }
 }

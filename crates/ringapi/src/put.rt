@@ -5,8 +5,9 @@ ghost use Rattle.geom.specs.declared.plan.RingPlan.{RingPlan};
 ghost use Rattle.fabric_laws.specs.declared.view.View.{View};
 ghost use Rattle.fabric.specs.Hands.{IsHandOf, OnRing, put_span, put_view, rings_of, view};
 ghost use Rattle.fabric.specs.Settles.{AreYours};
-ghost use Rattle.ringapi.specs.Puts.{IsPutOf, IsUnfinishedPut, PutHasTold, PutSettles, PutTells, SettlesPut};
+ghost use Rattle.ringapi.specs.Puts.{IsPutOf, IsUnfinishedPut, PutHasTold, PutTells, SettlesPut};
 ghost use Rattle.ringapi.specs.Truths.{IsTruePut};
+ghost use Rattle.ringapi.specs.Whole.{MakesPut, TriesPut};
 
 use crate::answers::{Moved, PutAnswer, Refusal};
 use burst::{Burst, Tagged};
@@ -23,13 +24,13 @@ fn settle<'f, T: Tagged, const N: usize>(
     requires fits { (put_span span).count ≤ length list.old }
     requires yours { AreYours T.numbers span.ring.shape.plan (put_view span) (take (put_span span).count list.old) }
     ensures settled { SettlesPut span.entry list.old result list.new }
-    ensures so { (ring : ℕ) (plan : RingPlan) → IsTruePut T.numbers ring plan result }
+    ensures true_refusal { (ring : ℕ) (plan : RingPlan) → IsTruePut T.numbers ring plan result }
 {
     let moved = Moved {
         count: span.count(),
         left: span.left(),
     };
-    match span.try_settle_first(moved.count, list) {
+    match span.try_settle_first_from(moved.count, list) {
         Ok(hand) => PutAnswer::Done(hand, moved),
         Err((span, fault)) => match fault {
             SettleFault::NotYet(tail) => PutAnswer::Open(span, tail),
@@ -50,9 +51,9 @@ fn attempt<'f, T: Tagged, const N: usize>(
     requires ring { ring < length (rings_of f.now) }
     requires yours { OnRing f.now ring (λ plan. AreYours T.numbers plan (view hand) list.old) }
     ensures made { IsPutOf f.now ring result }
-    ensures told { OnRing f.now ring
+    ensures exact { OnRing f.now ring
         (λ plan. PutTells T.numbers how ring plan (view hand) list.old [] [] result list.new) }
-    ensures so { OnRing f.now ring (λ plan. IsTruePut T.numbers ring plan result) }
+    ensures true_refusal { OnRing f.now ring (λ plan. IsTruePut T.numbers ring plan result) }
 {
     match f.try_start_put(hand, ring, list.len(), how) {
         Ok(span) => settle(span, list),
@@ -70,11 +71,7 @@ pub(crate) fn try_put<'f, T: Tagged, const N: usize>(
 ) -> PutAnswer<'f, T, N>
     requires hand { IsHandOf f.now hand }
     requires ring { ring < length (rings_of f.now) }
-    ensures made { IsPutOf f.now ring result }
-    ensures told { OnRing f.now ring
-        (λ plan. PutTells T.numbers how ring plan (view hand) list.old [] [] result list.new) }
-    ensures settled { PutSettles ring (view hand) list.old result }
-    ensures so { OnRing f.now ring (λ plan. IsTruePut T.numbers ring plan result) }
+    ensures { TriesPut T.numbers how f.now ring hand list.old result list.new }
 {
     let mut hand = hand;
     if !hand.may_put(f, ring, list) {
@@ -94,13 +91,13 @@ fn again<'f, T: Tagged, const N: usize>(
     requires made { IsPutOf f.now ring answer }
     requires ring { ring < length (rings_of f.now) }
     requires unfinished { IsUnfinishedPut answer }
-    requires told { OnRing f.now ring (λ plan. (v : View T) × (items : List T)
+    requires exact { OnRing f.now ring (λ plan. (v : View T) × (items : List T)
         × PutHasTold T.numbers how ring plan v items answer list.old) }
     ensures made { IsPutOf f.now ring result }
-    ensures told { OnRing f.now ring (λ plan. (v : View T) (items : List T)
+    ensures exact { OnRing f.now ring (λ plan. (v : View T) (items : List T)
         → PutHasTold T.numbers how ring plan v items answer.entry list.old
         → PutHasTold T.numbers how ring plan v items result list.new) }
-    ensures so { OnRing f.now ring (λ plan. IsTruePut T.numbers ring plan result) }
+    ensures true_refusal { OnRing f.now ring (λ plan. IsTruePut T.numbers ring plan result) }
 {
     match answer {
         PutAnswer::Done(_, _) => unreachable!(),
@@ -121,17 +118,12 @@ pub(crate) fn put_own<'f, T: Tagged, const N: usize, R: Wait>(
     requires hand { IsHandOf f.now hand }
     requires ring { ring < length (rings_of f.now) }
     requires yours { OnRing f.now ring (λ plan. AreYours T.numbers plan (view hand) list.old) }
-    ensures made { IsPutOf f.now ring result }
-    ensures told { OnRing f.now ring
-        (λ plan. PutHasTold T.numbers how ring plan (view hand) list.old result list.new) }
-    ensures settled { PutSettles ring (view hand) list.old result }
-    ensures so { OnRing f.now ring (λ plan. IsTruePut T.numbers ring plan result) }
-    ensures finished { IsUnfinishedPut result → ⊥ }
+    ensures { MakesPut T.numbers how f.now ring hand list.old result list.new }
 {
     let backoff = Backoff::new();
     let mut answer = attempt(f, hand, ring, how, list);
     for _ in rt.forever() {
-        if !answer.is_unfinished() {
+        if !answer.should_retry() {
             return answer;
         }
         backoff.snooze();
@@ -151,12 +143,7 @@ pub(crate) fn put<'f, T: Tagged, const N: usize, R: Wait>(
 ) -> PutAnswer<'f, T, N>
     requires hand { IsHandOf f.now hand }
     requires ring { ring < length (rings_of f.now) }
-    ensures made { IsPutOf f.now ring result }
-    ensures told { OnRing f.now ring
-        (λ plan. PutHasTold T.numbers how ring plan (view hand) list.old result list.new) }
-    ensures settled { PutSettles ring (view hand) list.old result }
-    ensures so { OnRing f.now ring (λ plan. IsTruePut T.numbers ring plan result) }
-    ensures finished { IsUnfinishedPut result → ⊥ }
+    ensures { MakesPut T.numbers how f.now ring hand list.old result list.new }
 {
     let mut hand = hand;
     if hand.may_put(f, ring, list) {

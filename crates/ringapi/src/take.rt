@@ -3,24 +3,25 @@ ghost use Rattle.std.specs.Prelude.{◌≡◌, ◌<◌, [], ℕ, length};
 ghost use Rattle.geom.specs.declared.plan.RingPlan.{RingPlan};
 ghost use Rattle.fabric_laws.specs.declared.view.View.{View};
 ghost use Rattle.fabric.specs.Hands.{IsHandOf, OnRing, rings_of, take_view, view};
-ghost use Rattle.ringapi.specs.Takes.{IsTakeOf, IsUnfinishedTake, SettlesTake, TakeHasTold, TakeSettles, TakeTells};
+ghost use Rattle.ringapi.specs.Takes.{IsTakeOf, IsUnfinishedTake, SettlesTake, TakeHasTold};
 ghost use Rattle.ringapi.specs.Truths.{IsTrueTake};
+ghost use Rattle.ringapi.specs.Whole.{MakesTake, TriesTake};
 
 use crate::answers::{Moved, TakeAnswer};
 use burst::{Burst, Tagged};
 use crossbeam_utils::Backoff;
-use fabric::{Fabric, Hand, SettleFault, TakeSpan};
+use fabric::{Fabric, Hand, SettleFault, TakeOpenLent};
 use geom::How;
 use std::sync::Wait;
 
 /// Tries once to settle a span with all its items.
 fn settle<'f, T: Tagged, const N: usize>(
-    span: TakeSpan<'f, T, N>,
+    span: TakeOpenLent<'f, T, N>,
     items: &mut Burst<T, N>,
 ) -> TakeAnswer<'f, T, N>
     requires shows { items.old ≡ (take_view span).shown }
     ensures settled { SettlesTake T.numbers span.entry items.old result items.new }
-    ensures so { (ring : ℕ) (plan : RingPlan) → IsTrueTake T.numbers ring plan result }
+    ensures true_refusal { (ring : ℕ) (plan : RingPlan) → IsTrueTake T.numbers ring plan result }
 {
     let moved = Moved {
         count: span.count(),
@@ -47,10 +48,7 @@ pub(crate) fn try_take<'f, T: Tagged, const N: usize>(
     requires hand { IsHandOf f.now hand }
     requires ring { ring < length (rings_of f.now) }
     requires empty { into.old ≡ [] }
-    ensures made { IsTakeOf f.now ring result }
-    ensures told { OnRing f.now ring (λ plan. TakeTells T.numbers how n ring plan (view hand) [] [] result into.new) }
-    ensures settled { TakeSettles ring (view hand) result into.new }
-    ensures so { OnRing f.now ring (λ plan. IsTrueTake T.numbers ring plan result) }
+    ensures { TriesTake T.numbers how n f.now ring hand result into.new }
 {
     match f.try_start_take_into(hand, ring, n, how, into) {
         Ok(span) => settle(span, into),
@@ -70,12 +68,13 @@ fn again<'f, T: Tagged, const N: usize>(
     requires made { IsTakeOf f.now ring answer }
     requires ring { ring < length (rings_of f.now) }
     requires unfinished { IsUnfinishedTake answer }
-    requires told { OnRing f.now ring (λ plan. (v : View T) × TakeHasTold T.numbers how n ring plan v answer into.old) }
+    requires exact { OnRing f.now ring
+        (λ plan. (v : View T) × TakeHasTold T.numbers how n ring plan v answer into.old) }
     ensures made { IsTakeOf f.now ring result }
-    ensures told { OnRing f.now ring (λ plan. (v : View T)
+    ensures exact { OnRing f.now ring (λ plan. (v : View T)
         → TakeHasTold T.numbers how n ring plan v answer.entry into.old
         → TakeHasTold T.numbers how n ring plan v result into.new) }
-    ensures so { OnRing f.now ring (λ plan. IsTrueTake T.numbers ring plan result) }
+    ensures true_refusal { OnRing f.now ring (λ plan. IsTrueTake T.numbers ring plan result) }
 {
     match answer {
         TakeAnswer::Done(_, _) => unreachable!(),
@@ -97,16 +96,12 @@ pub(crate) fn take<'f, T: Tagged, const N: usize, R: Wait>(
     requires hand { IsHandOf f.now hand }
     requires ring { ring < length (rings_of f.now) }
     requires empty { into.old ≡ [] }
-    ensures made { IsTakeOf f.now ring result }
-    ensures told { OnRing f.now ring (λ plan. TakeHasTold T.numbers how n ring plan (view hand) result into.new) }
-    ensures settled { TakeSettles ring (view hand) result into.new }
-    ensures so { OnRing f.now ring (λ plan. IsTrueTake T.numbers ring plan result) }
-    ensures finished { IsUnfinishedTake result → ⊥ }
+    ensures { MakesTake T.numbers how n f.now ring hand result into.new }
 {
     let backoff = Backoff::new();
     let mut answer = try_take(f, hand, ring, n, how, into);
     for _ in rt.forever() {
-        if !answer.is_unfinished() {
+        if !answer.should_retry() {
             return answer;
         }
         backoff.snooze();

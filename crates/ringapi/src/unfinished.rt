@@ -2,16 +2,16 @@
 ghost use Rattle.std.specs.Prelude.{◌≡◌, true, false};
 ghost use Rattle.ringapi.specs.Puts.{IsUnfinishedPut};
 ghost use Rattle.ringapi.specs.Takes.{IsUnfinishedTake};
-ghost use Rattle.ringapi.specs.Views.{PassesBy};
+ghost use Rattle.ringapi.specs.Views.{IsTransient};
 
 use crate::answers::{PutAnswer, Refusal, TakeAnswer};
 use burst::Tagged;
 use fabric::StartFault;
 
 /// Whether the next start may not find this refusal, with nothing done by the caller in between.
-fn passes_by(fault: StartFault) -> bool
-    ensures some { result ≡ true → PassesBy fault }
-    ensures none { result ≡ false → PassesBy fault → ⊥ }
+fn is_transient(fault: StartFault) -> bool
+    ensures sound { result ≡ true → IsTransient fault }
+    ensures none { result ≡ false → IsTransient fault → ⊥ }
 {
     match fault {
         StartFault::Busy(_) => true,
@@ -22,14 +22,14 @@ fn passes_by(fault: StartFault) -> bool
 
 impl<T: Tagged, const N: usize> PutAnswer<'_, T, N> {
     /// Whether a waiting put tries again: after `Busy` and `Contended`, and where its span is open.
-    pub fn is_unfinished(&self) -> bool
-        ensures some { result ≡ true → IsUnfinishedPut self.now }
+    pub fn should_retry(&self) -> bool
+        ensures sound { result ≡ true → IsUnfinishedPut self.now }
         ensures none { result ≡ false → IsUnfinishedPut self.now → ⊥ }
     {
         match self {
             PutAnswer::Done(_, _) => false,
             PutAnswer::Refused(_, refusal) => match refusal {
-                Refusal::Start(fault) => passes_by(*fault),
+                Refusal::Start(fault) => is_transient(*fault),
                 Refusal::NotYours => false,
             },
             PutAnswer::Open(_, _) => true,
@@ -39,13 +39,13 @@ impl<T: Tagged, const N: usize> PutAnswer<'_, T, N> {
 
 impl<T: Tagged, const N: usize> TakeAnswer<'_, T, N> {
     /// Whether a waiting take tries again: after `Busy` and `Contended`, and where its span is open.
-    pub fn is_unfinished(&self) -> bool
-        ensures some { result ≡ true → IsUnfinishedTake self.now }
+    pub fn should_retry(&self) -> bool
+        ensures sound { result ≡ true → IsUnfinishedTake self.now }
         ensures none { result ≡ false → IsUnfinishedTake self.now → ⊥ }
     {
         match self {
             TakeAnswer::Done(_, _) => false,
-            TakeAnswer::Refused(_, fault) => passes_by(*fault),
+            TakeAnswer::Refused(_, fault) => is_transient(*fault),
             TakeAnswer::Open(_, _) => true,
         }
     }

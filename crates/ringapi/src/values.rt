@@ -1,10 +1,8 @@
 //! Whole calls with a list by value: each moves all `N` places of it, which the calls that are lent a list don't.
-ghost use Rattle.std.specs.Prelude.{◌<◌, [], length};
-ghost use Rattle.fabric.specs.Hands.{IsHandOf, OnRing, rings_of, view};
-ghost use Rattle.ringapi.specs.Truths.{IsTruePut, IsTrueTake};
-ghost use Rattle.ringapi.specs.Puts.{IsPutOf, IsUnfinishedPut, PutHasTold, PutSettles, PutTells};
+ghost use Rattle.std.specs.Prelude.{◌<◌, length};
+ghost use Rattle.fabric.specs.Hands.{IsHandOf, rings_of};
 ghost use Rattle.ringapi.specs.Views.{by_bulk, by_burst};
-ghost use Rattle.ringapi.specs.Takes.{IsTakeOf, IsUnfinishedTake, TakeHasTold, TakeSettles, TakeTells};
+ghost use Rattle.ringapi.specs.Whole.{MakesPut, MakesTake, TriesPut, TriesTake};
 
 use crate::answers::{PutAnswer, TakeAnswer};
 use crate::lent::{
@@ -24,11 +22,7 @@ pub fn try_put_bulk<'f, T: Tagged, const N: usize>(
 ) -> (PutAnswer<'f, T, N>, Burst<T, N>)
     requires hand { IsHandOf f.now hand }
     requires ring { ring < length (rings_of f.now) }
-    ensures made { IsPutOf f.now ring result.0 }
-    ensures told { OnRing f.now ring
-        (λ plan. PutTells T.numbers by_bulk ring plan (view hand) items [] [] result.0 result.1) }
-    ensures settled { PutSettles ring (view hand) items result.0 }
-    ensures so { OnRing f.now ring (λ plan. IsTruePut T.numbers ring plan result.0) }
+    ensures { TriesPut T.numbers by_bulk f.now ring hand items result.0 result.1 }
 {
     let mut list = items;
     let answer = try_put_bulk_from(f, hand, ring, &mut list);
@@ -44,11 +38,7 @@ pub fn try_put_burst<'f, T: Tagged, const N: usize>(
 ) -> (PutAnswer<'f, T, N>, Burst<T, N>)
     requires hand { IsHandOf f.now hand }
     requires ring { ring < length (rings_of f.now) }
-    ensures made { IsPutOf f.now ring result.0 }
-    ensures told { OnRing f.now ring
-        (λ plan. PutTells T.numbers by_burst ring plan (view hand) items [] [] result.0 result.1) }
-    ensures settled { PutSettles ring (view hand) items result.0 }
-    ensures so { OnRing f.now ring (λ plan. IsTruePut T.numbers ring plan result.0) }
+    ensures { TriesPut T.numbers by_burst f.now ring hand items result.0 result.1 }
 {
     let mut list = items;
     let answer = try_put_burst_from(f, hand, ring, &mut list);
@@ -65,12 +55,7 @@ pub fn put_bulk<'f, T: Tagged, const N: usize, R: Wait>(
 ) -> (PutAnswer<'f, T, N>, Burst<T, N>)
     requires hand { IsHandOf f.now hand }
     requires ring { ring < length (rings_of f.now) }
-    ensures made { IsPutOf f.now ring result.0 }
-    ensures told { OnRing f.now ring
-        (λ plan. PutHasTold T.numbers by_bulk ring plan (view hand) items result.0 result.1) }
-    ensures settled { PutSettles ring (view hand) items result.0 }
-    ensures so { OnRing f.now ring (λ plan. IsTruePut T.numbers ring plan result.0) }
-    ensures finished { IsUnfinishedPut result.0 → ⊥ }
+    ensures { MakesPut T.numbers by_bulk f.now ring hand items result.0 result.1 }
 {
     let mut list = items;
     let answer = put_bulk_from(rt, f, hand, ring, &mut list);
@@ -87,12 +72,7 @@ pub fn put_burst<'f, T: Tagged, const N: usize, R: Wait>(
 ) -> (PutAnswer<'f, T, N>, Burst<T, N>)
     requires hand { IsHandOf f.now hand }
     requires ring { ring < length (rings_of f.now) }
-    ensures made { IsPutOf f.now ring result.0 }
-    ensures told { OnRing f.now ring
-        (λ plan. PutHasTold T.numbers by_burst ring plan (view hand) items result.0 result.1) }
-    ensures settled { PutSettles ring (view hand) items result.0 }
-    ensures so { OnRing f.now ring (λ plan. IsTruePut T.numbers ring plan result.0) }
-    ensures finished { IsUnfinishedPut result.0 → ⊥ }
+    ensures { MakesPut T.numbers by_burst f.now ring hand items result.0 result.1 }
 {
     let mut list = items;
     let answer = put_burst_from(rt, f, hand, ring, &mut list);
@@ -108,11 +88,7 @@ pub fn try_take_bulk<'f, T: Tagged, const N: usize>(
 ) -> (TakeAnswer<'f, T, N>, Burst<T, N>)
     requires hand { IsHandOf f.now hand }
     requires ring { ring < length (rings_of f.now) }
-    ensures made { IsTakeOf f.now ring result.0 }
-    ensures told { OnRing f.now ring
-        (λ plan. TakeTells T.numbers by_bulk n ring plan (view hand) [] [] result.0 result.1) }
-    ensures settled { TakeSettles ring (view hand) result.0 result.1 }
-    ensures so { OnRing f.now ring (λ plan. IsTrueTake T.numbers ring plan result.0) }
+    ensures { TriesTake T.numbers by_bulk n f.now ring hand result.0 result.1 }
 {
     let mut items = Burst::new();
     let answer = try_take_bulk_into(f, hand, ring, n, &mut items);
@@ -128,11 +104,7 @@ pub fn try_take_burst<'f, T: Tagged, const N: usize>(
 ) -> (TakeAnswer<'f, T, N>, Burst<T, N>)
     requires hand { IsHandOf f.now hand }
     requires ring { ring < length (rings_of f.now) }
-    ensures made { IsTakeOf f.now ring result.0 }
-    ensures told { OnRing f.now ring
-        (λ plan. TakeTells T.numbers by_burst n ring plan (view hand) [] [] result.0 result.1) }
-    ensures settled { TakeSettles ring (view hand) result.0 result.1 }
-    ensures so { OnRing f.now ring (λ plan. IsTrueTake T.numbers ring plan result.0) }
+    ensures { TriesTake T.numbers by_burst n f.now ring hand result.0 result.1 }
 {
     let mut items = Burst::new();
     let answer = try_take_burst_into(f, hand, ring, n, &mut items);
@@ -149,12 +121,7 @@ pub fn take_bulk<'f, T: Tagged, const N: usize, R: Wait>(
 ) -> (TakeAnswer<'f, T, N>, Burst<T, N>)
     requires hand { IsHandOf f.now hand }
     requires ring { ring < length (rings_of f.now) }
-    ensures made { IsTakeOf f.now ring result.0 }
-    ensures told { OnRing f.now ring
-        (λ plan. TakeHasTold T.numbers by_bulk n ring plan (view hand) result.0 result.1) }
-    ensures settled { TakeSettles ring (view hand) result.0 result.1 }
-    ensures so { OnRing f.now ring (λ plan. IsTrueTake T.numbers ring plan result.0) }
-    ensures finished { IsUnfinishedTake result.0 → ⊥ }
+    ensures { MakesTake T.numbers by_bulk n f.now ring hand result.0 result.1 }
 {
     let mut items = Burst::new();
     let answer = take_bulk_into(rt, f, hand, ring, n, &mut items);
@@ -171,12 +138,7 @@ pub fn take_burst<'f, T: Tagged, const N: usize, R: Wait>(
 ) -> (TakeAnswer<'f, T, N>, Burst<T, N>)
     requires hand { IsHandOf f.now hand }
     requires ring { ring < length (rings_of f.now) }
-    ensures made { IsTakeOf f.now ring result.0 }
-    ensures told { OnRing f.now ring
-        (λ plan. TakeHasTold T.numbers by_burst n ring plan (view hand) result.0 result.1) }
-    ensures settled { TakeSettles ring (view hand) result.0 result.1 }
-    ensures so { OnRing f.now ring (λ plan. IsTrueTake T.numbers ring plan result.0) }
-    ensures finished { IsUnfinishedTake result.0 → ⊥ }
+    ensures { MakesTake T.numbers by_burst n f.now ring hand result.0 result.1 }
 {
     let mut items = Burst::new();
     let answer = take_burst_into(rt, f, hand, ring, n, &mut items);

@@ -124,7 +124,7 @@ impl<T: Drop> OneRing<T> {
     fn pop(&mut self) -> Option<T>
         requires { 0 < length self.old.items }
         ensures item { self.old.items ≡ option_to_list result ++ self.new.items }
-        ensures some { IsSome result }
+        ensures present { IsSome result }
         ensures capacity { self.new.capacity ≡ self.old.capacity }
     {
         let item = self.slots[self.front as usize].take();

@@ -6,14 +6,11 @@ ghost use Rattle.ringcore_laws.specs.Runs.{IsPlan};
 ghost use Rattle.ringcore.specs.Fault.{number_of};
 ghost use Rattle.ringcore.specs.Opening.{AreFew};
 
-use geom::{RingPlan, all_fit};
+use geom::{MAX_ACTORS, MAX_RINGS, RingPlan, all_fit};
 use thiserror::Error;
 
-/// The most rings, and the most actors.
-const MOST: usize = 64;
-
-/// The most buffers.
-const MOST_BUFFERS: usize = 65536;
+/// The most buffers, as sizes are counted.
+const MAX_BUFFERS: usize = geom::MAX_BUFFERS as usize;
 
 /// Why a world was not opened.
 #[derive(Clone, Copy, Debug, PartialEq, Eq, Error)]
@@ -50,7 +47,7 @@ pub struct WorldPlan {
 impl WorldPlan {
     /// Whether a world of this plan may be opened: the numbers of rings, actors and buffers are in their ranges, each
     /// gift names an actor, and all buffers fit into each free ring.
-    pub fn may_be_opened(&self) -> bool
+    pub fn is_valid(&self) -> bool
         ensures { IsTrue result ↔ IsPlan self.now.rings.items self.now.actors self.now.gifts.items }
     {
         if !are_few(self.rings.len(), self.actors, self.gifts.len()) {
@@ -67,7 +64,7 @@ fn are_few(rings: usize, actors: usize, buffers: usize) -> bool
     ensures { IsTrue result ↔ AreFew rings actors buffers }
 {
     let some = rings > 0 && actors > 0;
-    some && rings <= MOST && actors <= MOST && buffers <= MOST_BUFFERS
+    some && rings <= MAX_RINGS && actors <= MAX_ACTORS && buffers <= MAX_BUFFERS
 }
 
 fn are_below(gifts: &[usize], actors: usize) -> bool

@@ -11,7 +11,7 @@ ghost use Rattle.ringcore.specs.Agree.{WordsAgree};
 ghost use Rattle.ringcore.specs.Changes.{words_after};
 
 use crate::one_ring::OneRing;
-use geom::{How, LAST, Mode, RESERVED, RingPlan, Side};
+use geom::{How, LAST, Mode, RESERVED_RANGE, RingPlan, Side};
 use ringcore_laws::{Item, Reply};
 
 /// The words of a side: how far it is reserved, and how far it is settled.
@@ -29,11 +29,11 @@ impl Words {
     {
         match mode {
             Mode::Multi => self.head,
-            // Positions go up to `LAST` and counts stay below `RESERVED`, so the word is exact in each world that a
-            // history leaves. These numbers alone don't say so, and no product or sum may wrap.
+            // Positions go up to `LAST` and counts stay below `RESERVED_RANGE`, so the word is exact in each world that
+            // a history leaves. These numbers alone don't say so, and no product or sum may wrap.
             Mode::Hts => self
                 .tail
-                .saturating_mul(RESERVED)
+                .saturating_mul(RESERVED_RANGE)
                 .saturating_add(self.head.saturating_sub(self.tail)),
         }
     }
@@ -71,7 +71,7 @@ pub fn position_of(mode: Mode, word: u64) -> u64
 {
     match mode {
         Mode::Multi => word,
-        Mode::Hts => word / RESERVED,
+        Mode::Hts => word / RESERVED_RANGE,
     }
 }
 

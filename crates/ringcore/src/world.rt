@@ -37,12 +37,12 @@ impl World {
 
     /// A world of this plan, before any step. Takes memory.
     ///
-    /// Refused: 2 `BadPlan` where the plan may not be opened (`WorldPlan::may_be_opened`), tested first; 1 `Memory`.
+    /// Refused: 2 `BadPlan` where the plan may not be opened (`WorldPlan::is_valid`), tested first; 1 `Memory`.
     pub fn new(alloc: Global, plan: WorldPlan) -> Result<World, WorldFault>
         ensures bad_plan { result ≡ Err WorldFault.BadPlan ↔ ¬ IsPlan plan.rings.items plan.actors plan.gifts.items }
         ensures opened { IfOk result (λ world. AgreesWith world (opened_by plan) × IsRight (opened_by plan)) }
     {
-        if !plan.may_be_opened() {
+        if !plan.is_valid() {
             return Err(WorldFault::BadPlan);
         }
         match World::opened(alloc, plan) {
@@ -67,26 +67,26 @@ impl World {
     }
 
     /// Whether there are the actor and the ring of a step. Takes no memory.
-    pub fn knows(&self, actor: usize, step: &Step) -> bool
+    pub fn has(&self, actor: usize, step: &Step) -> bool
         ensures known { IsTrue result ↔ StepExists self.now actor step.now }
         ensures planned { (h : History) → AgreesWith self.now h → (IsTrue result ↔ IsPlanned h actor step.now) }
     {
-        self.has(actor, step)
+        self.exists(actor, step)
     }
 
     /// The same of each entry of a list. Takes no memory.
-    pub fn knows_all(&self, entries: &[(usize, Step)]) -> bool
+    pub fn has_all(&self, entries: &[(usize, Step)]) -> bool
         ensures { IsTrue result ↔ StepsExist self.now entries.now }
     {
         for k in 0..entries.len() {
-            if !self.has(entries[k].0, &entries[k].1) {
+            if !self.exists(entries[k].0, &entries[k].1) {
                 return false;
             }
         }
         true
     }
 
-    fn has(&self, actor: usize, step: &Step) -> bool
+    fn exists(&self, actor: usize, step: &Step) -> bool
         ensures { IsTrue result ↔ StepExists self.now actor step.now }
     {
         actor < self.members.len() && is_among(step, self.rings.len())

@@ -10,7 +10,7 @@ use Rattle.geom.specs.declared.plan.Mode.TheVariants.{Multi, Hts}
 use Rattle.geom.specs.declared.plan.Side.{Side}
 use Rattle.geom.specs.declared.plan.Side.TheVariants.{Put, Take}
 use Rattle.geom.specs.declared.plan.RingPlan.{RingPlan}
-use Rattle.geom.specs.declared.word.TheConstants.{LAST, RESERVED}
+use Rattle.geom.specs.declared.word.TheConstants.{LAST, RESERVED_RANGE}
 use Rattle.geom.specs.Plan.{mode_of}
 use Rattle.ringcore_laws.specs.declared.protocol.Span.{Span}
 use Rattle.ringcore_laws.specs.declared.party.Party.{Party}
@@ -225,7 +225,7 @@ module _ {I : Type 0} where
       → slice_get plans span.ring ≡ Some plan → 0 < span.count → span.ring < length plans
       → IsNext (mode_of plan span.side) (side_of parties span.ring span.side) span.start
       → span.start + span.count ≤ LAST → span.start + span.count ≤ limit plan.geometry parties span.ring span.side
-      → (mode_of plan span.side ≡ Hts → span.count < RESERVED) → HeadTailRule plans (reserved_by parties i d span)
+      → (mode_of plan span.side ≡ Hts → span.count < RESERVED_RANGE) → HeadTailRule plans (reserved_by parties i d span)
   orderly_reserved plans parties i d span plan o lt idle there some known next last within small = record {
     sides = λ r side plan' h. elim (other_side_reserved parties i d span r side lt idle) [
       | inl own ↦

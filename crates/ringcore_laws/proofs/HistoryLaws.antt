@@ -14,7 +14,7 @@ use Rattle.geom.specs.declared.plan.Side.TheVariants.{Put, Take}
 use Rattle.geom.specs.declared.plan.How.{How}
 use Rattle.geom.specs.declared.plan.How.TheVariants.{Bulk, Burst}
 use Rattle.geom.specs.declared.plan.RingPlan.{RingPlan}
-use Rattle.geom.specs.declared.word.TheConstants.{LAST, RESERVED}
+use Rattle.geom.specs.declared.word.TheConstants.{LAST, RESERVED_RANGE}
 use Rattle.geom.specs.Extent.{IsExtent}
 use Rattle.geom.specs.Plan.{mode_of, granted}
 use Rattle.geom.specs.Fit.{AllFit}
@@ -46,12 +46,12 @@ pub on_true : (ring r : ℕ) (side s : Side) → is_on ring side r s ≡ true �
 on_true ring r side s on = elim (on_or_off ring r side s) [ inl own ↦ own | inr off ↦ absurd (let h : true ≡ false = sym on ∙ off in cc) ]
 
 -- an own word that is the word after_look at shows where the next span starts
-pub is_next : {I : Type 0} (mode : Mode) (l : RingSide I) (word : ℕ) → own_word mode l ≡ word → (mode ≡ Hts → (q : ℕ) × (word ≡ q * RESERVED))
-    → (mode ≡ Hts → l.open_count < RESERVED) → IsNext mode l (position_of mode word)
+pub is_next : {I : Type 0} (mode : Mode) (l : RingSide I) (word : ℕ) → own_word mode l ≡ word → (mode ≡ Hts → (q : ℕ) × (word ≡ q * RESERVED_RANGE))
+    → (mode ≡ Hts → l.open_count < RESERVED_RANGE) → IsNext mode l (position_of mode word)
 is_next Multi l word won whole small = record { multi = λ _. sym won; hts = λ h. absurd (let h' : Multi ≡ Hts = h in cc) }
 is_next Hts l word won whole small =
     let q = (whole refl).0 in
-    let e : word ≡ q * RESERVED = (whole refl).1 in
+    let e : word ≡ q * RESERVED_RANGE = (whole refl).1 in
     let lt = small refl in
     let same : l.len ≡ q = omega arith in
     record { multi = λ h. absurd (let h' : Hts ≡ Multi = h in cc); hts = λ _. (omega arith, omega arith) }
@@ -218,7 +218,7 @@ module _ (plans : List RingPlan) (pool : ℕ) (actors : List Actor) (i : ℕ) (a
       P : Reply → Type 0
       P r = Invariant plans pool (slice_set actors i (after_step a (Look ring side) r))
 
-      whole : (m : Mode) → m ≡ Hts → is_busy m l ≡ false → (q : ℕ) × (own_word m l ≡ q * RESERVED)
+      whole : (m : Mode) → m ≡ Hts → is_busy m l ≡ false → (q : ℕ) × (own_word m l ≡ q * RESERVED_RANGE)
       whole Multi h idle = absurd (let h' : Multi ≡ Hts = h in cc)
       whole Hts h idle = (l.len, let none : l.open_count ≡ 0 = grind (arith, nat_tests) in omega arith)
 
@@ -303,10 +303,10 @@ module _ (plans : List RingPlan) (pool : ℕ) (actors : List Actor) (i : ℕ) (a
       ring_sound : SoundRing plan.geometry (side_of parties ring Put) (side_of parties ring Take)
       ring_sound = k.sound.rings ring plan there
 
-      small : mode_of plan side ≡ Hts → count < RESERVED
+      small : mode_of plan side ≡ Hts → count < RESERVED_RANGE
       small hts = by_side side (next.hts hts).0 room
         where
-          by_side : (v : Side) → start ≡ (side_of parties ring v).len → start + count ≤ limit plan.geometry parties ring v → count < RESERVED
+          by_side : (v : Side) → start ≡ (side_of parties ring v).len → start + count ≤ limit plan.geometry parties ring v → count < RESERVED_RANGE
           by_side Put first fits = omega (arith, extent.small, takes_le_puts plan.geometry (side_of parties ring Put) (side_of parties ring Take) ring_sound)
           by_side Take first fits = omega (arith, extent.small, ring_sound.within_capacity)
 

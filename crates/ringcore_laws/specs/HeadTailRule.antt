@@ -5,7 +5,7 @@ use Rattle.geom.specs.declared.plan.Mode.TheVariants.{Multi, Hts}
 use Rattle.geom.specs.declared.plan.Side.{Side}
 use Rattle.geom.specs.declared.plan.Side.TheVariants.{Put, Take}
 use Rattle.geom.specs.declared.plan.RingPlan.{RingPlan}
-use Rattle.geom.specs.declared.word.TheConstants.{LAST, RESERVED}
+use Rattle.geom.specs.declared.word.TheConstants.{LAST, RESERVED_RANGE}
 use Rattle.geom.specs.Plan.{mode_of}
 use Rattle.ringcore_laws.specs.declared.protocol.Span.{Span}
 use Rattle.ringcore_laws.specs.declared.party.Party.{Party}
@@ -22,7 +22,7 @@ module _ {I : Type 0} where
   pub record RuledSide (mode : Mode) (l : RingSide I) : Type 0 where
     pub behind : l.len ≤ l.reach
     pub last : l.reach ≤ LAST
-    pub small : mode ≡ Hts → l.open_count < RESERVED
+    pub small : mode ≡ Hts → l.open_count < RESERVED_RANGE
     pub covered : mode ≡ Multi → (p : ℕ) → l.len ≤ p → p < l.reach → 0 < l.openers p
 
   -- an open span: of an HTS side it is the only one, and starts where the settled items end

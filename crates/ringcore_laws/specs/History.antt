@@ -12,7 +12,7 @@ use Rattle.geom.specs.declared.plan.Side.{Side}
 use Rattle.geom.specs.declared.plan.Side.TheVariants.{Put, Take}
 use Rattle.geom.specs.declared.plan.How.{How}
 use Rattle.geom.specs.declared.plan.RingPlan.{RingPlan}
-use Rattle.geom.specs.declared.word.TheConstants.{LAST, RESERVED}
+use Rattle.geom.specs.declared.word.TheConstants.{LAST, RESERVED_RANGE}
 use Rattle.geom.specs.Plan.{mode_of, granted}
 use Rattle.ringcore_laws.specs.declared.protocol.Span.{Span}
 use Rattle.ringcore_laws.specs.declared.protocol.Observed.{Observed}
@@ -108,12 +108,12 @@ after_step a (Unstash b) reply = after_unstash a b reply
 -- reserved from there on
 abbrev pub own_word : {I : Type 0} → Mode → RingSide I → ℕ
 own_word Multi l = l.reach
-own_word Hts l = l.len * RESERVED + l.open_count
+own_word Hts l = l.len * RESERVED_RANGE + l.open_count
 
 -- the position in a word that was seen, with nothing reserved
 abbrev pub position_of : Mode → ℕ → ℕ
 position_of Multi word = word
-position_of Hts word = word / RESERVED
+position_of Hts word = word / RESERVED_RANGE
 
 abbrev pub is_busy : {I : Type 0} → Mode → RingSide I → Bool
 is_busy Multi l = false

@@ -15,7 +15,7 @@ const MANY: u64 = 300;
 fn open_many(alloc: Global) -> Result<(World, Items), Fail> {
     let mut rings = Vec::new(alloc);
     let geometry = Geometry::power(512).ok().ok_or("a size")?;
-    rings.push(RingPlan::alike(geometry, Mode::Multi, true))?;
+    rings.push(RingPlan::same_mode(geometry, Mode::Multi, true))?;
     let mut gifts = Vec::new(alloc);
     let mut items = Vec::new(alloc);
     for b in 0..MANY {
@@ -56,7 +56,7 @@ fn take_many(world: &mut World) -> Result<usize, AllocError> {
         (1, reserve(Side::Take, How::Bulk, MANY), granted(0, MANY, 0)),
     ];
     let settle = Step::SettleTake(0, MANY);
-    if go(world, &mut rows)? != 3 || !world.knows(1, &settle) {
+    if go(world, &mut rows)? != 3 || !world.has(1, &settle) {
         return Ok(0);
     }
     match world.step(1, settle)? {

@@ -20,7 +20,7 @@ fn plan(
     let mut plans = Vec::new(alloc);
     for _ in 0..rings {
         if let Ok(geometry) = Geometry::power(4) {
-            plans.push(RingPlan::alike(geometry, mode, false))?;
+            plans.push(RingPlan::same_mode(geometry, mode, false))?;
         }
     }
     let mut given = Vec::new(alloc);
@@ -60,7 +60,7 @@ fn told(reply: &Reply) -> Told {
 
 /// What is told of one step.
 fn step(world: &mut World, actor: usize, step: Step) -> Result<Told, AllocError> {
-    if !world.knows(actor, &step) {
+    if !world.has(actor, &step) {
         return Ok(UNKNOWN);
     }
     let reply = world.step(actor, step)?;
@@ -164,7 +164,7 @@ fn entries_of(alloc: Global, rows: &mut [Row]) -> Result<Vec<(usize, Step)>, All
 
 /// Makes the steps of a list, where the world has all of their actors and rings.
 fn run(world: &mut World, entries: Vec<(usize, Step)>) -> Result<Option<Vec<Reply>>, AllocError> {
-    if !world.knows_all(&entries) {
+    if !world.has_all(&entries) {
         return Ok(None);
     }
     let replies = world.run(entries)?;
@@ -188,7 +188,7 @@ pub fn go_in_one_list(
     rows: &mut [Row],
 ) -> Result<bool, AllocError> {
     let unknown = entries_of(alloc, &mut [(2, LOOK, UNKNOWN)])?;
-    let refused = !world.knows_all(&unknown);
+    let refused = !world.has_all(&unknown);
     let entries = entries_of(alloc, rows)?;
     match run(world, entries)? {
         Some(replies) => Ok(refused && are_told(&replies, rows)),
@@ -356,7 +356,7 @@ fn put_twice(world: &mut World, twice: Items) -> Result<usize, AllocError> {
 fn goes_on(world: &mut World, item: Items, twice: Items) -> Result<bool, AllocError> {
     let known = [(0, LOOK), (1, ROOM)];
     let unknown = [(0, LOOK), (2, LOOK)];
-    let knows = [world.knows_all(&known), world.knows_all(&unknown)];
+    let has = [world.has_all(&known), world.has_all(&unknown)];
     let stashed = step(world, 0, Step::Stash(1));
     let cached = world.place(1);
     let put = put_one(world, item);
@@ -369,7 +369,7 @@ fn goes_on(world: &mut World, item: Items, twice: Items) -> Result<bool, AllocEr
         Place::Nowhere,
     ];
     let steps = (stashed?, put?, again?);
-    Ok(steps == (seen(1), 8, 4) && places == wanted && knows == [true, false])
+    Ok(steps == (seen(1), 8, 4) && places == wanted && has == [true, false])
 }
 
 /// Every request for memory after `World::new` is refused.

@@ -13,11 +13,9 @@ use crate::fault::SettingsFault;
 use crate::key::Key;
 use crate::texts::mac;
 use crate::tree::{member, tables};
+use ipv4::MAX_PORTS;
 use std::alloc::Global;
 use toml::Table;
-
-/// The most ports.
-const MAX_PORTS: usize = 16;
 
 /// The hardware addresses of the ports, or the first fault of theirs.
 #[tactic(auto, unfolding(crate::specs::Settings::sources_of))]

@@ -28,7 +28,7 @@ const MAX_PORTS: u32 = 16;
 
 /// Reads a text, once more where memory was refused.
 fn read(alloc: Global, text: &[u8]) -> Result<Settings, SettingsFault>
-    ensures well { OnOk result (IsUtf8 text.now) }
+    ensures utf8 { OnOk result (IsUtf8 text.now) }
     ensures bytes { (¬ IsUtf8 text.now) → result ≡ Err NotToml }
 {
     match Settings::read(alloc, text) {

@@ -17,7 +17,7 @@ use Rattle.stages.specs.Threads.{WhyEnded, WhyNoSummaryOfThreads}
 use Rattle.stages.specs.Whole.{WhyNoSummary}
 use Rattle.stages.specs.declared.fault.RunFault.{RunFault}
 use Rattle.stages.specs.declared.fault.RunFault.TheVariants.{Memory, Thread, Read, Write, Capture as Refused, Window, Worn}
-use Rattle.stages.specs.declared.stamped.Stamped.{Stamped}
+use Rattle.stages.specs.declared.records.input_totals.InputTotals.{InputTotals}
 use Rattle.stages.proofs.Opened.{input_of, refused_whole}
 
 read_for_thread : {X : Type 0} {R : Type 0} → ◌≡◌ {A = Result X RunFault} (Err Read) (Err Thread) → R
@@ -25,15 +25,15 @@ read_for_thread e = absurd (cc e)
 
 -- what a reader told, and what the end of the run told of it
 pub why_ended : {J R W : Type 0} {G : Ghosts J} (input : Option Input) (failures : List ℕ) (before next : ℕ) (device : Option (Counted R))
-    (answer : Result (Stamped J G) RunFault) (devices : List (Counted W)) (fault : RunFault) → ReadFailed before device answer → IsHere device answer
+    (answer : Result (InputTotals J G) RunFault) (devices : List (Counted W)) (fault : RunFault) → ReadFailed before device answer → IsHere device answer
     → IsNoCapture input answer → WhyFaulted failures next answer devices fault → WhyEnded input failures before device devices fault
-why_ended input failures before next device (Ok stamped) devices Read failed here refused why = absurd (let e : Read ≡ Window = why.0 in cc)
+why_ended input failures before next device (Ok totals) devices Read failed here refused why = absurd (let e : Read ≡ Window = why.0 in cc)
 why_ended input failures before next None (Err reason) devices Read failed here refused why =
     read_for_thread ((λ k. Err (why k)) ∙ here refl)
 why_ended input failures before next (Some d) (Err reason) devices Read failed here refused why =
     (d, refl, failed d refl (λ k. Err (sym why k)))
 why_ended input failures before next device answer devices (Write p) failed here refused why = why
-why_ended input failures before next device (Ok stamped) devices (Refused fault) failed here refused why =
+why_ended input failures before next device (Ok totals) devices (Refused fault) failed here refused why =
     absurd (let e : Refused fault ≡ Window = why.0 in cc)
 why_ended input failures before next device (Err reason) devices (Refused fault) failed here refused why =
     refused fault (λ k. Err (sym why k))

@@ -6,7 +6,7 @@ use Rattle.std.proofs.lemmas.Option.{slice_get_within}
 use Rattle.std.proofs.lemmas.Bool.{cases_lt}
 use Rattle.pcapio.specs.Begin.{Begins}
 use Rattle.pcapio.specs.Counted.{told}
-use Rattle.pcapio.specs.Behind.{waiting}
+use Rattle.pcapio.specs.WriteBuffer.{waiting}
 use Rattle.pcapio.specs.Writer.{text, sink_of}
 use Rattle.pcapio.specs.declared.writer.Writer.{Writer}
 use Rattle.stages.specs.PortSteps.{AreTold, AreCutShort, AreToldBelow}

@@ -27,7 +27,7 @@ use Rattle.stages.specs.Faults.{fault_of_input}
 use Rattle.stages.specs.Ports.{AreOutputs, AreBeginnings}
 use Rattle.stages.specs.Tallies.{fates_of}
 use Rattle.stages.specs.Whole.{forwarding_by, IsRun, IsBegun, IsUntouched, WhyStoppedAt, WhyNoSummary}
-use Rattle.stages.specs.declared.ending.Summary.{Summary}
+use Rattle.stages.specs.declared.summary.Summary.{Summary}
 use Rattle.stages.specs.declared.fault.RunFault.{RunFault}
 use Rattle.stages.specs.declared.fault.RunFault.TheVariants.{Memory, Thread, Read, Write, Capture as Refused, Window, Worn}
 use Rattle.stages.proofs.Texts.{beginning}

@@ -9,7 +9,7 @@ use Rattle.pcapio.specs.Begin.{Begins}
 use Rattle.pcapio_laws.specs.Capture.{Packet}
 use Rattle.pcapio.specs.Counted.{told}
 use Rattle.pcapio_laws.specs.Text.{record_text}
-use Rattle.pcapio.specs.Behind.{waiting}
+use Rattle.pcapio.specs.WriteBuffer.{waiting}
 use Rattle.pcapio.specs.Writer.{text, fault_of, sink_of}
 use Rattle.pcapio.specs.declared.writer.Writer.{Writer}
 use Rattle.stages.specs.Ports.{AreWell}

@@ -13,13 +13,13 @@ use Rattle.stages.specs.Turns.{WhyStopped}
 use Rattle.stages.specs.Whole.{WhyStoppedAt}
 use Rattle.stages.specs.declared.fault.RunFault.{RunFault}
 use Rattle.stages.specs.declared.fault.RunFault.TheVariants.{Memory, Thread, Read, Write, Capture, Window, Worn}
-use Rattle.stages.specs.declared.stamped.Stamped.{Stamped}
+use Rattle.stages.specs.declared.records.input_totals.InputTotals.{InputTotals}
 
 module _ {J W : Type 0} (G : Ghosts J) where
   -- the turns ended as they did, and the run for that reason
-  pub why_stopped_at : {R : Type 0} (input : Option Input) (failures : List ℕ) (next : ℕ) (stamped : Result (Stamped J G) RunFault) (old new : Reader R)
-      (failed : Option ℕ) (source : Counted R) (devices : List (Counted W)) (fault : RunFault) → IfOk stamped (λ s. next ≡ s.count)
-      → IfErr stamped (WhyStopped input old new failed) → source ≡ source_of new → WhyFaulted failures next stamped devices fault
+  pub why_stopped_at : {R : Type 0} (input : Option Input) (failures : List ℕ) (next : ℕ) (totals : Result (InputTotals J G) RunFault) (old new : Reader R)
+      (failed : Option ℕ) (source : Counted R) (devices : List (Counted W)) (fault : RunFault) → IfOk totals (λ s. next ≡ s.count)
+      → IfErr totals (WhyStopped input old new failed) → source ≡ source_of new → WhyFaulted failures next totals devices fault
       → WhyStoppedAt input failures old source devices fault
   why_stopped_at input failures next (Ok s) old new failed source devices Memory turn stop is why = tt
   why_stopped_at input failures next (Ok s) old new failed source devices Thread turn stop is why = absurd (cc why.0)
@@ -61,7 +61,7 @@ module _ {J W : Type 0} (G : Ghosts J) where
   why_reason failures next devices Window at = refl
   why_reason failures next devices Worn at = refl
 
-  pub why_window : (failures : List ℕ) (next : ℕ) (devices : List (Counted W)) (stamped : Stamped J G) (fault : RunFault) → fault ≡ Window → next ≢
-      stamped.count
-      → WhyFaulted failures next (Ok stamped) devices fault
-  why_window failures next devices stamped fault is other = subst (WhyFaulted failures next (Ok stamped) devices) (sym is) (refl, other)
+  pub why_window : (failures : List ℕ) (next : ℕ) (devices : List (Counted W)) (totals : InputTotals J G) (fault : RunFault) → fault ≡ Window → next ≢
+      totals.count
+      → WhyFaulted failures next (Ok totals) devices fault
+  why_window failures next devices totals fault is other = subst (WhyFaulted failures next (Ok totals) devices) (sym is) (refl, other)

@@ -7,11 +7,11 @@ use Rattle.geom.specs.declared.plan.Side.TheVariants.{Put, Take}
 use Rattle.pcapio_laws.specs.declared.fault.CapFault.{CapFault}
 use Rattle.ringcore_laws.specs.declared.party.Settled.{Settled}
 use Rattle.stages_laws.specs.declared.run.Run.{Ghosts}
-use Rattle.stages.specs.declared.fault.RingFault.TheVariants as ring
+use Rattle.stages.specs.declared.fault.StageFault.TheVariants as ring
 use Rattle.stages.specs.declared.fault.RunFault.TheVariants.{Memory, Thread, Read, Write, Capture, Window, Worn}
 use Rattle.stages.specs.declared.packet.Packet.TheVariants.{Free, Mark}
 use Rattle.stages.specs.declared.packet.Segment.{Segment}
-use Rattle.stages.specs.Faults.{number_of, lowest_of, lower_of, fault_of_input, fault_of_ring}
+use Rattle.stages.specs.Faults.{number_of, lowest_of, lower_of, fault_of_input, fault_of_stage}
 use Rattle.stages.specs.Judging.{until_mark, has_mark}
 use Rattle.stages.specs.Passing.{AreAsked, AreRings, settled_on}
 
@@ -31,7 +31,7 @@ of_inputs : map fault_of_input (CapFault.NotPcap ∷ CapFault.BadVersion ∷ Cap
     ≡ Capture CapFault.NotPcap ∷ Capture CapFault.BadVersion ∷ Capture CapFault.BadLink ∷ Capture CapFault.BadRecord ∷ Read ∷ Memory ∷ []
 of_inputs = refl
 
-of_rings : (fault_of_ring ring.Window ≡ Window) × (fault_of_ring ring.Worn ≡ Worn)
+of_rings : (fault_of_stage ring.Window ≡ Window) × (fault_of_stage ring.Worn ≡ Worn)
 of_rings = (refl, refl)
 
 -- the rings: of free segments, of packets at which workers peek, and of packets after their verdict

@@ -13,19 +13,19 @@ use Rattle.stages_laws.specs.Output.{stamped, oversize}
 use Rattle.stages.specs.Packets.{IsRecord}
 use Rattle.stages.specs.Reading.{WhyNone}
 use Rattle.stages.specs.SoFar.{HasRead, IsAll}
-use Rattle.stages.specs.Faults.{fault_of_ring}
+use Rattle.stages.specs.Faults.{fault_of_stage}
 use Rattle.stages.specs.Feeding.{WhyUnfed}
 use Rattle.stages.specs.Turns.{IsEndless, WhyStopped}
-use Rattle.stages.specs.declared.fault.RingFault.{RingFault}
-use Rattle.stages.specs.declared.fault.RingFault.TheVariants as ring
+use Rattle.stages.specs.declared.fault.StageFault.{StageFault}
+use Rattle.stages.specs.declared.fault.StageFault.TheVariants as ring
 use Rattle.stages.specs.declared.fault.RunFault.{RunFault}
 use Rattle.stages.specs.declared.fault.RunFault.TheVariants.{Memory, Thread, Read, Write, Capture, Window, Worn}
-use Rattle.stages.specs.declared.progress.Progress.{Progress}
+use Rattle.stages.specs.declared.records.read_state.ReadState.{ReadState}
 use Rattle.stages.proofs.Turning.{input_is, stopped, endless, found_is, one_stamped, none_stamped, one_oversize, none_oversize}
 
 module _ {R : Type 0} (remaining : R → Option (List ℕ)) (input : Option Input) (room ports : ℕ) where
   -- before the first record
-  pub none_read : (reader : Reader R) (progress : Progress) → IsInput (order_of reader) (rest remaining reader) input → progress.count ≡ 0
+  pub none_read : (reader : Reader R) (progress : ReadState) → IsInput (order_of reader) (rest remaining reader) input → progress.count ≡ 0
       → progress.share ≡ counts_of ports 0 [] → length (counts_of ports 0 []).sent ≡ ports → records_of (counts_of ports 0 []) ≡ 0
       → HasRead remaining input room ports reader progress
   none_read reader progress is zero none wide empty = (
@@ -44,7 +44,7 @@ module _ {R : Type 0} (remaining : R → Option (List ℕ)) (input : Option Inpu
   )
 
   -- a record that is oversize was passed over, and counted
-  pub passed_over : (old new : Reader R) (before after : Progress) (packet : Packet) → HasRead remaining input room ports old before
+  pub passed_over : (old new : Reader R) (before after : ReadState) (packet : Packet) → HasRead remaining input room ports old before
       → order_of new ≡ order_of old → Takes remaining old new packet → 64 * room < length packet.bytes → after.count ≡ before.count
       → ((n : ℕ) → before.share ≡ counts_of (length before.share.sent) n [] → after.share ≡ counts_of (length before.share.sent) (n + 1) []) → length
       after.share.sent ≡ length before.share.sent
@@ -66,7 +66,7 @@ module _ {R : Type 0} (remaining : R → Option (List ℕ)) (input : Option Inpu
   )
 
   -- a record was read, and numbered
-  pub read_one : (old new : Reader R) (before after : Progress) (packet : Packet) → HasRead remaining input room ports old before
+  pub read_one : (old new : Reader R) (before after : ReadState) (packet : Packet) → HasRead remaining input room ports old before
       → order_of new ≡ order_of old → Takes remaining old new packet → length packet.bytes ≤ 64 * room → after.count ≡ before.count + 1
       → after.share ≡ before.share → HasRead remaining input room ports new after
   read_one old new before after packet (order, all, packets, f) same takes small count share = (
@@ -85,13 +85,13 @@ module _ {R : Type 0} (remaining : R → Option (List ℕ)) (input : Option Inpu
   )
 
   -- its number is that of the records before it
-  pub read_is : (old new : Reader R) (progress : Progress) (packet : Packet) → HasRead remaining input room ports old progress
+  pub read_is : (old new : Reader R) (progress : ReadState) (packet : Packet) → HasRead remaining input room ports old progress
       → Takes remaining old new packet → length packet.bytes ≤ 64 * room → IsRecord input room progress.count packet
   read_is old new progress packet (order, all, packets, f) takes small =
       subst (λ n. IsRecord input room n packet) (sym f.count) (found_is _ _ _ _ _ input room packets packet f.whole f.same f.stand takes small)
 
   -- the file ends
-  pub all_read : (old : Reader R) (progress : Progress) (torn : Bool) → HasRead remaining input room ports old progress
+  pub all_read : (old : Reader R) (progress : ReadState) (torn : Bool) → HasRead remaining input room ports old progress
       → EndsSo old.order (rest remaining old) torn → IsAll input room ports progress torn
   all_read old progress torn (order, all, packets, f) ends =
       let whole = input_is _ _ input packets (end_of torn) f.whole (ended _ _ _ _ packets torn f.same f.stand ends) in
@@ -103,13 +103,13 @@ module _ {R : Type 0} (remaining : R → Option (List ℕ)) (input : Option Inpu
       }
 
   -- why there is no further record
-  pub none_further : (old new : Reader R) (progress : Progress) (fault : RunFault) → HasRead remaining input room ports old progress
+  pub none_further : (old new : Reader R) (progress : ReadState) (fault : RunFault) → HasRead remaining input room ports old progress
       → WhyNone remaining old new fault → WhyStopped input old new None fault
   none_further old new progress fault (order, all, packets, f) why =
       stopped remaining order all input old old new None packets fault f.whole f.same f.stand refl why
 
   -- so many were read that the input has too many
-  pub too_many : (reader : Reader R) (progress : Progress) → HasRead remaining input room ports reader progress
+  pub too_many : (reader : Reader R) (progress : ReadState) → HasRead remaining input room ports reader progress
       → 2 ^ 64 - 1 ≤ progress.count + records_of progress.share → IsEndless input
   too_many reader progress (order, all, packets, f) many =
       endless _ _ _ input packets (2 ^ 64 - 1) f.whole f.stand (omega (arith, many, f.many))
@@ -139,6 +139,6 @@ pub unfed_late : {R : Type 0} (input : Option Input) (start old new : Reader R) 
     → fault ≡ Read → Fails old new → WhyUnfed input start new fault
 unfed_late input start old new fault worked is fails = subst (WhyUnfed input start new) (sym is) (failed-later _ _ _ worked fails)
 
-pub unfed_by_ring : {R : Type 0} (input : Option Input) (old new : Reader R) (why : RingFault) → WhyUnfed input old new (fault_of_ring why)
-unfed_by_ring input old new ring.Window = tt
-unfed_by_ring input old new ring.Worn = tt
+pub unfed_by_stage : {R : Type 0} (input : Option Input) (old new : Reader R) (why : StageFault) → WhyUnfed input old new (fault_of_stage why)
+unfed_by_stage input old new ring.Window = tt
+unfed_by_stage input old new ring.Worn = tt

@@ -8,7 +8,7 @@ use Rattle.std.proofs.Math.Seq.{take-append_seam}
 use Rattle.pcapio.specs.Begin.{Begins}
 use Rattle.pcapio.specs.Counted.{told}
 use Rattle.pcapio_laws.specs.Text.{record_text, file_header}
-use Rattle.pcapio.specs.Behind.{waiting}
+use Rattle.pcapio.specs.WriteBuffer.{waiting}
 use Rattle.pcapio.specs.Writer.{text, sink_of}
 use Rattle.pcapio_laws.specs.declared.format.Resolution.{Resolution}
 use Rattle.pcapio.specs.declared.writer.Writer.{Writer}

@@ -4,14 +4,14 @@ use Rattle.pcapio.specs.Counted.{told, failures_of}
 use Rattle.pcapio.specs.Reader.{order_of, rest, source_of, stage_of}
 use Rattle.pcapio.specs.declared.counted.Counted.{Counted}
 use Rattle.pcapio.specs.declared.reader.Reader.{Reader}
-use Rattle.pcapio.specs.declared.stage.Stage.TheVariants.{Between}
+use Rattle.pcapio.specs.declared.reader_state.ReaderState.TheVariants.{Between}
 use Rattle.pcapio_laws.specs.declared.format.Resolution.{Resolution}
 use Rattle.settings.specs.declared.read.Settings.{Settings}
 use Rattle.stages_laws.specs.Input.{Input, IsInput}
 use Rattle.stages_laws.specs.Output.{Forwarding}
 use Rattle.stages.specs.Ports.{AreFresh, devices_of}
 use Rattle.stages.specs.Whole.{forwarding_by}
-use Rattle.stages.specs.declared.outputs.Outputs.{Outputs}
+use Rattle.stages.specs.declared.ports.Outputs.{Outputs}
 
 -- the reader is before the first of these records, and its device failed so often
 pub record HasInput {R : Type 0} (remaining : R → Option (List ℕ)) (reader : Reader R) (records : Option Input)

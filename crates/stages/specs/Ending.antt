@@ -6,10 +6,10 @@ use Rattle.stages_laws.specs.Input.{Input}
 use Rattle.stages_laws.specs.Output.{Forwarding, tally_of}
 use Rattle.stages_laws.specs.declared.run.Run.{Ghosts}
 use Rattle.stages.specs.Failing.{FailedAt}
-use Rattle.stages.specs.declared.ending.Summary.{Summary}
+use Rattle.stages.specs.declared.summary.Summary.{Summary}
 use Rattle.stages.specs.declared.fault.RunFault.{RunFault}
 use Rattle.stages.specs.declared.fault.RunFault.TheVariants.{Write, Window}
-use Rattle.stages.specs.declared.stamped.Stamped.{Stamped}
+use Rattle.stages.specs.declared.records.input_totals.InputTotals.{InputTotals}
 
 -- the counts are those of the input, and it ends so
 abbrev pub Sums : Option Input → ℕ → ℕ → Forwarding → Summary → Type 0
@@ -18,11 +18,11 @@ Sums input ports room forwarding summary = (i : Input) → input ≡ Some i
     × (i.ending ≡ end_of summary.torn)
 
 -- why there is no summary: what the reader answered, a number of records that isn't the sink's, or a device that failed
-abbrev pub WhyNone : {J : Type 0} {G : Ghosts J} → ℕ → Result (Stamped J G) RunFault → RunFault → Type 0
-WhyNone next (Ok stamped) fault = (fault ≡ Window) × (next ≢ stamped.count)
+abbrev pub WhyNone : {J : Type 0} {G : Ghosts J} → ℕ → Result (InputTotals J G) RunFault → RunFault → Type 0
+WhyNone next (Ok totals) fault = (fault ≡ Window) × (next ≢ totals.count)
 WhyNone next (Err reason) fault = fault ≡ reason
 
-abbrev pub WhyFaulted : {J W : Type 0} {G : Ghosts J} → List ℕ → ℕ → Result (Stamped J G) RunFault → List
+abbrev pub WhyFaulted : {J W : Type 0} {G : Ghosts J} → List ℕ → ℕ → Result (InputTotals J G) RunFault → List
     (Counted W) → RunFault → Type 0
-WhyFaulted failures next stamped devices (Write p) = FailedAt failures p devices
-WhyFaulted failures next stamped devices fault = WhyNone next stamped fault
+WhyFaulted failures next totals devices (Write p) = FailedAt failures p devices
+WhyFaulted failures next totals devices fault = WhyNone next totals fault

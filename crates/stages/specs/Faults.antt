@@ -1,8 +1,8 @@
 -- The numbers of the faults of a run.
 use Rattle.std.specs.Prelude.{ℕ, nat_lt, if◌then◌else◌}
 use Rattle.pcapio_laws.specs.declared.fault.CapFault.{CapFault}
-use Rattle.stages.specs.declared.fault.RingFault.{RingFault}
-use Rattle.stages.specs.declared.fault.RingFault.TheVariants as ring
+use Rattle.stages.specs.declared.fault.StageFault.{StageFault}
+use Rattle.stages.specs.declared.fault.StageFault.TheVariants as ring
 use Rattle.stages.specs.declared.fault.RunFault.{RunFault}
 use Rattle.stages.specs.declared.fault.RunFault.TheVariants.{Memory, Thread, Read, Write, Capture, Window, Worn}
 
@@ -33,6 +33,6 @@ fault_of_input CapFault.Memory = Memory
 fault_of_input fault = Capture fault
 
 -- the fault of a run whose stage can't go on
-abbrev pub fault_of_ring : RingFault → RunFault
-fault_of_ring ring.Window = Window
-fault_of_ring ring.Worn = Worn
+abbrev pub fault_of_stage : StageFault → RunFault
+fault_of_stage ring.Window = Window
+fault_of_stage ring.Worn = Worn

@@ -3,13 +3,13 @@ pub mod Packets
 pub mod Numbers
 pub mod Passing
 pub mod Judging
-pub mod Stations
+pub mod RingPorts
 pub mod Keyed
 pub mod Ports
 pub mod PortSteps
 pub mod Failing
 pub mod Tallies
-pub mod Stamps
+pub mod InputTotals
 pub mod Reading
 pub mod SoFar
 pub mod Turns

@@ -6,18 +6,18 @@ use Rattle.counters.specs.Tally.{records_of}
 use Rattle.pcapio.specs.Copy.{Stand}
 use Rattle.pcapio.specs.Reader.{EndsSo, Takes, order_of, rest, stage_of}
 use Rattle.pcapio.specs.declared.reader.Reader.{Reader}
-use Rattle.pcapio.specs.declared.stage.Stage.TheVariants.{Between, Pending}
+use Rattle.pcapio.specs.declared.reader_state.ReaderState.TheVariants.{Between, Pending}
 use Rattle.pcapio_laws.specs.Capture.{Packet}
 use Rattle.pcapio_laws.specs.declared.format.ByteOrder.{ByteOrder}
 use Rattle.stages_laws.specs.Input.{Input, IsInput}
 use Rattle.stages_laws.specs.Output.{stamped, oversize}
-use Rattle.stages.specs.Stamps.{IsCount, IsShare, HasEnd}
-use Rattle.stages.specs.declared.found.Found.{Found}
-use Rattle.stages.specs.declared.found.Found.TheVariants.{Record, Oversize, Ended}
-use Rattle.stages.specs.declared.progress.Progress.{Progress}
+use Rattle.stages.specs.InputTotals.{IsCount, IsShare, HasEnd}
+use Rattle.stages.specs.declared.records.next_record.NextRecord.{NextRecord}
+use Rattle.stages.specs.declared.records.next_record.NextRecord.TheVariants.{Record, Oversize, Ended}
+use Rattle.stages.specs.declared.records.read_state.ReadState.{ReadState}
 
 -- what was read is all of the input
-pub record IsAll (input : Option Input) (room ports : ℕ) (progress : Progress) (torn : Bool) : Type 0 where
+pub record IsAll (input : Option Input) (room ports : ℕ) (progress : ReadState) (torn : Bool) : Type 0 where
   pub count : IsCount input room progress.count
   pub share : IsShare input room ports progress.share
   pub end : HasEnd input torn
@@ -26,7 +26,7 @@ pub record IsAll (input : Option Input) (room ports : ℕ) (progress : Progress)
 module _ {R : Type 0} (remaining : R → Option (List ℕ)) where
   -- what stands ahead of a reader: the head of a record that has at most 64 segments of bytes, one that has more and
   -- was passed over, or the end
-  abbrev pub IsAhead : ℕ → Reader R → Reader R → Found → Type 0
+  abbrev pub IsAhead : ℕ → Reader R → Reader R → NextRecord → Type 0
   IsAhead room old new (Record head) =
       (stage_of new ≡ Pending head) × Keeps (rest remaining old) (rest remaining new) × (head.captured ≤ 64 * room)
       × (head.captured ≤ 262144)
@@ -37,7 +37,7 @@ module _ {R : Type 0} (remaining : R → Option (List ℕ)) where
   module _ (input : Option Input) (room ports : ℕ) where
     -- the first records of the input were read, and counted, and the others are still to come
     pub record IsFront (order : ByteOrder) (all : Option (List ℕ)) (packets : List Packet) (reader : Reader R)
-        (progress : Progress) : Type 0 where
+        (progress : ReadState) : Type 0 where
       pub whole : IsInput order all input
       pub stand : Stand order all (rest remaining reader) packets
       pub same : order_of reader ≡ order
@@ -46,12 +46,12 @@ module _ {R : Type 0} (remaining : R → Option (List ℕ)) where
       pub wide : length progress.share.sent ≡ ports
       pub many : progress.count + records_of progress.share ≡ length packets
 
-    abbrev pub HasRead : Reader R → Progress → Type 0
+    abbrev pub HasRead : Reader R → ReadState → Type 0
     HasRead reader progress = (order : ByteOrder) × (all : Option (List ℕ)) × (packets : List Packet)
         × IsFront order all packets reader progress
 
     -- what a look ahead tells
-    abbrev pub Looks : Reader R → Progress → Progress → Found → Type 0
+    abbrev pub Looks : Reader R → ReadState → ReadState → NextRecord → Type 0
     Looks new before after (Record head) = HasRead new after × (after ≡ before) × (stage_of new ≡ Pending head)
         × (head.captured ≤ 64 * room) × (head.captured ≤ 262144)
     Looks new before after Oversize = HasRead new after × (stage_of new ≡ Between) × (after.count ≡ before.count)

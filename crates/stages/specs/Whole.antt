@@ -16,7 +16,7 @@ use Rattle.stages_laws.specs.Output.{Forwarding, fates, tally_of}
 use Rattle.stages.specs.Failing.{FailedAt}
 use Rattle.stages.specs.Ports.{AreOutputs, AreBeginnings}
 use Rattle.stages.specs.Turns.{EndsBad, IsEndless}
-use Rattle.stages.specs.declared.ending.Summary.{Summary}
+use Rattle.stages.specs.declared.summary.Summary.{Summary}
 use Rattle.stages.specs.declared.fault.RunFault.{RunFault}
 use Rattle.stages.specs.declared.fault.RunFault.TheVariants.{Memory, Thread, Read, Write, Capture as Refused, Window}
 use Rattle.stages.specs.declared.fault.RunFault.TheVariants.{Worn}

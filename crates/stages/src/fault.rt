@@ -1,6 +1,6 @@
 //! Why a run has no answer.
 ghost use Rattle.std.specs.Prelude.{◌≡◌, ◌⊎◌};
-ghost use Rattle.stages.specs.Faults.{number_of, lower_of, fault_of_ring};
+ghost use Rattle.stages.specs.Faults.{number_of, lower_of, fault_of_stage};
 
 use pcapio::CapFault;
 
@@ -42,21 +42,21 @@ impl RunFault {
 
 /// Why a stage of a run in threads can't go on.
 #[derive(Clone, Copy)]
-pub(crate) enum RingFault {
+pub(crate) enum StageFault {
     /// A packet or a segment isn't what it has to be on its ring.
     Window,
     /// The positions of a ring are used up.
     Worn,
 }
 
-impl RingFault {
+impl StageFault {
     /// The run's fault of that name.
-    pub(crate) fn told(self) -> RunFault
-        ensures { result ≡ fault_of_ring self }
+    pub(crate) fn to_run_fault(self) -> RunFault
+        ensures { result ≡ fault_of_stage self }
     {
         match self {
-            RingFault::Window => RunFault::Window,
-            RingFault::Worn => RunFault::Worn,
+            StageFault::Window => RunFault::Window,
+            StageFault::Worn => RunFault::Worn,
         }
     }
 }

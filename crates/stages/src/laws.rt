@@ -4,13 +4,13 @@ ghost use Rattle.pcapio.specs.Counted.{told};
 ghost use Rattle.pcapio.specs.declared.counted.Counted.{Counted};
 ghost use Rattle.settings.specs.declared.read.Settings.{Settings};
 ghost use Rattle.stages.specs.Whole.{AreKnown, IsRun};
-ghost use Rattle.stages.specs.declared.ending.Summary.{Summary};
+ghost use Rattle.stages.specs.declared.summary.Summary.{Summary};
 
 use std::io::Write;
 
 /// Workers change nothing: of two runs over the same bytes by the same settings that have a summary, by one thread or
-/// by any number of workers each, both have the same one, and each port's device received the same bytes; all ports did,
-/// where it is known what each device received before.
+/// by any number of workers each, both have the same one, and each port's device received the same bytes; all ports
+/// did, where it is known what each device received before.
 pub fn workers_change_nothing<W: Write>()
     ensures summary { (settings : Settings) (bytes : List ℕ) (writers one many : List (Counted W)) (a b : Summary)
         → IsRun W.contents settings bytes writers one a → IsRun W.contents settings bytes writers many b

@@ -1,41 +1,30 @@
 //! A run: a capture in, captures out.
+//!
+//! `one` is a run by one thread: it reads a record into a chain, judges the packet and hands it to the sink.
+//! `threads` is the same run by several, over three rings: `threads::reader` reads records into free segments and sends
+//! packets, each `threads::worker` judges packets, and `threads::sink_loop` takes them to the sink and gives their
+//! segments back.
+//!
+//! Both share `records` (what the input has next), `packet` (what goes from stage to stage, and its verdict), `sink`
+//! (packets in the order of the input, and their counts), `ports` (the writers, opened and closed) and `summary` (what
+//! a run answers). `gate` lets a caller watch packets while they are judged; `laws` compares runs.
 #![tactic(auto)]
 
-mod closing;
-mod constructors;
-mod draining;
-mod ending;
 mod fault;
-mod fed;
-mod feeding;
-mod found;
-mod free;
 mod gate;
 mod laws;
-mod longest;
 mod one;
-mod opening;
-mod outputs;
 mod packet;
-mod progress;
-mod puts;
-mod reading;
-mod rings;
-mod running;
+mod ports;
+mod records;
 mod sink;
-mod stamped;
-mod station;
-mod tags;
+mod summary;
 mod threads;
-mod verdict;
-mod working;
 
-pub use ending::Summary;
 pub use fault::RunFault;
 pub use gate::{Gate, Open};
 pub use laws::workers_change_nothing;
-pub use outputs::MOST_PORTS;
+pub use one::run_one;
 pub use packet::{Judged, Packet, Segment, Unjudged};
-pub use running::run_one;
-pub use threads::run_threads;
-pub use working::{Worked, work};
+pub use summary::Summary;
+pub use threads::{Worked, run_threads, work};

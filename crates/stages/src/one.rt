@@ -1,70 +1,112 @@
-//! The run by one thread: each record is read, judged, and passed through the sink, in the order of the input.
-ghost use Rattle.std.specs.Prelude.{◌≡◌, ◌≤◌, ◌<◌, ◌*◌, min, None, IfOk, IfErr, OnOk, length, vec_len};
-ghost use Rattle.ipv4.specs.Forwarding.{forwarded};
+//! A whole run by one thread: the input is opened, each of its records is taken to the ports, and all are closed.
+ghost use Rattle.std.specs.Prelude.{◌≡◌, ◌≤◌, ◌*◌, List, Some, IfErr, IfOk, IfSome, OnOk};
+ghost use Rattle.std.specs.Prelude.{length, min, vec_len, vec_capacity};
 ghost use Rattle.mbuf.specs.Chain.{space_of};
-ghost use Rattle.pcapio.specs.Counted.{HasNotFailed};
-ghost use Rattle.pcapio.specs.Reader.{order_of, rest, stage_of, source_of};
-ghost use Rattle.pcapio.specs.declared.stage.Stage.TheVariants.{Between};
-ghost use Rattle.stages_laws.specs.Input.{IsInput};
-ghost use Rattle.stages.specs.Turns.{IsVacant, WhyStopped};
+ghost use Rattle.pcapio.specs.Counted.{to_come, told};
+ghost use Rattle.stages_laws.specs.Output.{Fate};
+ghost use Rattle.stages.specs.Begun.{AreReady, GoesBy, HasInput};
+ghost use Rattle.stages.specs.Ending.{Sums};
+ghost use Rattle.stages.specs.Ports.{AreOutputs, AreBeginnings};
+ghost use Rattle.stages.specs.Tallies.{fates_of};
+ghost use Rattle.stages.specs.Whole.{IsRun, IsBegun, IsUntouched, WhyStoppedAt, WhyNoSummary};
+
+mod record_chain;
+mod single;
 
 use crate::fault::RunFault;
-use crate::found::Found;
-use crate::progress::Progress;
-use crate::reading::{look, read_record};
+use crate::one::record_chain::longest_chain;
+use crate::one::single::forward_all;
+use crate::ports::Outputs;
+use crate::ports::close::into_devices;
+use crate::ports::open::open_all;
+use crate::records::input_fault;
 use crate::sink::Sink;
-use crate::stamped::Stamped;
-use ipv4::Ports;
-use lpm::Table;
+use crate::summary::{Summary, end};
 use mbuf::Chain;
-use pcapio::Reader;
+use pcapio::{Counted, Reader};
+use settings::Settings;
 use stages_laws::Run;
+use std::alloc::Global;
 use std::io::{Read, Write};
+use std::marker::Brand;
 
-/// Takes each record of the input to the ports. Asked: the reader is before the first one, and so is the sink; the
-/// chain has space for each record that is not oversize.
-pub(crate) fn pass_all<J: Run, R: Read, W: Write + Drop>(
-    reader: &mut Reader<R>,
-    sink: &mut Sink<J, W>,
-    mut chain: Chain,
-    room: usize,
-    table: &Table,
-    ports: &Ports,
-) -> Result<Stamped<J>, RunFault>
-    requires input { IsInput (order_of reader.old) (rest R.remaining reader.old) J.input }
-    requires between { stage_of reader.old ≡ Between }
-    requires room { room ≡ J.room }
-    requires few { room ≤ 65536 }
-    requires space { min (64 * room) 262144 ≤ space_of chain }
-    requires rules { forwarded table.now.members ports.now ≡ J.forwarding }
-    requires ports { vec_len ports.now.sources ≡ length J.before }
-    requires one { 0 < length J.before }
-    requires most { length J.before ≤ 16 }
-    requires first { sink.old.window.next ≡ 0 }
-    requires vacant { IsVacant sink.old.window }
-    requires well { sink.old.outputs.failed ≡ None }
-    ensures many { vec_len sink.new.outputs.writers ≡ vec_len sink.old.outputs.writers }
-    ensures turn { IfOk result (λ stamped. sink.new.window.next ≡ stamped.count) }
-    ensures well { OnOk result (HasNotFailed (source_of reader.old) (source_of reader.new)) }
-    ensures why { IfErr result (WhyStopped J.input reader.old reader.new sink.new.outputs.failed) }
+/// Forwards the capture that `reader` has, by these settings, and tells each port's device a capture of the frames that
+/// are sent there, in the order of the input. Asked: a device for each port. Records are streamed: memory is taken at
+/// the beginning, for one packet and a buffer of 64 KiB for each device, and doesn't grow with the capture.
+///
+/// All devices come back, the ports' in their order. Refused with 1 `Memory`; 3 `Read` and 4 `Write(port)`, where that
+/// device failed in this call; 5 `Capture`, where the input is refused; 6 `Window`, where it has 2^64 - 1 records or
+/// more. Each port's device was then told a beginning of its output, and after a port's device failed nothing more was
+/// written to any port. 2 `Thread` and 7 `Worn` are never answered.
+pub fn run_one<R: Read, W: Write + Drop>(
+    alloc: Global,
+    reader: Counted<R>,
+    writers: Vec<Counted<W>>,
+    settings: &Settings,
+) -> (Counted<R>, Vec<Counted<W>>, Result<Summary, RunFault>)
+    requires ports { vec_len writers ≡ vec_len settings.now.ports.sources }
+    ensures length { vec_len result.1 ≡ vec_len writers }
+    ensures run { IfOk result.2 (λ summary. IfSome (to_come R.remaining reader) (λ bytes.
+        IsRun W.contents settings.now bytes writers.items result.1.items summary)) }
+    ensures begun { IfSome (to_come R.remaining reader) (λ bytes.
+        IsBegun W.contents settings.now bytes writers.items result.1.items) }
+    ensures untouched { IfSome (to_come R.remaining reader) (λ bytes.
+        IsUntouched W.contents settings.now bytes writers.items result.1.items) }
+    ensures cause { IfErr result.2 (WhyNoSummary R.remaining reader result.0 writers.items result.1.items) }
 {
-    let mut progress = Progress::new(ports.sources.len());
-    for _turn in 0..u64::MAX {
-        let head = match look::<J, R>(reader, &mut progress, room) {
-            Ok(Found::Record(head)) => head,
-            Ok(Found::Oversize) => continue,
-            Ok(Found::Ended(torn)) => return Ok(progress.stamp(torn)),
-            Err(fault) => return Err(fault),
-        };
-        let packet = match read_record::<J, R>(reader, &mut progress, head, chain) {
-            Ok(Some(packet)) => packet,
-            Ok(None) => return Ok(progress.stamp(true)),
-            Err(fault) => return Err(fault),
-        };
-        chain = sink.pass(packet.judge(table, ports));
-        if let Some(port) = sink.outputs.failed {
-            return Err(RunFault::Write(port));
+    let reader = match Reader::open(alloc, reader) {
+        Ok(reader) => reader,
+        Err((device, fault)) => return (device, writers, Err(input_fault(fault))),
+    };
+    let headroom = settings.headroom as usize;
+    let Ok(chain) = longest_chain(alloc, headroom, settings.room as usize) else {
+        return (reader.into_inner(), writers, Err(RunFault::Memory));
+    };
+    match open_all(alloc, writers, reader.resolution()) {
+        Ok((outputs, spare)) => {
+            run_opened::<Brand, R, W>(alloc, reader, outputs, spare, chain, settings)
         }
+        Err(writers) => (reader.into_inner(), writers, Err(RunFault::Memory)),
     }
-    Err(RunFault::Window)
+}
+
+/// The same from the first record on: nothing was told yet, and each writer has a file header to tell.
+fn run_opened<J: Run, R: Read, W: Write + Drop>(
+    alloc: Global,
+    mut reader: Reader<R>,
+    outputs: Outputs<W>,
+    spare: Vec<Counted<W>>,
+    chain: Chain,
+    settings: &Settings,
+) -> (Counted<R>, Vec<Counted<W>>, Result<Summary, RunFault>)
+    requires input { HasInput R.remaining reader J.input J.read_failures }
+    requires settings { GoesBy settings.now J.room J.forwarding (length J.before) }
+    requires outputs { AreReady W.contents outputs spare.items (vec_capacity spare) J.before J.failures J.resolution }
+    requires space { min (64 * settings.now.room) 262144 ≤ space_of chain }
+    ensures length { vec_len result.1 ≡ length J.before }
+    ensures outputs { OnOk result.2 ((all : List Fate) → fates_of J.forwarding J.room J.input ≡ Some all
+        → AreOutputs W.contents J.before J.resolution all result.1.items) }
+    ensures begun { (all : List Fate) → fates_of J.forwarding J.room J.input ≡ Some all
+        → AreBeginnings W.contents J.before J.resolution all result.1.items }
+    ensures counts { IfOk result.2 (Sums J.input (length J.before) J.room J.forwarding) }
+    ensures cause { IfErr result.2 (WhyStoppedAt J.input J.failures reader result.0 result.1.items) }
+{
+    let mut sink: Sink<J, W> = match Sink::new(alloc, 1, outputs) {
+        Ok(sink) => sink,
+        Err(outputs) => {
+            let devices = into_devices(outputs.writers, spare);
+            return (reader.into_inner(), devices, Err(RunFault::Memory));
+        }
+    };
+    let room = settings.room as usize;
+    let totals = forward_all(
+        &mut reader,
+        &mut sink,
+        chain,
+        room,
+        &settings.table,
+        &settings.ports,
+    );
+    let (devices, told) = end(sink, spare, totals);
+    (reader.into_inner(), devices, told)
 }

@@ -5,6 +5,10 @@ ghost use Rattle.pcapio.specs.Record.{packet_in};
 ghost use Rattle.stages.specs.Packets.{IsRecord, IsFate, HasPort};
 ghost use Rattle.stages.specs.Tallies.{fates_of};
 
+mod constructors;
+mod tags;
+mod verdict;
+
 use ipv4::Verdict;
 use mbuf::Chain;
 use stages_laws::Run;

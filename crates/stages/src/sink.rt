@@ -11,8 +11,8 @@ ghost use Rattle.stages.specs.Keyed.{IsKeyed, LetsGo};
 ghost use Rattle.stages.specs.Ports.{HasTexts, HasBegun, AreFresh, devices_of};
 ghost use Rattle.stages.specs.Tallies.{IsTally, fates_of};
 
-use crate::outputs::{MOST_PORTS, Outputs};
 use crate::packet::Judged;
+use crate::ports::Outputs;
 use counters::Counts;
 use mbuf::Chain;
 use reorder::Window;
@@ -46,14 +46,14 @@ impl<J: Run, W: Write + Drop> Sink<J, W> {
         size: usize,
         outputs: Outputs<W>,
     ) -> Result<Sink<J, W>, Outputs<W>>
-        requires some { 0 < size }
+        requires nonzero { 0 < size }
         requires small { size ≤ 65536 }
         requires before { mapped (told W.contents) (devices_of outputs.writers.items) ≡ J.before }
         requires failures { mapped failures_of (devices_of outputs.writers.items) ≡ J.failures }
         requires one { 0 < vec_len outputs.writers }
-        requires few { vec_len outputs.writers ≤ MOST_PORTS }
+        requires at_most { vec_len outputs.writers ≤ 16 }
         requires fresh { AreFresh W.contents J.resolution outputs.writers.items }
-        requires well { outputs.failed ≡ None }
+        requires no_failure { outputs.failed ≡ None }
         ensures window { IfOk result (λ sink. sink.window ≡ empty_window size) }
         ensures outputs { IfOk result (λ sink. sink.outputs ≡ outputs) }
         ensures refused { IfErr result (λ back. back ≡ outputs) }
@@ -87,8 +87,9 @@ impl<J: Run, W: Write + Drop> Sink<J, W> {
     /// Lets the packet go whose turn it is, where it is here: it is counted, and written where it is sent.
     pub(crate) fn give(&mut self) -> Option<Chain>
         ensures gone { LetsGo self.old.window self.new.window result }
-        ensures many { vec_len self.new.outputs.writers ≡ vec_len self.old.outputs.writers }
+        ensures length { vec_len self.new.outputs.writers ≡ vec_len self.old.outputs.writers }
     {
+        // read for the proof: the number whose turn it is, before `pop` moves on
         let _turn = self.window.next();
         let Judged {
             seconds,
@@ -99,7 +100,8 @@ impl<J: Run, W: Write + Drop> Sink<J, W> {
             ..
         } = self.window.pop()?;
         self.counts.add(&verdict);
-        self.outputs.pass(verdict, seconds, fraction, wire, &chain);
+        self.outputs
+            .put_unless_failed(verdict, seconds, fraction, wire, &chain);
         Some(chain)
     }
 
@@ -112,14 +114,15 @@ impl<J: Run, W: Write + Drop> Sink<J, W> {
 
     /// Takes the packet whose turn it is, lets it go at once, and gives its segments back: what a run by one thread
     /// does with each.
-    pub(crate) fn pass(&mut self, packet: Judged<J>) -> Chain
+    pub(crate) fn forward(&mut self, packet: Judged<J>) -> Chain
         requires turn { packet.seq ≡ self.old.window.next }
         requires below { self.old.window.next < 2 ^ 64 - 1 }
         requires vacant { map.get self.old.window.held self.old.window.next ≡ None }
         ensures chain { result ≡ packet.chain }
         ensures window { self.new.window ≡ after_next (with_number self.old.window packet.seq packet) }
-        ensures many { vec_len self.new.outputs.writers ≡ vec_len self.old.outputs.writers }
+        ensures length { vec_len self.new.outputs.writers ≡ vec_len self.old.outputs.writers }
     {
+        // read for the proof: this packet's number, before `give` moves on
         let _turn = self.window.next();
         match self.accept(packet) {
             Ok(()) => match self.give() {

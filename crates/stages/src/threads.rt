@@ -1,5 +1,5 @@
 //! A run in threads: a reader, workers, and the sink on the calling thread.
-ghost use Rattle.std.specs.Prelude.{◌≡◌, ◌<◌, ◌≤◌, List, None, Some, Err, IfErr, IfOk, IfSome, OnOk};
+ghost use Rattle.std.specs.Prelude.{◌≡◌, ◌⊎◌, ◌<◌, ◌≤◌, List, None, Some, Err, IfErr, IfOk, IfSome, OnOk};
 ghost use Rattle.std.specs.Prelude.{length, vec_len, vec_capacity};
 ghost use Rattle.fabric.specs.Hands.{IsHandOf, rings_of};
 ghost use Rattle.pcapio.specs.Counted.{to_come, told};
@@ -11,23 +11,31 @@ ghost use Rattle.stages.specs.Ports.{AreOutputs, AreBeginnings};
 ghost use Rattle.stages.specs.Tallies.{fates_of};
 ghost use Rattle.stages.specs.Threads.{WhyEnded, WhyNoSummaryOfThreads};
 ghost use Rattle.stages.specs.Whole.{IsRun, IsBegun, IsUntouched};
-ghost use Rattle.stages.specs.declared.fault.RunFault.TheVariants.{Thread};
+ghost use Rattle.stages.specs.declared.fault.RunFault.TheVariants.{Memory, Thread};
 
-use crate::closing::into_devices;
-use crate::draining::drain;
-use crate::ending::{Summary, end};
+mod put_all;
+mod reader;
+mod reader_outcome;
+mod ring_port;
+mod rings;
+mod segments;
+mod sink_loop;
+mod worker;
+
 use crate::fault::RunFault;
-use crate::fed::Fed;
-use crate::feeding::{dismiss, feed};
 use crate::gate::Gate;
-use crate::opening::open_all;
-use crate::outputs::Outputs;
 use crate::packet::Packet;
-use crate::reading::input_fault;
-use crate::rings::{SPAN, fill, open_rings};
+use crate::ports::Outputs;
+use crate::ports::close::into_devices;
+use crate::ports::open::open_all;
+use crate::records::input_fault;
 use crate::sink::Sink;
-use crate::station::Station;
-use crate::working::{Worked, work};
+use crate::summary::{Summary, end};
+use crate::threads::reader::{dismiss, feed};
+use crate::threads::reader_outcome::ReaderOutcome;
+use crate::threads::ring_port::RingPort;
+use crate::threads::rings::{SPAN, fill, open_rings};
+use crate::threads::sink_loop::drain;
 use burst::Burst;
 use fabric::{Fabric, Hand, Opened};
 use pcapio::{Counted, Reader};
@@ -37,203 +45,8 @@ use std::alloc::Global;
 use std::io::{Read, Write};
 use std::marker::Brand;
 use std::sync::Wait;
-use std::thread::{self, Threads};
-
-/// Ends the workers that were started, where a further thread couldn't be: each gets an end mark, and what comes of
-/// them is taken.
-fn call_off<J: Run, W: Write + Drop, T: Wait>(
-    rt: &T,
-    f: &Fabric<Packet<J>, SPAN>,
-    hand: Hand<Packet<J>>,
-    mut sink: Sink<J, W>,
-    started: usize,
-    settings: &Settings,
-) -> Sink<J, W>
-    requires hand { IsHandOf f.now hand }
-    requires rings { AreRings (rings_of f.now) }
-    requires few { started ≤ 16 }
-    requires room { settings.now.room ≡ J.room }
-{
-    let mut station = Station::new(f, hand, settings.cache as usize);
-    let mut none = Burst::<Packet<J>, SPAN>::new();
-    let sent = dismiss(rt, &mut station, &mut none, started);
-    if sent.is_ok() {
-        let burst = settings.burst as usize;
-        let room = settings.room as usize;
-        let _told = drain(rt, &mut station, &mut sink, started, burst, room);
-    }
-    sink
-}
-
-/// The threads of a run, over rings on which all segments are free.
-fn pass<
-    J: Run + Send + Sync,
-    G: Gate + Sync,
-    R: Read + Send + Drop,
-    W: Write + Drop,
-    T: Threads + Wait + Sync,
->(
-    rt: &T,
-    alloc: Global,
-    gate: &G,
-    workers: usize,
-    f: &Fabric<Packet<J>, SPAN>,
-    hand: Hand<Packet<J>>,
-    reader: Reader<R>,
-    sink: Sink<J, W>,
-    settings: &Settings,
-) -> (Sink<J, W>, Fed<J, R>)
-    requires hand { IsHandOf f.now hand }
-    requires rings { AreRings (rings_of f.now) }
-    requires few { workers ≤ 16 }
-    requires input { HasInput R.remaining reader J.input J.read_failures }
-    requires settings { GoesBy settings.now J.room J.forwarding (length J.before) }
-{
-    thread::scope(
-        thread::scope_env(),
-        rt,
-        move |scope| -> (Sink<J, W>, Fed<J, R>)
-            requires { IsHandOf f.now hand × AreRings (rings_of f.now) × (workers ≤ 16)
-                × HasInput R.remaining reader J.input J.read_failures
-                × GoesBy settings.now J.room J.forwarding (length J.before) }
-        {
-            let burst = settings.burst as usize;
-            let mut sink = sink;
-            let mut hand = hand;
-            for started in 0..workers {
-                let (mine, other) = match hand.split(alloc, f) {
-                    Ok(both) => both,
-                    Err((back, _)) => {
-                        let sink = call_off(rt, f, back, sink, started, settings);
-                        return (sink, Fed::unread(reader, RunFault::Memory));
-                    }
-                };
-                hand = mine;
-                let worker = scope.spawn(
-                    move || -> Worked<Packet<J>>
-                        requires { IsHandOf f.now other × AreRings (rings_of f.now)
-                            × GoesBy settings.now J.room J.forwarding (length J.before)
-                            × (0 < burst) × (burst ≤ 64) }
-                    { work(rt, gate, f, other, burst, &settings.table, &settings.ports) },
-                );
-                if worker.is_err() {
-                    let sink = call_off(rt, f, hand, sink, started, settings);
-                    return (sink, Fed::unread(reader, RunFault::Thread));
-                }
-            }
-            let (mine, other) = match hand.split(alloc, f) {
-                Ok(both) => both,
-                Err((back, _)) => {
-                    let sink = call_off(rt, f, back, sink, workers, settings);
-                    return (sink, Fed::unread(reader, RunFault::Memory));
-                }
-            };
-            let Ok(thread) = scope.spawn(
-                move || -> Fed<J, R>
-                    requires { IsHandOf f.now other × AreRings (rings_of f.now) × (workers ≤ 16)
-                        × HasInput R.remaining reader J.input J.read_failures
-                        × GoesBy settings.now J.room J.forwarding (length J.before) }
-                {
-                    let station = Station::new(f, other, settings.cache as usize);
-                    feed(rt, station, reader, workers, settings)
-                },
-            ) else {
-                let sink = call_off(rt, f, mine, sink, workers, settings);
-                return (sink, Fed::lost());
-            };
-            let mut station = Station::new(f, mine, settings.cache as usize);
-            let room = settings.room as usize;
-            let drained = drain(rt, &mut station, &mut sink, workers, burst, room);
-            (sink, thread.join(rt).with(drained))
-        },
-    )
-}
-
-/// The same, over rings of its own.
-fn over_rings<
-    J: Run + Send + Sync,
-    G: Gate + Sync,
-    R: Read + Send + Drop,
-    W: Write + Drop,
-    T: Threads + Wait + Sync,
->(
-    rt: &T,
-    alloc: Global,
-    gate: &G,
-    workers: usize,
-    reader: Reader<R>,
-    sink: Sink<J, W>,
-    settings: &Settings,
-) -> (Sink<J, W>, Fed<J, R>)
-    requires few { workers ≤ 16 }
-    requires input { HasInput R.remaining reader J.input J.read_failures }
-    requires settings { GoesBy settings.now J.room J.forwarding (length J.before) }
-{
-    let Some(opened) = open_rings::<J>(alloc, settings) else {
-        return (sink, Fed::unread(reader, RunFault::Memory));
-    };
-    let Opened {
-        fabric,
-        hand,
-        items,
-    } = opened;
-    match fill(rt, &fabric, hand, items) {
-        Ok(hand) => pass(
-            rt, alloc, gate, workers, &fabric, hand, reader, sink, settings,
-        ),
-        Err(ring) => {
-            let fed = Fed::unread(reader, RunFault::Memory);
-            (sink, fed.with(Err(ring)))
-        }
-    }
-}
-
-/// The same from the first record on: nothing was told yet, and each writer has a file header to tell.
-fn run_started<
-    J: Run + Send + Sync,
-    G: Gate + Sync,
-    R: Read + Send + Drop,
-    W: Write + Drop,
-    T: Threads + Wait + Sync,
->(
-    rt: &T,
-    alloc: Global,
-    gate: &G,
-    workers: usize,
-    reader: Reader<R>,
-    outputs: Outputs<W>,
-    spare: Vec<Counted<W>>,
-    settings: &Settings,
-) -> (
-    Option<Counted<R>>,
-    Vec<Counted<W>>,
-    Result<Summary, RunFault>,
-)
-    requires few { workers ≤ 16 }
-    requires input { HasInput R.remaining reader J.input J.read_failures }
-    requires settings { GoesBy settings.now J.room J.forwarding (length J.before) }
-    requires outputs { AreReady W.contents outputs spare.items (vec_capacity spare) J.before J.failures J.resolution }
-    ensures many { vec_len result.1 ≡ length J.before }
-    ensures here { result.0 ≡ None → result.2 ≡ Err Thread }
-    ensures outputs { OnOk result.2 ((all : List Fate) → fates_of J.forwarding J.room J.input ≡ Some all
-        → AreOutputs W.contents J.before J.resolution all result.1.items) }
-    ensures begun { (all : List Fate) → fates_of J.forwarding J.room J.input ≡ Some all
-        → AreBeginnings W.contents J.before J.resolution all result.1.items }
-    ensures counts { IfOk result.2 (Sums J.input (length J.before) J.room J.forwarding) }
-    ensures why { IfErr result.2 (WhyEnded J.input J.failures J.read_failures result.0 result.1.items) }
-{
-    let sink: Sink<J, W> = match Sink::new(alloc, settings.buffers as usize, outputs) {
-        Ok(sink) => sink,
-        Err(outputs) => {
-            let devices = into_devices(outputs.writers, spare);
-            return (Some(reader.into_inner()), devices, Err(RunFault::Memory));
-        }
-    };
-    let (sink, fed) = over_rings(rt, alloc, gate, workers, reader, sink, settings);
-    let Fed { device, answer, .. } = fed;
-    let (devices, told) = end(sink, spare, answer);
-    (device, devices, told)
-}
+use std::thread::{self, JoinHandle, Scope, Threads};
+pub use worker::{Worked, work};
 
 /// Forwards the capture that `reader` has, as `run_one` does, by a reader, so many workers, each in a thread of its
 /// own, and the sink on the calling thread: each port's device is told what `run_one` tells it, and the counts are the
@@ -265,9 +78,9 @@ pub fn run_threads<
     Vec<Counted<W>>,
     Result<Summary, RunFault>,
 )
-    requires few { workers ≤ 16 }
+    requires at_most { workers ≤ 16 }
     requires ports { vec_len writers ≡ vec_len settings.now.ports.sources }
-    ensures many { vec_len result.1 ≡ vec_len writers }
+    ensures length { vec_len result.1 ≡ vec_len writers }
     ensures here { result.0 ≡ None → result.2 ≡ Err Thread }
     ensures run { IfOk result.2 (λ summary. IfSome (to_come R.remaining reader) (λ bytes.
         IsRun W.contents settings.now bytes writers.items result.1.items summary)) }
@@ -275,7 +88,7 @@ pub fn run_threads<
         IsBegun W.contents settings.now bytes writers.items result.1.items) }
     ensures untouched { IfSome (to_come R.remaining reader) (λ bytes.
         IsUntouched W.contents settings.now bytes writers.items result.1.items) }
-    ensures why { IfErr result.2 (WhyNoSummaryOfThreads R.remaining reader result.0 writers.items result.1.items) }
+    ensures cause { IfErr result.2 (WhyNoSummaryOfThreads R.remaining reader result.0 writers.items result.1.items) }
 {
     let reader = match Reader::open(alloc, reader) {
         Ok(reader) => reader,
@@ -287,4 +100,276 @@ pub fn run_threads<
         ),
         Err(writers) => (Some(reader.into_inner()), writers, Err(RunFault::Memory)),
     }
+}
+
+/// The same from the first record on: nothing was told yet, and each writer has a file header to tell.
+fn run_started<
+    J: Run + Send + Sync,
+    G: Gate + Sync,
+    R: Read + Send + Drop,
+    W: Write + Drop,
+    T: Threads + Wait + Sync,
+>(
+    rt: &T,
+    alloc: Global,
+    gate: &G,
+    workers: usize,
+    reader: Reader<R>,
+    outputs: Outputs<W>,
+    spare: Vec<Counted<W>>,
+    settings: &Settings,
+) -> (
+    Option<Counted<R>>,
+    Vec<Counted<W>>,
+    Result<Summary, RunFault>,
+)
+    requires at_most { workers ≤ 16 }
+    requires input { HasInput R.remaining reader J.input J.read_failures }
+    requires settings { GoesBy settings.now J.room J.forwarding (length J.before) }
+    requires outputs { AreReady W.contents outputs spare.items (vec_capacity spare) J.before J.failures J.resolution }
+    ensures length { vec_len result.1 ≡ length J.before }
+    ensures here { result.0 ≡ None → result.2 ≡ Err Thread }
+    ensures outputs { OnOk result.2 ((all : List Fate) → fates_of J.forwarding J.room J.input ≡ Some all
+        → AreOutputs W.contents J.before J.resolution all result.1.items) }
+    ensures begun { (all : List Fate) → fates_of J.forwarding J.room J.input ≡ Some all
+        → AreBeginnings W.contents J.before J.resolution all result.1.items }
+    ensures counts { IfOk result.2 (Sums J.input (length J.before) J.room J.forwarding) }
+    ensures cause { IfErr result.2 (WhyEnded J.input J.failures J.read_failures result.0 result.1.items) }
+{
+    let sink: Sink<J, W> = match Sink::new(alloc, settings.buffers as usize, outputs) {
+        Ok(sink) => sink,
+        Err(outputs) => {
+            let devices = into_devices(outputs.writers, spare);
+            return (Some(reader.into_inner()), devices, Err(RunFault::Memory));
+        }
+    };
+    let (sink, outcome) = over_rings(rt, alloc, gate, workers, reader, sink, settings);
+    let ReaderOutcome { device, answer, .. } = outcome;
+    let (devices, told) = end(sink, spare, answer);
+    (device, devices, told)
+}
+
+/// The same, over rings of its own.
+fn over_rings<
+    J: Run + Send + Sync,
+    G: Gate + Sync,
+    R: Read + Send + Drop,
+    W: Write + Drop,
+    T: Threads + Wait + Sync,
+>(
+    rt: &T,
+    alloc: Global,
+    gate: &G,
+    workers: usize,
+    reader: Reader<R>,
+    sink: Sink<J, W>,
+    settings: &Settings,
+) -> (Sink<J, W>, ReaderOutcome<J, R>)
+    requires at_most { workers ≤ 16 }
+    requires input { HasInput R.remaining reader J.input J.read_failures }
+    requires settings { GoesBy settings.now J.room J.forwarding (length J.before) }
+{
+    let Some(opened) = open_rings::<J>(alloc, settings) else {
+        return (sink, ReaderOutcome::unread(reader, RunFault::Memory));
+    };
+    let Opened {
+        fabric,
+        hand,
+        items,
+    } = opened;
+    match fill(rt, &fabric, hand, items) {
+        Ok(hand) => run_stages(
+            rt, alloc, gate, workers, &fabric, hand, reader, sink, settings,
+        ),
+        Err(fault) => {
+            let outcome = ReaderOutcome::unread(reader, RunFault::Memory);
+            (sink, outcome.with(Err(fault)))
+        }
+    }
+}
+
+/// The threads of a run, over rings on which all segments are free.
+fn run_stages<
+    J: Run + Send + Sync,
+    G: Gate + Sync,
+    R: Read + Send + Drop,
+    W: Write + Drop,
+    T: Threads + Wait + Sync,
+>(
+    rt: &T,
+    alloc: Global,
+    gate: &G,
+    workers: usize,
+    f: &Fabric<Packet<J>, SPAN>,
+    hand: Hand<Packet<J>>,
+    reader: Reader<R>,
+    sink: Sink<J, W>,
+    settings: &Settings,
+) -> (Sink<J, W>, ReaderOutcome<J, R>)
+    requires hand { IsHandOf f.now hand }
+    requires rings { AreRings (rings_of f.now) }
+    requires at_most { workers ≤ 16 }
+    requires input { HasInput R.remaining reader J.input J.read_failures }
+    requires settings { GoesBy settings.now J.room J.forwarding (length J.before) }
+{
+    thread::scope(
+        thread::scope_env(),
+        rt,
+        move |scope| -> (Sink<J, W>, ReaderOutcome<J, R>)
+            requires { IsHandOf f.now hand × AreRings (rings_of f.now) × (workers ≤ 16)
+                × HasInput R.remaining reader J.input J.read_failures
+                × GoesBy settings.now J.room J.forwarding (length J.before) }
+        {
+            let mut sink = sink;
+            let hand = match start_workers(scope, rt, alloc, gate, workers, f, hand, settings) {
+                Ok(hand) => hand,
+                Err((hand, started, fault)) => {
+                    let sink = call_off(rt, f, hand, sink, started, settings);
+                    return (sink, ReaderOutcome::unread(reader, fault));
+                }
+            };
+            let (mine, other) = match hand.split(alloc, f) {
+                Ok(both) => both,
+                Err((back, _)) => {
+                    let sink = call_off(rt, f, back, sink, workers, settings);
+                    return (sink, ReaderOutcome::unread(reader, RunFault::Memory));
+                }
+            };
+            let Some(thread) = start_reader(scope, rt, f, other, reader, workers, settings) else {
+                let sink = call_off(rt, f, mine, sink, workers, settings);
+                return (sink, ReaderOutcome::lost());
+            };
+            let mut ring_port = RingPort::new(f, mine, settings.cache as usize);
+            let (burst, room) = (settings.burst as usize, settings.room as usize);
+            let drained = drain(rt, &mut ring_port, &mut sink, workers, burst, room);
+            (sink, thread.join(rt).with(drained))
+        },
+    )
+}
+
+/// Starts the workers, each with a hand of its own. Where one can't be started, the hand comes back with the number of
+/// those that were.
+fn start_workers<
+    's,
+    E: 's,
+    J: Run + Send + Sync + 's,
+    G: Gate + Sync + 's,
+    T: Threads + Wait + Sync + 's,
+>(
+    scope: &Scope<'s, E>,
+    rt: &'s T,
+    alloc: Global,
+    gate: &'s G,
+    workers: usize,
+    f: &'s Fabric<Packet<J>, SPAN>,
+    mut hand: Hand<Packet<J>>,
+    settings: &'s Settings,
+) -> Result<Hand<Packet<J>>, (Hand<Packet<J>>, usize, RunFault)>
+    requires hand { IsHandOf f.now hand }
+    requires rings { AreRings (rings_of f.now) }
+    requires settings { GoesBy settings.now J.room J.forwarding (length J.before) }
+    ensures ok { IfOk result (λ hand. IsHandOf f.now hand) }
+    ensures err { IfErr result (λ e. IsHandOf f.now e.0 × (e.1 ≤ workers) × ((e.2 ≡ Memory) ⊎ (e.2 ≡ Thread))) }
+{
+    for started in 0..workers {
+        let (mine, other) = match hand.split(alloc, f) {
+            Ok(both) => both,
+            Err((back, _)) => return Err((back, started, RunFault::Memory)),
+        };
+        hand = mine;
+        if !start_worker(scope, rt, gate, f, other, settings) {
+            return Err((hand, started, RunFault::Thread));
+        }
+    }
+    Ok(hand)
+}
+
+/// Starts a worker in a thread of its own. Answers whether the thread could be started.
+fn start_worker<
+    's,
+    E: 's,
+    J: Run + Send + Sync + 's,
+    G: Gate + Sync + 's,
+    T: Threads + Wait + Sync + 's,
+>(
+    scope: &Scope<'s, E>,
+    rt: &'s T,
+    gate: &'s G,
+    f: &'s Fabric<Packet<J>, SPAN>,
+    hand: Hand<Packet<J>>,
+    settings: &'s Settings,
+) -> bool
+    requires hand { IsHandOf f.now hand }
+    requires rings { AreRings (rings_of f.now) }
+    requires settings { GoesBy settings.now J.room J.forwarding (length J.before) }
+{
+    let burst = settings.burst as usize;
+    let worker = scope.spawn(
+        move || -> Worked<Packet<J>>
+            requires { IsHandOf f.now hand × AreRings (rings_of f.now)
+                × GoesBy settings.now J.room J.forwarding (length J.before) × (0 < burst) × (burst ≤ 64) }
+        { work(rt, gate, f, hand, burst, &settings.table, &settings.ports) },
+    );
+    worker.is_ok()
+}
+
+/// Starts the reader in a thread of its own. None where the thread couldn't be started; the reader is then lost.
+fn start_reader<
+    's,
+    E: 's,
+    J: Run + Send + Sync + 's,
+    R: Read + Send + Drop + 's,
+    T: Threads + Wait + Sync + 's,
+>(
+    scope: &Scope<'s, E>,
+    rt: &'s T,
+    f: &'s Fabric<Packet<J>, SPAN>,
+    hand: Hand<Packet<J>>,
+    reader: Reader<R>,
+    workers: usize,
+    settings: &'s Settings,
+) -> Option<JoinHandle<ReaderOutcome<J, R>>>
+    requires hand { IsHandOf f.now hand }
+    requires rings { AreRings (rings_of f.now) }
+    requires at_most { workers ≤ 16 }
+    requires input { HasInput R.remaining reader J.input J.read_failures }
+    requires settings { GoesBy settings.now J.room J.forwarding (length J.before) }
+{
+    let reader = scope.spawn(
+        move || -> ReaderOutcome<J, R>
+            requires { IsHandOf f.now hand × AreRings (rings_of f.now) × (workers ≤ 16)
+                × HasInput R.remaining reader J.input J.read_failures
+                × GoesBy settings.now J.room J.forwarding (length J.before) }
+        {
+            let ring_port = RingPort::new(f, hand, settings.cache as usize);
+            feed(rt, ring_port, reader, workers, settings)
+        },
+    );
+    reader.ok()
+}
+
+/// Ends the workers that were started, where a further thread couldn't be: each gets an end mark, and what comes of
+/// them is taken.
+fn call_off<J: Run, W: Write + Drop, T: Wait>(
+    rt: &T,
+    f: &Fabric<Packet<J>, SPAN>,
+    hand: Hand<Packet<J>>,
+    mut sink: Sink<J, W>,
+    started: usize,
+    settings: &Settings,
+) -> Sink<J, W>
+    requires hand { IsHandOf f.now hand }
+    requires rings { AreRings (rings_of f.now) }
+    requires at_most { started ≤ 16 }
+    requires room { settings.now.room ≡ J.room }
+{
+    let mut ring_port = RingPort::new(f, hand, settings.cache as usize);
+    let mut none = Burst::<Packet<J>, SPAN>::new();
+    let sent = dismiss(rt, &mut ring_port, &mut none, started);
+    if sent.is_ok() {
+        let burst = settings.burst as usize;
+        let room = settings.room as usize;
+        let _told = drain(rt, &mut ring_port, &mut sink, started, burst, room);
+    }
+    sink
 }

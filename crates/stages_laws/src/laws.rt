@@ -8,7 +8,7 @@ ghost use Rattle.stages_laws.specs.Rows.{by_first, always, packet, packet_of_len
 
 /// Parts add up: where the records of an input are those of two inputs, one after the other, each port is told the
 /// records of the two outputs, one after the other, and the counts are the sums of the two runs' counts.
-pub fn parts_add_up()
+pub fn runs_add_up()
     ensures records { (forwarding : Forwarding) (room port : ℕ) (first then : List Packet)
         → records_at port (fates forwarding room (first ++ then))
         ≡ records_at port (fates forwarding room first) ++ records_at port (fates forwarding room then) }

@@ -4,5 +4,5 @@
 mod laws;
 mod run;
 
-pub use laws::{parts_add_up, worked_outputs};
+pub use laws::{runs_add_up, worked_outputs};
 pub use run::Run;

@@ -5,7 +5,7 @@ use Rattle.std.specs.Prelude.{IsTrue, is_some, if◌then◌else◌}
 use Rattle.std.proofs.lemmas.List.{append-nil}
 use Rattle.ringcore.specs.declared.world.World.{World}
 use Rattle.ringcore.specs.Histories.{History}
-use Rattle.command_file.specs.Text.{Bytes, words_of, is_skipped}
+use Rattle.command_file.specs.Text.{Bytes, words_of, is_blank_or_comment}
 use Rattle.command_file.specs.Files.{state_past, state_after, replies_at, left_by, IsAnsweredTo}
 use Rattle.command_file.proofs.Runs.{line_at, back_to}
 use Rattle.steps_file.specs.Forms.{form_of}
@@ -70,7 +70,7 @@ unopened_before : (s : State) (lines : List Bytes) → (state_after steps_file s
 unopened_before s [] none = none
 unopened_before s (line ∷ lines) none =
     let words = words_of line in
-    (unopened_line s (is_skipped words) (form_of words) (unopened_before (state_past steps_file s words) lines none)).0
+    (unopened_line s (is_blank_or_comment words) (form_of words) (unopened_before (state_past steps_file s words) lines none)).0
 
 no_replies : (s : State) (lines : List Bytes) → (state_after steps_file s lines).run ≡ None
     → replies_at steps_file s lines ≡ []
@@ -78,7 +78,7 @@ no_replies s [] none = refl
 no_replies s (line ∷ lines) none =
     let words = words_of line in
     let next = state_past steps_file s words in
-    ap₂ (λ xs ys. xs ++ ys) (unopened_line s (is_skipped words) (form_of words) (unopened_before next lines none)).1
+    ap₂ (λ xs ys. xs ++ ys) (unopened_line s (is_blank_or_comment words) (form_of words) (unopened_before next lines none)).1
     (no_replies next lines none)
 
 pub none_replied : (lines : List Bytes) (k : ℕ) (old out : Bytes) → IsAnsweredTo steps_file k lines old out
@@ -88,9 +88,9 @@ none_replied lines k old out so_far none =
 
 -- what a definition says of a line that isn't skipped
 pub unskipped : {A : Type 0} (a : A) (g : Option Command → A) (words read : List Bytes) (command : Option Command)
-    → read ≡ words → is_skipped read ≡ false → command ≡ form_of read
-    → (if is_skipped words then a else g (form_of words)) ≡ g command
+    → read ≡ words → is_blank_or_comment read ≡ false → command ≡ form_of read
+    → (if is_blank_or_comment words then a else g (form_of words)) ≡ g command
 unskipped a g words read command same not_skipped is =
-    ap (λ (ws : List Bytes). if is_skipped ws then a else g (form_of ws)) (sym same)
+    ap (λ (ws : List Bytes). if is_blank_or_comment ws then a else g (form_of ws)) (sym same)
     ∙ ap (λ b. if b then a else g (form_of read)) not_skipped
     ∙ ap g (sym is)

@@ -6,7 +6,7 @@ use Rattle.std.proofs.lemmas.List.Elements.{All-cons}
 use Rattle.std.specs.List.{list_all}
 use Rattle.std.proofs.lemmas.List.Splits.{slice_split_none}
 use Rattle.ringcore_laws.specs.declared.contents.Item.TheVariants.{Buffers}
-use Rattle.command_file.specs.Text.{Bytes, number_of, is_digits, is_digit, has_up_to, digits_value}
+use Rattle.command_file.specs.Text.{Bytes, number_of, is_digits, is_digit, len_is_1_to, digits_value}
 use Rattle.std.specs.Option.{option_map}
 use Rattle.steps_file.specs.Forms.{buffers_of, signs_part, each_of, with_first}
 
@@ -32,7 +32,7 @@ pub lone : (digits : Bytes) (n : ℕ) → number_of digits ≡ Some n → buffer
 lone digits n here =
     let told = passed (is_digits digits && nat_lt (digits_value digits) (2 ^ 64)) (digits_value digits) n here in
     let sized = both (is_digits digits) (nat_lt (digits_value digits) (2 ^ 64)) told.0 in
-    let all = both (has_up_to 20 digits) (list_all is_digit digits) sized.0 in
+    let all = both (len_is_1_to 20 digits) (list_all is_digit digits) sized.0 in
     let one : signs_part digits ≡ digits ∷ [] = slice_split_none (λ b. b == 43) digits (no_signs digits all.1) in
     ap (λ parts. if nat_le (length parts) 64 then option_map Buffers (each_of number_of parts) else None) one
     ∙ ap (λ first. option_map Buffers (with_first first (Some []))) here

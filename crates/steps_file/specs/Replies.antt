@@ -22,7 +22,7 @@ use Rattle.ringcore_laws.specs.declared.protocol.Place.TheVariants.{AtRing, Held
 use Rattle.ringcore_laws.specs.History.{reply_to}
 use Rattle.ringcore_laws.specs.Place.{place}
 use Rattle.ringcore.specs.Histories.{History, actors_of, pool_size, followed_by}
-use Rattle.command_file.specs.Text.{Bytes, is_skipped}
+use Rattle.command_file.specs.Text.{Bytes, is_blank_or_comment}
 use Rattle.command_file.specs.Files.{Kind, left_by, words_at, AreAdmitted}
 use Rattle.steps_file.specs.Forms.{form_of}
 use Rattle.steps_file.specs.Plans.{Named, nothing_named, with_line, opened, IsLawful}
@@ -166,7 +166,7 @@ is_step (Some (Act actor step)) = true
 is_step (Some (Ask b)) = true
 
 abbrev pub judges : List Bytes → Bool
-judges words = if is_skipped words then false else is_step (form_of words)
+judges words = if is_blank_or_comment words then false else is_step (form_of words)
 
 -- if a step line is among the first k lines, the plan is lawful
 abbrev pub IsJudgedBy : ℕ → List Bytes → Type 0

@@ -9,7 +9,7 @@ ghost use Rattle.steps_file.specs.Standing.{Keeps, PlanRefused};
 
 use crate::command::Command;
 use crate::stage::Stage;
-use command_file::{TextFault, is_skipped, split_words};
+use command_file::{TextFault, is_blank_or_comment, split_words};
 use std::alloc::Global;
 
 /// Answers the line of this number, whose words go into `words`.
@@ -37,7 +37,7 @@ pub fn answer_line<'a>(
         → IsTrue (judges (words_of line.now)) × PlanRefused s }
 {
     split_words(line, words).map_err(|_| TextFault::Memory)?;
-    if is_skipped(words.as_slice()) {
+    if is_blank_or_comment(words.as_slice()) {
         return Ok(());
     }
     let Ok(command) = Command::parse(alloc, words.as_slice()) else {

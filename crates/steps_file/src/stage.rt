@@ -100,7 +100,7 @@ impl Stage {
         let Some(world) = &mut self.world else {
             unreachable!()
         };
-        if !world.knows(actor, &step) {
+        if !world.has(actor, &step) {
             return Err(TextFault::BadLine(number));
         }
         let rings = self.draft.rings.as_slice();

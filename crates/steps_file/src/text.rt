@@ -8,7 +8,7 @@ ghost use Rattle.steps_file.specs.Replies.{steps_file, IsJudgedBy, IsJudgedAt, I
 
 use crate::line::answer_line;
 use crate::stage::Stage;
-use command_file::{TextFault, without_return};
+use command_file::{TextFault, strip_carriage_return};
 use std::alloc::Global;
 
 /// Appends the replies to a steps file to `out`: first the lines of its plan, and then steps of actors and questions
@@ -42,7 +42,7 @@ pub fn steps_text(alloc: Global, bytes: &[u8], out: &mut Vec<u8>) -> Result<(), 
             alloc,
             &mut stage,
             number,
-            without_return(line),
+            strip_carriage_return(line),
             &mut words,
             &mut reply,
         )?;

@@ -2,7 +2,7 @@
 
 use super::starved::Starved;
 use super::{run_apart, words_of};
-use cli::{out_of_memory, program};
+use cli::{program, report_out_of_memory};
 use oom::{exhaust_memory, grow_stack};
 use std::fs;
 use std::io::{self, ErrorKind, Read, Write};
@@ -64,7 +64,7 @@ impl Read for Refused {
 #[test]
 fn no_memory_for_the_words(rt: HostRuntime) -> Result<(), Fail> {
     let mut err = Vec::new(rt.alloc());
-    assert_eq!(rt; out_of_memory(&mut err), 1);
+    assert_eq!(rt; report_out_of_memory(&mut err), 1);
     assert_eq!(rt; err.as_slice(), b"pktkit: memory\n".as_slice());
     Ok(())
 }

@@ -286,7 +286,7 @@ fn round<R: Wait>(
     ensures { IfOk result (λ h. IsHandOf f.now h) }
 {
     let (hand, (a, b)) = hands;
-    let hand = f.learn(hand);
+    let hand = hand.observe(f);
     if buffers > FEW {
         let hand = by_calls(rt, f, hand.join(f, a))?;
         let hand = by_cache(rt, f, hand, 2)?;

@@ -3,7 +3,8 @@
 use super::Ticket;
 use super::openings::{plans, tickets};
 use burst::Burst;
-use fabric::{Fabric, Opened, send_and_close};
+use crate::send_and_close;
+use fabric::{Fabric, Opened};
 use std::alloc::Global;
 use std::test::Fail;
 

@@ -6,12 +6,12 @@ ghost use Rattle.fabric.specs.Hands.{IsHandOf, put_fabric, rings_of, take_fabric
 use super::Ticket;
 use super::rings::{FIRST, Items, MOST, Rings, Wrong, shows};
 use burst::Burst;
-use fabric::{Hand, PutOpen, SettleFault, StartFault, TakeSpan};
-use geom::{How, RESERVED};
+use fabric::{Hand, PutOpen, SettleFault, StartFault, TakeOpenLent};
+use geom::{How, RESERVED_RANGE};
 
 /// The word of a head/tail-sync side that is settled up to a position, with so many more reserved.
 pub(super) fn word(position: u64, reserved: u64) -> u64 {
-    position.wrapping_mul(RESERVED).wrapping_add(reserved)
+    position.wrapping_mul(RESERVED_RANGE).wrapping_add(reserved)
 }
 
 /// Whether a hand has the buffers 0 and 1 alone.
@@ -87,7 +87,7 @@ pub(super) fn open_take<'f>(
     hand: Hand<Ticket>,
     n: usize,
     at: (u64, u64),
-) -> Result<(TakeSpan<'f, Ticket, MOST>, Items), Wrong>
+) -> Result<(TakeOpenLent<'f, Ticket, MOST>, Items), Wrong>
     requires hand { IsHandOf f.now hand }
     requires rings { 2 < length (rings_of f.now) }
     ensures { IfOk result (λ o. (take_fabric o.0 ≡ f.now) × (o.1 ≡ (take_view o.0).shown)) }
@@ -140,11 +140,11 @@ pub(super) fn settled<'f>(
 /// A settle of a take that is refused for this reason: the span comes back, and the list as it was.
 pub(super) fn refused_taking<'f>(
     f: &Rings,
-    span: TakeSpan<'f, Ticket, MOST>,
+    span: TakeOpenLent<'f, Ticket, MOST>,
     mut list: Items,
     n: usize,
     why: SettleFault,
-) -> Result<(TakeSpan<'f, Ticket, MOST>, Items), Wrong>
+) -> Result<(TakeOpenLent<'f, Ticket, MOST>, Items), Wrong>
     requires span { take_fabric span ≡ f.now }
     requires shows { list ≡ (take_view span).shown }
     ensures { IfOk result (λ o. (take_fabric o.0 ≡ f.now) × (o.1 ≡ (take_view o.0).shown)) }
@@ -161,7 +161,7 @@ pub(super) fn refused_taking<'f>(
 /// Settles a take with the first items, which have to be of these numbers.
 pub(super) fn settled_take<'f>(
     f: &Rings,
-    span: TakeSpan<'f, Ticket, MOST>,
+    span: TakeOpenLent<'f, Ticket, MOST>,
     mut list: Items,
     numbers: &[u32],
 ) -> Result<Hand<Ticket>, Wrong>

@@ -5,7 +5,7 @@ ghost use Rattle.fabric.specs.Hands.{IsHandOf, put_fabric, rings_of, take_fabric
 
 use super::Ticket;
 use super::rings::{Items, MOST, Rings};
-use fabric::{Hand, PutOpen, TakeSpan};
+use fabric::{Hand, PutOpen, TakeOpenLent};
 use geom::How;
 use std::thread;
 
@@ -25,7 +25,7 @@ fn has_turn(turns: &mut u64) -> bool {
 /// Settles a take with all that was reserved.
 fn taken<'f>(
     f: &Rings,
-    mut span: TakeSpan<'f, Ticket, MOST>,
+    mut span: TakeOpenLent<'f, Ticket, MOST>,
     list: &mut Items,
     turns: &mut u64,
 ) -> Option<Hand<Ticket>>

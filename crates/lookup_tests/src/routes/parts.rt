@@ -5,7 +5,7 @@ ghost use Rattle.lpm.specs.Prefixes.{first_bits, size_of};
 
 /// The number that an address's first `bits` bits make.
 pub fn first_of(address: u32, bits: u8) -> u32
-    requires some { 0 < bits }
+    requires nonzero { 0 < bits }
     requires most { bits ≤ 32 }
     ensures value { result ≡ first_bits address bits }
     ensures below { result < 2 ^ bits }
@@ -15,7 +15,7 @@ pub fn first_of(address: u32, bits: u8) -> u32
 
 /// The number that its other bits make.
 pub fn low_of(address: u32, bits: u8) -> u32
-    requires some { 0 < bits }
+    requires nonzero { 0 < bits }
     requires most { bits ≤ 32 }
     ensures value { result ≡ address % size_of bits }
     ensures below { result < size_of bits }

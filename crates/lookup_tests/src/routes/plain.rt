@@ -153,7 +153,7 @@ fn find(routes: &[(Prefix, u32)], prefix: Prefix) -> Option<u32>
 
 /// Whether the prefix is deeper than `bits` and has these first bits.
 fn shares(prefix: Prefix, bits: u8, first: u32) -> bool
-    requires some { 0 < bits }
+    requires nonzero { 0 < bits }
     requires most { bits ≤ 32 }
     ensures { result ≡ (nat_lt bits prefix.depth && nat_eq (first_bits prefix.address bits) first) }
 {
@@ -162,7 +162,7 @@ fn shares(prefix: Prefix, bits: u8, first: u32) -> bool
 
 /// Whether a route deeper than `bits` has these first bits.
 fn has_first(routes: &[(Prefix, u32)], bits: u8, first: u32) -> bool
-    requires some { 0 < bits }
+    requires nonzero { 0 < bits }
     requires most { bits ≤ 32 }
     ensures { result ≡ set.contains (listed_firsts bits routes.now) first }
 {
@@ -176,7 +176,7 @@ fn has_first(routes: &[(Prefix, u32)], bits: u8, first: u32) -> bool
 
 /// Whether the prefix is deeper than `bits` and no route deeper than `bits` has its first bits.
 fn needs_own(prefix: Prefix, routes: &[(Prefix, u32)], bits: u8) -> bool
-    requires some { 0 < bits }
+    requires nonzero { 0 < bits }
     requires most { bits ≤ 32 }
     ensures { result ≡ (nat_lt bits prefix.depth
         && not (set.contains (listed_firsts bits routes.now) (first_bits prefix.address bits))) }
@@ -186,7 +186,7 @@ fn needs_own(prefix: Prefix, routes: &[(Prefix, u32)], bits: u8) -> bool
 
 /// How many different first bits the routes deeper than `bits` have.
 fn count_firsts(routes: &[(Prefix, u32)], bits: u8) -> usize
-    requires some { 0 < bits }
+    requires nonzero { 0 < bits }
     requires most { bits ≤ 32 }
     ensures value { result ≡ set.len (listed_firsts bits routes.now) }
     ensures within { result ≤ length routes.now }

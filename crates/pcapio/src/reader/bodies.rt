@@ -9,13 +9,13 @@ ghost use Rattle.pcapio.specs.Reader.{rest, stage_of, source_of, pending_of, IsR
 ghost use Rattle.pcapio.specs.Reader.{Takes, TakesBody, TakesPending, LeavesTorn, EndsTorn, FindsEnd};
 ghost use Rattle.pcapio.specs.Reader.{WhyNoRecord, WhyNoBytes};
 ghost use Rattle.pcapio.specs.Record.{view};
-ghost use Rattle.pcapio.specs.Stage.{after_bytes};
-ghost use Rattle.pcapio.specs.declared.stage.Stage.TheVariants.{Between, Ended, Faulted};
+ghost use Rattle.pcapio.specs.ReaderState.{after_bytes};
+ghost use Rattle.pcapio.specs.declared.reader_state.ReaderState.TheVariants.{Between, Ended, Faulted};
 
 use crate::counted::Failed;
 use crate::reader::Reader;
+use crate::reader_state::ReaderState;
 use crate::record::{HEAD, Head, Record};
-use crate::stage::Stage;
 use crate::stream::read_body;
 use mbuf::Chain;
 use pcapio_laws::CapFault;
@@ -33,7 +33,7 @@ impl<R: Read> Reader<R> {
         ensures record { OnAll result ((bytes : List ℕ) × TakesBody R.remaining self.old self.new bytes) }
         ensures torn { OnCut result (EndsTorn R.remaining self.old) }
         ensures stage { IfOk result (λ all. stage_of self.new ≡ after_bytes all) }
-        ensures well { OnOk result (HasNotFailed (source_of self.old) (source_of self.new)) }
+        ensures no_failure { OnOk result (HasNotFailed (source_of self.old) (source_of self.new)) }
         ensures fault { IfErr result (λ fault. fault ≡ CapFault.Read) }
         ensures given_up { OnErr result (stage_of self.new ≡ Faulted CapFault.Read) }
         ensures failed { OnErr result (Fails self.old self.new) }
@@ -57,7 +57,7 @@ impl<R: Read> Reader<R> {
         ensures record { OnAll result (TakesBody R.remaining self.old self.new (bytes_of chain.new)) }
         ensures torn { OnCut result (EndsTorn R.remaining self.old) }
         ensures stage { IfOk result (λ all. stage_of self.new ≡ after_bytes all) }
-        ensures well { OnOk result (HasNotFailed (source_of self.old) (source_of self.new)) }
+        ensures no_failure { OnOk result (HasNotFailed (source_of self.old) (source_of self.new)) }
         ensures fault { IfErr result (λ fault. fault ≡ CapFault.Read) }
         ensures given_up { OnErr result (stage_of self.new ≡ Faulted CapFault.Read) }
         ensures failed { OnErr result (Fails self.old self.new) }
@@ -85,9 +85,9 @@ impl<R: Read> Reader<R> {
         ensures between { IfOk result (λ found. OnSome found (stage_of self.new ≡ Between)) }
         ensures end { IsReading self.old → IfOk result (λ it. IfNone it (FindsEnd R.remaining self.old self.new)) }
         ensures ended { (torn : Bool) → stage_of self.old ≡ Ended torn → (result ≡ Ok None) × (self.new ≡ self.old) }
-        ensures well { OnOk result (HasNotFailed (source_of self.old) (source_of self.new)) }
+        ensures no_failure { OnOk result (HasNotFailed (source_of self.old) (source_of self.new)) }
         ensures fault { IfErr result (λ fault. stage_of self.new ≡ Faulted fault) }
-        ensures why { IsReading self.old → IfErr result (WhyNoRecord R.remaining self.old self.new) }
+        ensures cause { IsReading self.old → IfErr result (WhyNoRecord R.remaining self.old self.new) }
         ensures stays { (f : CapFault) → stage_of self.old ≡ Faulted f → (result ≡ Err f) × (self.new ≡ self.old) }
     {
         let Some(_) = self.head()? else {
@@ -105,9 +105,9 @@ impl<R: Read> Reader<R> {
         ensures between { IfOk result (λ found. OnSome found (stage_of self.new ≡ Between)) }
         ensures torn { IfOk result (λ it. IfNone it (EndsTorn R.remaining self.old)) }
         ensures ended { IfOk result (λ found. IfNone found (stage_of self.new ≡ Ended true)) }
-        ensures well { OnOk result (HasNotFailed (source_of self.old) (source_of self.new)) }
+        ensures no_failure { OnOk result (HasNotFailed (source_of self.old) (source_of self.new)) }
         ensures fault { IfErr result (λ fault. stage_of self.new ≡ Faulted fault) }
-        ensures why { IfErr result (WhyNoBytes self.old self.new) }
+        ensures cause { IfErr result (WhyNoBytes self.old self.new) }
     {
         let head = self.take_head();
         let Ok(mut bytes) = zeros(alloc, head.captured as usize) else {
@@ -116,7 +116,7 @@ impl<R: Read> Reader<R> {
         match self.ahead.fill(&mut self.device, bytes.as_mut_slice()) {
             Err(Failed) => Err(self.give_up(CapFault::Read)),
             Ok(false) => {
-                self.stage = Stage::Ended(true);
+                self.stage = ReaderState::Ended(true);
                 Ok(None)
             }
             Ok(true) => Ok(Some(Record {
@@ -138,10 +138,10 @@ impl<R: Read> Reader<R> {
         ensures stage { stage_of self.new ≡ Between }
         ensures file { IsSameFile self.old self.new }
     {
-        let Stage::Pending(head) = self.stage else {
+        let ReaderState::Pending(head) = self.stage else {
             unreachable!();
         };
-        self.stage = Stage::Between;
+        self.stage = ReaderState::Between;
         self.ahead.consume(HEAD);
         head
     }
@@ -155,9 +155,9 @@ impl<R: Read> Reader<R> {
         ensures rest { rest R.remaining self.new ≡ rest R.remaining self.old }
     {
         self.stage = if all {
-            Stage::Between
+            ReaderState::Between
         } else {
-            Stage::Ended(true)
+            ReaderState::Ended(true)
         };
         all
     }

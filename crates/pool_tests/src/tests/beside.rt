@@ -27,8 +27,8 @@ fn two_rings(alloc: Global) -> Result<Opened<Ticket, MOST>, Fail>
         return Err("a geometry".into());
     };
     let mut rings = Vec::new(alloc);
-    rings.push(RingPlan::alike(wide, Mode::Multi, true))?;
-    rings.push(RingPlan::alike(short, Mode::Multi, false))?;
+    rings.push(RingPlan::same_mode(wide, Mode::Multi, true))?;
+    rings.push(RingPlan::same_mode(short, Mode::Multi, false))?;
     let mut tickets = Vec::new(alloc);
     for number in 0..10 {
         tickets.push(Ticket { number })?;

@@ -10,7 +10,7 @@ use ringcore_laws::{Item, Items, Numbers};
 use std::alloc::{AllocError, Global};
 
 /// How many buffers an item carries at most.
-const MAX_BUFFERS: usize = 64;
+const MAX_ITEM_BUFFERS: usize = 64;
 
 /// The numbers that these words are, if all of them are numbers.
 pub fn numbers_of(alloc: Global, words: &[&[u8]]) -> Result<Option<Numbers>, AllocError>
@@ -84,7 +84,7 @@ fn several_buffers(alloc: Global, digits: &[u8]) -> Result<Option<Item>, AllocEr
     ensures { IfOk result (λ item. item ≡ buffers_of digits.now) }
 {
     let parts = parts_of(alloc, digits)?;
-    if parts.len() > MAX_BUFFERS {
+    if parts.len() > MAX_ITEM_BUFFERS {
         return Ok(None);
     }
     let numbers = numbers_of(alloc, parts.as_slice())?;

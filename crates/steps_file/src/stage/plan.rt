@@ -10,8 +10,8 @@ use geom::RingPlan;
 use ringcore::{World, WorldFault, WorldPlan};
 use std::alloc::{AllocError, Global};
 
-/// How many buffers a world has at most.
-const MOST_BUFFERS: u64 = 65536;
+/// The most buffers, as buffers are numbered in a file.
+const MAX_BUFFERS: u64 = geom::MAX_BUFFERS as u64;
 
 /// What the plan lines so far name.
 #[derive(Drop)]
@@ -79,7 +79,7 @@ impl Draft {
 /// The one number of a list that has one.
 fn only(counts: &[u64]) -> Option<u64>
     ensures none { result ≡ None → ¬ (length counts.now ≡ 1) }
-    ensures some { IfSome result (λ n. (length counts.now ≡ 1) × (n ≡ slice_index counts.now 0)) }
+    ensures one { IfSome result (λ n. (length counts.now ≡ 1) × (n ≡ slice_index counts.now 0)) }
 {
     match counts {
         [n] => Some(*n),
@@ -104,7 +104,7 @@ fn opening_gifts(alloc: Global, gifts: &[(u64, u64)]) -> Result<Vec<usize>, Worl
     ensures bad { result ≡ Err WorldFault.BadPlan → AreGivenOnce gifts.now → buffer_count gifts.now ≤ 65536 → ⊥ }
 {
     let count = count_buffers(gifts);
-    if count > MOST_BUFFERS {
+    if count > MAX_BUFFERS {
         return Err(WorldFault::BadPlan);
     }
     let table = owner_table(alloc, gifts, count as usize)?;
@@ -118,7 +118,7 @@ fn count_buffers(gifts: &[(u64, u64)]) -> u64
 {
     let mut count = 0;
     for gift in gifts {
-        count = (gift.0.min(MOST_BUFFERS) + 1).max(count);
+        count = (gift.0.min(MAX_BUFFERS) + 1).max(count);
     }
     count
 }

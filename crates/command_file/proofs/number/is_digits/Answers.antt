@@ -10,4 +10,4 @@ returns-then-sized c =
     let all : c.all-digits.result ≡ list_all is_digit c.args.word.now =
     all_from_yields_List is_digit _ _ c.all-digits.result c.all-digits.ensures.ran (YieldsList-from_slice c.args.word.now c.iter.ensures.rest)
     (λ x b q k. search (rules, tests)) in
-    all ∙ ap (λ b. b && list_all is_digit c.args.word.now) (sym c.if-sized.true ∙ c.has_up_to-sized.ensures)
+    all ∙ ap (λ b. b && list_all is_digit c.args.word.now) (sym c.if-sized.true ∙ c.len_is_1_to-sized.ensures)

@@ -1,6 +1,6 @@
 use Rattle.std.proofs.Common.{[], ◌∷◌, ◌++◌, length-append, append_assoc, map, ap, ◌∙◌, rules, arith}
 use Rattle.pcapio.specs.Record.{view}
-use Rattle.pcapio.specs.Stage.{torn_of}
+use Rattle.pcapio.specs.ReaderState.{torn_of}
 use Rattle.pcapio.proofs.Runs.{records-more, ended, ended-bad, none-so, some-so, all-begin, explains-all, err-so, failed-later}
 use Rattle.pcapio.proofs.collect.collect_records.Goals as goal
 
@@ -14,11 +14,11 @@ returns-in_err-record-clause-part g c =
     let i = c.loop-count.invariant in
     (i.given, c.reserve.ensures.items ∙ i.added, all-begin _ _ _ _ i.stand)
 
-pub returns-in_err-record-clause-why : goal.returns-in_err-record-clause-why
-returns-in_err-record-clause-why g c =
+pub returns-in_err-record-clause-cause : goal.returns-in_err-record-clause-cause
+returns-in_err-record-clause-cause g c =
     let i = c.loop-count.invariant in
     err-so c.from_residual.result c.in_err-record.field-0.0 _ c.from_residual.ensures.1
-    (explains-all c.in_err-record.field-0.0 _ _ _ _ (c.in_err-record.ensures.why i.reading)
+    (explains-all c.in_err-record.field-0.0 _ _ _ _ (c.in_err-record.ensures.cause i.reading)
     (λ bad. ended-bad _ _ _ _ (map view i.given) i.order i.stand bad) (λ failed. failed-later _ _ _ i.no_read_failed failed))
 
 pub returns-in_default-2-clause-all : goal.returns-in_default-2-clause-all
@@ -45,5 +45,5 @@ loop-count-preserved g c =
       stand = records-more _ _ _ _ _ i.given r i.order i.stand took;
       order = c.in_ok-record.ensures.file.0 ∙ i.order;
       reading = search rules;
-      no_read_failed = c.in_ok-record.ensures.well ∙ i.no_read_failed;
+      no_read_failed = c.in_ok-record.ensures.no_failure ∙ i.no_read_failed;
     }

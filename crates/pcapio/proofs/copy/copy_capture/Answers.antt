@@ -9,12 +9,12 @@ use Rattle.pcapio.proofs.copy.copy_capture.Goals as goal
 pub returns-in-Err-clause-begins : goal.returns-in-Err-clause-begins
 returns-in-Err-clause-begins g c = untold _ _ (space_of c.args.chain.now)
 
-pub returns-in-Err-clause-why : goal.returns-in-Err-clause-why
-returns-in-Err-clause-why g c = not_opened c.in-Err.fault _ _ _ c.in-Err.ensures.why
+pub returns-in-Err-clause-cause : goal.returns-in-Err-clause-cause
+returns-in-Err-clause-cause g c = not_opened c.in-Err.fault _ _ _ c.in-Err.ensures.cause
 
 pub returns-in-Err-open-clause-begins : goal.returns-in-Err-open-clause-begins
 returns-in-Err-open-clause-begins g c =
-    let same = ap (λ back. back.0) c.in-Err-open.ensures.why in
+    let same = ap (λ back. back.0) c.in-Err-open.ensures.cause in
     rw same (untold _ _ (space_of c.args.chain.now))
 
 pub returns-clause-copied : goal.returns-clause-copied

@@ -2,7 +2,7 @@ use Rattle.std.proofs.Common.{◌<◌, ◌≤◌, length, [], ◌∷◌, arith}
 use Rattle.std.proofs.KnownBytes.{Keeps-refl}
 use Rattle.std.proofs.lemmas.Result.{err_from_is_err_and}
 use Rattle.mbuf.specs.Chain.{bytes_of, space_of}
-use Rattle.pcapio.specs.Behind.{waiting}
+use Rattle.pcapio.specs.WriteBuffer.{waiting}
 use Rattle.pcapio.specs.Reader.{rest}
 use Rattle.pcapio.specs.Record.{packet_of}
 use Rattle.pcapio.proofs.Begins.{begins-more}

@@ -2,8 +2,8 @@ use Rattle.std.proofs.Common.{◌≤◌, ◌++◌, ◌-◌, ◌^◌, [], ◌∷�
 use Rattle.std.proofs.KnownBytes.{Keeps-refl, Appends-nil}
 use Rattle.std.proofs.lemmas.Result.{err_from_is_err_and}
 use Rattle.mbuf.specs.Chain.{space_of}
-use Rattle.pcapio.specs.Behind.{waiting}
-use Rattle.pcapio.specs.Stage.{torn_of}
+use Rattle.pcapio.specs.WriteBuffer.{waiting}
+use Rattle.pcapio.specs.ReaderState.{torn_of}
 use Rattle.pcapio.proofs.Begins.{begins_self}
 use Rattle.pcapio.proofs.Chains.{same_space}
 use Rattle.pcapio.proofs.Runs.{none_stand, kept-stand, more-stand, one_stands, written-on, ended, ended-bad, copied, none-so, begins-all, begins-on, as_many}
@@ -18,7 +18,7 @@ loop-count-init g c = record {
   written = Appends-nil _;
   order = refl;
   reading = c.requires.reading;
-  well = c.requires.well;
+  well = c.requires.no_failure;
   space = refl;
   no_read_failed = refl;
   no_write_failed = refl;
@@ -30,11 +30,11 @@ returns-in_err-head-clause-begins g c =
     let p = err_from_is_err_and c.from_residual.result c.from_residual.ensures.1 in
     rw p.1 (begins-all (space_of c.args.chain.now) _ _ _ _ _ _ i.packets i.stand i.written (waiting c.loop-count.writer.behind, Keeps-refl _))
 
-pub returns-in_err-head-clause-why : goal.returns-in_err-head-clause-why
-returns-in_err-head-clause-why g c =
+pub returns-in_err-head-clause-cause : goal.returns-in_err-head-clause-cause
+returns-in_err-head-clause-cause g c =
     let i = c.loop-count.invariant in
     err-so c.from_residual.result c.in_err-head.field-0.0 _ c.from_residual.ensures.1
-    (stops-head c.in_err-head.field-0.0 _ _ _ _ _ (c.in_err-head.ensures.why i.reading)
+    (stops-head c.in_err-head.field-0.0 _ _ _ _ _ (c.in_err-head.ensures.cause i.reading)
     (λ bad. ended-bad _ _ _ _ i.packets i.order i.stand bad) (λ failed. failed-later _ _ _ i.no_read_failed failed))
 
 pub returns-in_default-clause-copied : goal.returns-in_default-clause-copied
@@ -68,12 +68,12 @@ returns-in_err-all-clause-begins g c =
     rw p.1 (begins-on (space_of c.args.chain.now) _ _ _ _ _ _ told.1 _ _ _ i.packets told.0 (same_space _ _ i.space)
     (c.in_ok-head.ensures.file.0 ∙ i.order) i.stand c.in_ok-head.ensures.rest i.written told.2 told.3)
 
-pub returns-in_err-all-clause-why : goal.returns-in_err-all-clause-why
-returns-in_err-all-clause-why g c =
+pub returns-in_err-all-clause-cause : goal.returns-in_err-all-clause-cause
+returns-in_err-all-clause-cause g c =
     let i = c.loop-count.invariant in
     err-so c.from_residual-in_err-all.result c.in_err-all.field-0.0 _ c.from_residual-in_err-all.ensures.1
-    (stops-one c.in_err-all.field-0.0 _ _ _ _ _ c.in_err-all.ensures.why
-    (λ failed. failed-later _ _ _ (c.in_ok-head.ensures.well ∙ i.no_read_failed) failed)
+    (stops-one c.in_err-all.field-0.0 _ _ _ _ _ c.in_err-all.ensures.cause
+    (λ failed. failed-later _ _ _ (c.in_ok-head.ensures.no_failure ∙ i.no_read_failed) failed)
     (λ failed. failed-later _ _ _ i.no_write_failed failed))
 
 pub returns-then-not-all-clause-copied : goal.returns-then-not-all-clause-copied
@@ -98,7 +98,7 @@ loop-count-preserved g c =
       reading = search rules;
       well = c.in_ok-all.ensures.goes_on;
       space = c.in_ok-all.ensures.space ∙ i.space;
-      no_read_failed = c.in_ok-all.ensures.read ∙ (c.in_ok-head.ensures.well ∙ i.no_read_failed);
+      no_read_failed = c.in_ok-all.ensures.read ∙ (c.in_ok-head.ensures.no_failure ∙ i.no_read_failed);
       no_write_failed = c.in_ok-all.ensures.written ∙ i.no_write_failed;
     }
 

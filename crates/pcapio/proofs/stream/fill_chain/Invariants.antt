@@ -1,7 +1,7 @@
 use Rattle.std.proofs.Common.{◌≡◌, take}
 use Rattle.std.specs.Io.KnownBytes.{Consumes}
 use Rattle.mbuf.specs.Chain.{bytes_of, shape_of}
-use Rattle.pcapio.specs.Ahead.{unread}
+use Rattle.pcapio.specs.ReadBuffer.{unread}
 use Rattle.pcapio.specs.Counted.{HasNotFailed}
 use Rattle.pcapio.proofs.stream.fill_chain.Given as goal
 

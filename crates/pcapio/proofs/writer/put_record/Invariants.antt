@@ -2,7 +2,7 @@ use Rattle.std.proofs.Common.{take, ◌++◌}
 use Rattle.std.specs.Io.KnownBytes.{Appends}
 use Rattle.mbuf.specs.Chain.{bytes_of}
 use Rattle.pcapio.specs.Counted.{HasNotFailed}
-use Rattle.pcapio.specs.Behind.{unsent}
+use Rattle.pcapio.specs.WriteBuffer.{unsent}
 use Rattle.pcapio.proofs.writer.put_record.Given as goal
 
 abbrev pub invariant-loop-i : goal.invariant-loop-i

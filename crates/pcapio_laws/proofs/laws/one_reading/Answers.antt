@@ -3,8 +3,8 @@ use Rattle.pcapio_laws.proofs.Unique.{one}
 use Rattle.pcapio_laws.proofs.Exists.{exists}
 use Rattle.pcapio_laws.proofs.laws.one_reading.Goals as goal
 
-pub returns-clause-some : goal.returns-clause-some
-returns-clause-some c order bytes = exists order (length bytes) bytes (omega arith)
+pub returns-clause-exists : goal.returns-clause-exists
+returns-clause-exists c order bytes = exists order (length bytes) bytes (omega arith)
 
 pub returns-clause-one : goal.returns-clause-one
 returns-clause-one c order bytes ps qs e f = one order ps qs bytes e f

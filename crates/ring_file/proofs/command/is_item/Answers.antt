@@ -10,4 +10,4 @@ returns-then-sized c =
     let all : c.all-graphic.result ≡ list_all is_graphic c.args.word.now =
     all_from_yields_List is_graphic _ _ c.all-graphic.result c.all-graphic.ensures.ran (YieldsList-from_slice c.args.word.now c.iter.ensures.rest)
     (λ x b q k. search (rules, tests)) in
-    all ∙ ap (λ b. b && list_all is_graphic c.args.word.now) (sym c.if-sized.true ∙ c.has_up_to-sized.ensures)
+    all ∙ ap (λ b. b && list_all is_graphic c.args.word.now) (sym c.if-sized.true ∙ c.len_is_1_to-sized.ensures)

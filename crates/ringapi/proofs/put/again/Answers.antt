@@ -22,7 +22,7 @@ attempt-requires g c =
             (
               c.requires.ring,
               λ plan there.
-                  let told = c.requires.told plan there in
+                  let told = c.requires.exact plan there in
                   subst (AreYours tags plan (view c.in-Refused.hand)) (sym (had_is g.row.N tags c.args.how c.args.ring plan told.0 told.1 c.in-Refused.hand
                   c.in-Refused.field-1 had (subst IsUnfinishedPut is c.requires.unfinished)
                   (subst (λ a. PutHasTold tags c.args.how c.args.ring plan told.0 told.1 a had) is told.2)))
@@ -43,22 +43,22 @@ settle-requires g c =
     let o = c.in-Open.span in
     let made = subst (IsPutOf c.args.f.now c.args.ring) is c.requires.made in
     let at = plan_of o c.args.f.now c.args.ring made.0 made.1 in
-    let told = c.requires.told o.ring.shape.plan at in
+    let told = c.requires.exact o.ring.shape.plan at in
     let first = open_first g.row.N tags c.args.how c.args.ring o.ring.shape.plan told.0 told.1 o c.in-Open.field-1 had
     (subst (λ a. PutHasTold tags c.args.how c.args.ring o.ring.shape.plan told.0 told.1 a had) is told.2) made.1 in
     (search rules, (search rules, (search rules, (first.0, first.1))))
 
-pub returns-in-Refused-clause-told : goal.returns-in-Refused-clause-told
-returns-in-Refused-clause-told g c plan there v items told =
+pub returns-in-Refused-clause-exact : goal.returns-in-Refused-clause-exact
+returns-in-Refused-clause-exact g c plan there v items told =
     let tags = g.T.Tagged.numbers in
     let had = c.args.list.now in
     let is = c.in-Refused.is in
     put_again g.row.N tags c.args.how c.args.ring plan v items c.in-Refused.hand c.in-Refused.field-1 had c.attempt.new.list c.attempt.result
     (subst IsUnfinishedPut is c.requires.unfinished) (subst (λ a. PutHasTold tags c.args.how c.args.ring plan v items a had) is told)
-    (c.attempt.ensures.told plan there)
+    (c.attempt.ensures.exact plan there)
 
-pub returns-in-Open-clause-told : goal.returns-in-Open-clause-told
-returns-in-Open-clause-told g c plan there v items told =
+pub returns-in-Open-clause-exact : goal.returns-in-Open-clause-exact
+returns-in-Open-clause-exact g c plan there v items told =
     let tags = g.T.Tagged.numbers in
     let had = c.args.list.now in
     let is = c.in-Open.is in
@@ -68,5 +68,5 @@ returns-in-Open-clause-told g c plan there v items told =
     settle_more g.row.N tags c.args.how c.args.ring plan v items o c.in-Open.field-1 had c.settle.new.list c.settle.result made.1 (same_plan (sym at ∙ there))
     (subst (λ a. PutHasTold tags c.args.how c.args.ring plan v items a had) is told) c.settle.ensures.settled
 
-pub returns-in-Open-clause-so : goal.returns-in-Open-clause-so
-returns-in-Open-clause-so g c plan there = c.settle.ensures.so c.args.ring plan
+pub returns-in-Open-clause-true_refusal : goal.returns-in-Open-clause-true_refusal
+returns-in-Open-clause-true_refusal g c plan there = c.settle.ensures.true_refusal c.args.ring plan

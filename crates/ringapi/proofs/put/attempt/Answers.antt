@@ -42,8 +42,8 @@ returns-in-Ok-clause-made g c =
     let s = c.in-Ok.ensures.started in
     settled_of c.args.f.now c.args.ring c.in-Ok.span c.args.list.now c.settle.result c.settle.new.list s.0 s.1 c.settle.ensures.settled
 
-pub returns-in-Ok-clause-told : goal.returns-in-Ok-clause-told
-returns-in-Ok-clause-told g c plan there =
+pub returns-in-Ok-clause-exact : goal.returns-in-Ok-clause-exact
+returns-in-Ok-clause-exact g c plan there =
     let o = c.in-Ok.span in
     let s = c.in-Ok.ensures.started in
     let tags = g.T.Tagged.numbers in
@@ -57,8 +57,8 @@ returns-in-Ok-clause-told g c plan there =
     (s.2 plan there)))
     c.settle.ensures.settled
 
-pub returns-in-Err-clause-told : goal.returns-in-Err-clause-told
-returns-in-Err-clause-told g c plan there =
+pub returns-in-Err-clause-exact : goal.returns-in-Err-clause-exact
+returns-in-Err-clause-exact g c plan there =
     let tags = g.T.Tagged.numbers in
     let r = c.in-Err.ensures in
     let v = view c.args.hand in
@@ -71,8 +71,8 @@ returns-in-Err-clause-told g c plan there =
       subst (λ n. RefusesCount tags g.row.N n Put plan v c.in-Err.fault) long (r.asked plan there).1,
     )
 
-pub returns-in-Ok-clause-so : goal.returns-in-Ok-clause-so
-returns-in-Ok-clause-so g c plan there = c.settle.ensures.so c.args.ring plan
+pub returns-in-Ok-clause-true_refusal : goal.returns-in-Ok-clause-true_refusal
+returns-in-Ok-clause-true_refusal g c plan there = c.settle.ensures.true_refusal c.args.ring plan
 
-pub returns-in-Err-clause-so : goal.returns-in-Err-clause-so
-returns-in-Err-clause-so g c plan there = (view c.args.hand, c.in-Err.ensures.kept, c.in-Err.ensures.so plan there)
+pub returns-in-Err-clause-true_refusal : goal.returns-in-Err-clause-true_refusal
+returns-in-Err-clause-true_refusal g c plan there = (view c.args.hand, c.in-Err.ensures.kept, c.in-Err.ensures.true_refusal plan there)

@@ -1,6 +1,22 @@
-use Rattle.std.proofs.Common.{[], refl}
+use Rattle.std.proofs.Common.{[], refl, rules, subst}
+use Rattle.ringapi.specs.Puts.{PutHasTold}
 use Rattle.ringapi.proofs.put.put.Goals as goal
 
-pub returns-else-may_put-clause-told : goal.returns-else-may_put-clause-told
-returns-else-may_put-clause-told g c plan there =
-    ([], [], (c.may_put.ensures.other plan there c.if-may_put.false, refl, c.may_put.ensures.kept.1))
+pub returns-else-may_put : goal.returns-else-may_put
+returns-else-may_put g c = record {
+  made = search rules;
+  exact = λ plan there. ([], [], (c.may_put.ensures.other plan there c.if-may_put.false, refl, c.may_put.ensures.kept.1));
+  settled = search rules;
+  true_refusal = search rules;
+  finished = search rules;
+}
+
+pub returns-then-may_put : goal.returns-then-may_put
+returns-then-may_put g c = record {
+  made = search rules;
+  exact = λ plan there. subst (λ v. PutHasTold g.T.Tagged.numbers c.args.how c.args.ring plan v c.args.list.now c.put_own.result c.put_own.new.list)
+      c.may_put.ensures.kept.1 (c.put_own.ensures.exact plan there);
+  settled = search rules;
+  true_refusal = search rules;
+  finished = search rules;
+}

@@ -21,8 +21,8 @@ unreachable-requires g c =
     (subst (λ n. AreYours g.T.Tagged.numbers plan (put_view o) (take n items)) (sym c.count.ensures) c.requires.yours)
     c.in_default.not-NotYet
 
-pub returns-in-NotYet-clause-so : goal.returns-in-NotYet-clause-so
-returns-in-NotYet-clause-so g c ring plan =
+pub returns-in-NotYet-clause-true_refusal : goal.returns-in-NotYet-clause-true_refusal
+returns-in-NotYet-clause-true_refusal g c ring plan =
     let o = c.args.span in
     let tags = g.T.Tagged.numbers in
     let r = c.in-Err.ensures.refused in
@@ -30,5 +30,5 @@ returns-in-NotYet-clause-so g c ring plan =
       put_view o,
       early.3,
       subst (λ (s : Span). IsTrueTooEarly tags s (put_view o) (NotYet c.in-NotYet.tail)) (sym r.0.1)
-          (subst (IsTrueTooEarly tags (put_span o) (put_view o)) c.in-NotYet.is c.in-Err.ensures.so),
+          (subst (IsTrueTooEarly tags (put_span o) (put_view o)) c.in-NotYet.is c.in-Err.ensures.true_refusal),
     )

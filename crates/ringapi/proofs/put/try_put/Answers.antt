@@ -1,14 +1,28 @@
-use Rattle.std.proofs.Common.{[], subst}
+use Rattle.std.proofs.Common.{[], refl, rules, subst}
 use Rattle.fabric.specs.Hands.{rings_of, view}
 use Rattle.fabric.proofs.Told.{ring_at}
-use Rattle.ringapi.specs.Puts.{PutSettles}
+use Rattle.ringapi.specs.Puts.{PutSettles, PutTells}
 use Rattle.ringapi.proofs.Putting.{tells_settles}
 use Rattle.ringapi.proofs.put.try_put.Goals as goal
 
-pub returns-clause-settled : goal.returns-clause-settled
-returns-clause-settled g c =
+pub returns-then-not-may_put : goal.returns-then-not-may_put
+returns-then-not-may_put g c = record {
+  made = search rules;
+  exact = λ plan there. (c.may_put.ensures.other plan there c.if-not-may_put.true, refl, c.may_put.ensures.kept.1);
+  settled = search rules;
+  true_refusal = search rules;
+}
+
+pub returns : goal.returns
+returns g c =
     let w = ring_at (rings_of c.args.f.now) c.args.ring c.requires.ring in
-    subst (λ v. PutSettles c.args.ring v c.args.list.now c.attempt.result) c.may_put.ensures.kept.1
-    (tells_settles g.T.Tagged.numbers c.args.how c.args.ring w.0 (view c.may_put.new.self) c.args.list.now [] [] c.args.f.now
-    c.attempt.result c.attempt.new.list
-    w.1 c.attempt.ensures.made (c.attempt.ensures.told w.0 w.1))
+    record {
+      made = c.attempt.ensures.made;
+      exact = λ plan there. subst (λ v. PutTells g.T.Tagged.numbers c.args.how c.args.ring plan v c.args.list.now [] [] c.attempt.result c.attempt.new.list)
+          c.may_put.ensures.kept.1 (c.attempt.ensures.exact plan there);
+      settled = subst (λ v. PutSettles c.args.ring v c.args.list.now c.attempt.result) c.may_put.ensures.kept.1
+          (tells_settles g.T.Tagged.numbers c.args.how c.args.ring w.0 (view c.may_put.new.self) c.args.list.now [] [] c.args.f.now
+          c.attempt.result c.attempt.new.list
+          w.1 c.attempt.ensures.made (c.attempt.ensures.exact w.0 w.1));
+      true_refusal = c.attempt.ensures.true_refusal;
+    }

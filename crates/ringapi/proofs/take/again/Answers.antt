@@ -10,7 +10,7 @@ pub try_take-requires : goal.try_take-requires
 try_take-requires g c =
     let is = c.in-Refused.is in
     let w = ring_at (rings_of c.args.f.now) c.args.ring c.requires.ring in
-    let told = c.requires.told w.0 w.1 in
+    let told = c.requires.exact w.0 w.1 in
     let before =
     subst (λ a. TakeHasTold g.T.Tagged.numbers c.args.how c.args.n c.args.ring w.0 told.0 a c.args.into.now) is told.1 in
     (search rules, (search rules, (search rules, (subst (IsTakeOf c.args.f.now c.args.ring) is c.requires.made, (c.requires.ring, before.2.0)))))
@@ -19,20 +19,20 @@ pub settle-requires : goal.settle-requires
 settle-requires g c =
     let is = c.in-Open.is in
     let w = ring_at (rings_of c.args.f.now) c.args.ring c.requires.ring in
-    let told = c.requires.told w.0 w.1 in
+    let told = c.requires.exact w.0 w.1 in
     let before =
     subst (λ a. TakeHasTold g.T.Tagged.numbers c.args.how c.args.n c.args.ring w.0 told.0 a c.args.into.now) is told.1 in
     (search rules, (search rules, (search rules, before.2.0)))
 
-pub returns-in-Refused-clause-told : goal.returns-in-Refused-clause-told
-returns-in-Refused-clause-told g c plan there v told =
+pub returns-in-Refused-clause-exact : goal.returns-in-Refused-clause-exact
+returns-in-Refused-clause-exact g c plan there v told =
     let tags = g.T.Tagged.numbers in
     let had = c.args.into.now in
     take_again g.row.N tags c.args.how c.args.n c.args.ring plan v c.in-Refused.hand c.in-Refused.field-1 had c.try_take.new.into c.try_take.result
-    (subst IsUnfinishedTake c.in-Refused.is c.requires.unfinished) (subst (λ a. TakeHasTold tags c.args.how c.args.n c.args.ring plan v a had) c.in-Refused.is told) (c.try_take.ensures.told plan there)
+    (subst IsUnfinishedTake c.in-Refused.is c.requires.unfinished) (subst (λ a. TakeHasTold tags c.args.how c.args.n c.args.ring plan v a had) c.in-Refused.is told) (c.try_take.ensures.exact plan there)
 
-pub returns-in-Open-clause-told : goal.returns-in-Open-clause-told
-returns-in-Open-clause-told g c plan there v told =
+pub returns-in-Open-clause-exact : goal.returns-in-Open-clause-exact
+returns-in-Open-clause-exact g c plan there v told =
     let tags = g.T.Tagged.numbers in
     let had = c.args.into.now in
     let is = c.in-Open.is in
@@ -42,5 +42,5 @@ returns-in-Open-clause-told g c plan there v told =
     settle_more g.row.N tags c.args.how c.args.n c.args.ring plan v o c.in-Open.field-1 had c.settle.new.items c.settle.result made.1
     (same_plan (sym at ∙ there)) (subst (λ a. TakeHasTold tags c.args.how c.args.n c.args.ring plan v a had) is told) c.settle.ensures.settled
 
-pub returns-in-Open-clause-so : goal.returns-in-Open-clause-so
-returns-in-Open-clause-so g c plan there = c.settle.ensures.so c.args.ring plan
+pub returns-in-Open-clause-true_refusal : goal.returns-in-Open-clause-true_refusal
+returns-in-Open-clause-true_refusal g c plan there = c.settle.ensures.true_refusal c.args.ring plan

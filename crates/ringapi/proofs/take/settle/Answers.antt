@@ -5,8 +5,8 @@ use Rattle.fabric.specs.Hands.{RefusesTake, take_span, take_view}
 use Rattle.fabric.specs.Truths.{IsTrueTooEarly}
 use Rattle.ringapi.proofs.take.settle.Goals as goal
 
-pub returns-in-NotYet-clause-so : goal.returns-in-NotYet-clause-so
-returns-in-NotYet-clause-so g c ring plan =
+pub returns-in-NotYet-clause-true_refusal : goal.returns-in-NotYet-clause-true_refusal
+returns-in-NotYet-clause-true_refusal g c ring plan =
     let o = c.args.span in
     let tags = g.T.Tagged.numbers in
     let r = c.in-Err.ensures.refused in
@@ -14,5 +14,5 @@ returns-in-NotYet-clause-so g c ring plan =
       take_view o,
       early.3,
       subst (λ (s : Span). IsTrueTooEarly tags s (take_view o) (NotYet c.in-NotYet.tail)) (sym r.0.1)
-          (subst (IsTrueTooEarly tags (take_span o) (take_view o)) c.in-NotYet.is c.in-Err.ensures.so),
+          (subst (IsTrueTooEarly tags (take_span o) (take_view o)) c.in-NotYet.is c.in-Err.ensures.true_refusal),
     )

@@ -8,16 +8,22 @@ pub loop-init : goal.loop-init
 loop-init g c = record {
   iterator = (tt, tt);
   made = c.try_take-answer.ensures.made;
-  told = λ plan there. ([], [], c.try_take-answer.ensures.told plan there);
-  so = c.try_take-answer.ensures.so;
+  told = λ plan there. ([], [], c.try_take-answer.ensures.exact plan there);
+  so = c.try_take-answer.ensures.true_refusal;
 }
 
-pub returns-then-not-is_unfinished-clause-settled : goal.returns-then-not-is_unfinished-clause-settled
-returns-then-not-is_unfinished-clause-settled g c =
+pub returns-then-not-should_retry : goal.returns-then-not-should_retry
+returns-then-not-should_retry g c =
     let w = ring_at (rings_of c.args.f.now) c.args.ring c.requires.ring in
     let told = c.loop.invariant.told w.0 w.1 in
-    tells_settles g.row.N g.T.Tagged.numbers c.args.how c.args.n c.args.ring w.0 (view c.args.hand) told.0 told.1 c.args.f.now c.loop.answer c.loop.into w.1
-    c.loop.invariant.made told.2
+    record {
+      made = c.loop.invariant.made;
+      exact = c.loop.invariant.told;
+      settled = tells_settles g.row.N g.T.Tagged.numbers c.args.how c.args.n c.args.ring w.0 (view c.args.hand) told.0 told.1 c.args.f.now c.loop.answer c.loop.into w.1
+          c.loop.invariant.made told.2;
+      true_refusal = c.loop.invariant.so;
+      finished = search rules;
+    }
 
 pub again-answer-requires : goal.again-answer-requires
 again-answer-requires g c = (
@@ -30,7 +36,7 @@ again-answer-requires g c = (
         c.loop.invariant.made,
         (
           c.requires.ring,
-          (c.is_unfinished.ensures.some c.if-not-is_unfinished.false, λ plan there. (view c.args.hand, c.loop.invariant.told plan there)),
+          (c.should_retry.ensures.sound c.if-not-should_retry.false, λ plan there. (view c.args.hand, c.loop.invariant.told plan there)),
         ),
       ),
     ),

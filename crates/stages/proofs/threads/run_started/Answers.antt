@@ -13,14 +13,14 @@ returns-in-Err-clause-begun g c all known =
     (c.into_devices-devices.ensures ∙ ap (λ o. devices_of o.writers.items) c.in-Err.ensures.refused)
     ∙ c.requires.outputs.before)
 
-pub returns-clause-why : goal.returns-clause-why
-returns-clause-why g c =
-    let fed = c.over_rings-sink.result.1 in
+pub returns-clause-cause : goal.returns-clause-cause
+returns-clause-cause g c =
+    let outcome = c.over_rings-sink.result.1 in
     let sink = c.over_rings-sink.result.0 in
     if_err c.end-devices.result.1
-    (λ fault why. why_ended g.J.Run.input g.J.Run.failures g.J.Run.read_failures sink.window.next fed.device fed.answer c.end-devices.result.0.items fault
-    fed.failed fed.here fed.refused why)
-    c.end-devices.ensures.why
+    (λ fault why. why_ended g.J.Run.input g.J.Run.failures g.J.Run.read_failures sink.window.next outcome.device outcome.answer c.end-devices.result.0.items fault
+    outcome.failed outcome.here outcome.refused why)
+    c.end-devices.ensures.cause
 
 pub end-devices-requires-clause-failed : goal.end-devices-requires-clause-failed
 end-devices-requires-clause-failed g c p is = absurd (c.over_rings-sink.result.1.unwritten p is)

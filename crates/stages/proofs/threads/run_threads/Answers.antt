@@ -32,7 +32,7 @@ run_started-requires-clause-outputs g c _ _ =
       before = refl;
       failures = refl;
       fresh = subst (λ r. AreFresh g.W.Write.contents r outputs.writers.items) c.resolution.ensures opened.fresh;
-      well = opened.well;
+      well = opened.no_failure;
       many = sym (length-map devices (told g.W.Write.contents) ∙ length-map outputs.writers.items sink_of ∙ sym outputs.writers.ok.0);
       empty = opened.spare.0;
       room = opened.spare.1;
@@ -47,7 +47,7 @@ returns-in-Ok-open_all-clause-run g c =
     let same = c.in-Ok-open_all.ensures.devices in
     run_told contents settings (order_of c.in-Ok.reader) (resolution_of c.in-Ok.reader) (to_come g.R.Read.remaining c.args.reader)
     (rest g.R.Read.remaining c.in-Ok.reader) c.args.writers.items c.run_started.result.1.items r c.in-Ok.ensures.header c.in-Ok.ensures.rest
-    (sym c.run_started.result.1.ok.0 ∙ (c.run_started.ensures.many
+    (sym c.run_started.result.1.ok.0 ∙ (c.run_started.ensures.length
     ∙ (length-map (devices_of c.in-Ok-open_all.outputs.writers.items) (told contents) ∙ ap length same)))
     (subst (λ ds. OnOk r ((all : List Fate) → fates_of (forwarding_by settings) settings.room input ≡ Some all
     → AreOutputs contents (map (told contents) ds) (resolution_of c.in-Ok.reader) all c.run_started.result.1.items)) same c.run_started.ensures.outputs)
@@ -65,17 +65,17 @@ returns-in-Ok-open_all-clause-begun g c =
     → AreBeginnings contents (map (told contents) ds) (resolution_of c.in-Ok.reader) all c.run_started.result.1.items)
     c.in-Ok-open_all.ensures.devices c.run_started.ensures.begun)
 
-pub returns-in-Ok-open_all-clause-why : goal.returns-in-Ok-open_all-clause-why
-returns-in-Ok-open_all-clause-why g c =
+pub returns-in-Ok-open_all-clause-cause : goal.returns-in-Ok-open_all-clause-cause
+returns-in-Ok-open_all-clause-cause g c =
     if_err c.run_started.result.2
     (λ fault why. why_of_threads (order_of c.in-Ok.reader) (resolution_of c.in-Ok.reader) g.R.Read.remaining (rest g.R.Read.remaining c.in-Ok.reader)
     (map failures_of (devices_of c.in-Ok-open_all.outputs.writers.items)) c.args.reader c.run_started.result.0 c.in-Ok.reader c.args.writers.items
-    c.run_started.result.1.items fault c.in-Ok.ensures.header c.in-Ok.ensures.rest c.in-Ok.ensures.well
+    c.run_started.result.1.items fault c.in-Ok.ensures.header c.in-Ok.ensures.rest c.in-Ok.ensures.no_failure
     (ap (map failures_of) c.in-Ok-open_all.ensures.devices) why)
-    c.run_started.ensures.why
+    c.run_started.ensures.cause
 
-pub returns-in-Err-clause-why : goal.returns-in-Err-clause-why
-returns-in-Err-clause-why g c =
+pub returns-in-Err-clause-cause : goal.returns-in-Err-clause-cause
+returns-in-Err-clause-cause g c =
     let why : WhyNoSummary g.R.Read.remaining c.args.reader c.in-Err.device c.args.writers.items c.args.writers.items c.input_fault.result =
     search rules in
     of_threads g.R.Read.remaining c.args.reader c.in-Err.device c.args.writers.items c.args.writers.items c.input_fault.result why

@@ -16,11 +16,11 @@ pub returns-in_err-answer_line-clause-first_bad : goal.returns-in_err-answer_lin
 returns-in_err-answer_line-clause-first_bad c = λ n fault.
     let bytes = c.args.bytes.now in
     let number = c.loop-line.number in
-    let line = c.without_return.result.now in
+    let line = c.strip_carriage_return.result.now in
     let road = YieldsList-from_slice_split _ (λ b. b == 10) bytes (search rules) (search rules) (search rules) (λ x b q k. search (rules, tests)) in
     let here =
     this_line bytes road c.loop-line.yielded c.loop-line.yielded_by number c.loop-line.invariant.0 _ _ c.next.ensures.steps
-    c.in-Some.line c.in-Some.is line c.without_return.ensures in
+    c.in-Some.line c.in-Some.is line c.strip_carriage_return.ensures in
     let refused : c.answer_line.result ≡ Err (BadLine n) = search rules in
     let told = c.answer_line.ensures.number n refused in
     let stands = c.loop-line.invariant.2 in
@@ -35,11 +35,11 @@ pub returns-in_err-answer_line-clause-bad_plan : goal.returns-in_err-answer_line
 returns-in_err-answer_line-clause-bad_plan c = λ fault.
     let bytes = c.args.bytes.now in
     let number = c.loop-line.number in
-    let line = c.without_return.result.now in
+    let line = c.strip_carriage_return.result.now in
     let road = YieldsList-from_slice_split _ (λ b. b == 10) bytes (search rules) (search rules) (search rules) (λ x b q k. search (rules, tests)) in
     let here =
     this_line bytes road c.loop-line.yielded c.loop-line.yielded_by number c.loop-line.invariant.0 _ _ c.next.ensures.steps
-    c.in-Some.line c.in-Some.is line c.without_return.ensures in
+    c.in-Some.line c.in-Some.is line c.strip_carriage_return.ensures in
     let refused : c.answer_line.result ≡ Err BadPlan = search rules in
     let told = c.answer_line.ensures.plan refused (left_by steps_file number (lines_of bytes)) c.loop-line.invariant.2 in
     (number, bad_plan (lines_of bytes) number line c.args.out.now.items c.loop-line.out.items here.0 here.1 c.loop-line.invariant.1 told.0 told.1)
@@ -57,11 +57,11 @@ loop-line-preserved c =
     let bytes = c.args.bytes.now in
     let number = c.loop-line.number in
     let so_far = c.loop-line.invariant in
-    let line = c.without_return.result.now in
+    let line = c.strip_carriage_return.result.now in
     let road = YieldsList-from_slice_split _ (λ b. b == 10) bytes (search rules) (search rules) (search rules) (λ x b q k. search (rules, tests)) in
     let here =
     this_line bytes road c.loop-line.yielded c.loop-line.yielded_by number so_far.0 _ _ c.next.ensures.steps
-    c.in-Some.line c.in-Some.is line c.without_return.ensures in
+    c.in-Some.line c.in-Some.is line c.strip_carriage_return.ensures in
     let answered = c.in_ok-answer_line.ensures in
     let longer = length_push c.loop-line.yielded c.in-Some.line in
     let before = so_far.0 in

@@ -17,4 +17,4 @@ add_all-requires-clause-same c =
     let first = c.copied-sums.result in
     let is : first ≡ get_or c.args.list.now 0 first =
     c.copied-sums.ensures ∙ c.first-item.is ∙ ap (get_or c.args.list.now 0) (sym c.copied-sums.ensures) in
-    rest_same c.args.list.now first is c.requires.some c.requires.same
+    rest_same c.args.list.now first is c.requires.nonzero c.requires.same

@@ -108,7 +108,7 @@ returns-then-found-place-clause-done g c =
       c.keep.ensures.cells ∙ (ap (take c.args.k) q.shows ∙ take_some c.args.k shown),
     )
 
-pub returns-else-found-place-clause-so : goal.returns-else-found-place-clause-so
-returns-else-found-place-clause-so g c =
+pub returns-else-found-place-clause-true_refusal : goal.returns-else-found-place-clause-true_refusal
+returns-else-found-place-clause-true_refusal g c =
     earlier_on g.T.Tagged.numbers (span_of c.args.self.now.index Take c.args.place.start c.args.place.count) c.args.seat.now.me.0 c.keep.new.seat.me.0
     c.settle-found.result c.keep.ensures.seat.1 (c.settle-found.ensures.early c.if-found-place.false)

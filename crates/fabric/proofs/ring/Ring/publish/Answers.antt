@@ -36,7 +36,7 @@ returns-else-found-place-clause-early g c =
       c.withdraw.ensures.cells ∙ back,
     )
 
-pub returns-else-found-place-clause-so : goal.returns-else-found-place-clause-so
-returns-else-found-place-clause-so g c =
+pub returns-else-found-place-clause-true_refusal : goal.returns-else-found-place-clause-true_refusal
+returns-else-found-place-clause-true_refusal g c =
     earlier_on g.T.Tagged.numbers (span_of c.args.self.now.index Put c.args.place.start c.args.place.count) c.args.seat.now.me.0 c.offer.new.seat.me.0
     c.settle-found.result c.offer.ensures.seat.1 (c.settle-found.ensures.early c.if-found-place.false)

@@ -1,6 +1,6 @@
 use Rattle.std.proofs.Common.{ap}
 use Rattle.std.proofs.KnownBytes.{Keeps-refl}
-use Rattle.pcapio.specs.Stage.{head_of}
+use Rattle.pcapio.specs.ReaderState.{head_of}
 use Rattle.pcapio.proofs.Records.{head-ahead}
 use Rattle.pcapio.proofs.reader.Reader.head.Goals as goal
 

@@ -1,7 +1,7 @@
 use Rattle.std.proofs.Common.{ap}
 use Rattle.pcapio.specs.Record.{IsHead}
-use Rattle.pcapio.specs.Stage.{head_of}
-use Rattle.pcapio.specs.Ahead.{items}
+use Rattle.pcapio.specs.ReaderState.{head_of}
+use Rattle.pcapio.specs.ReadBuffer.{items}
 use Rattle.pcapio.proofs.Records.{whole_record, torn_record}
 use Rattle.pcapio.proofs.reader.Reader.take_head.Goals as goal
 

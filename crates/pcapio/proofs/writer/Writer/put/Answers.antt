@@ -1,5 +1,5 @@
 use Rattle.std.proofs.KnownBytes.{Keeps-refl}
-use Rattle.pcapio.specs.Behind.{waiting}
+use Rattle.pcapio.specs.WriteBuffer.{waiting}
 use Rattle.pcapio.proofs.Begins.{begins-more}
 use Rattle.pcapio.proofs.writer.Writer.put.Goals as goal
 

@@ -2,7 +2,7 @@ use Rattle.std.proofs.Common.{◌≡◌, Some, Ok, Err, refl, sym, ap, subst, ru
 use Rattle.ringcore_laws.specs.FreeRings.{AreSingle}
 use Rattle.fabric.specs.Hands.{view}
 use Rattle.pool.proofs.Kept.{same_own}
-use Rattle.pool.proofs.Wholes.{free_at, free_of, hand_from, hand_own, keeper_from, mine_of, view_at}
+use Rattle.pool.proofs.Wholes.{free_at, free_of, hand_from, hand_own, cache_hand_from, mine_of, view_at}
 use Rattle.pool.specs.Asks.{Flushes}
 use Rattle.pool.proofs.local.Local.flush.Goals as goal
 
@@ -11,17 +11,17 @@ empty-requires g c =
     let tags = g.T.Tagged.numbers in
     let f = c.args.f.now in
     let l = c.args.self.now in
-    let k = c.in-Some.keeper in
-    let h = c.whole-hand.result in
+    let k = c.in-Some.cache_hand in
+    let h = c.into_hand-hand.result in
     let was : l.hand ≡ Some k = search rules in (
       search rules,
       (
         search rules,
         (
-          hand_from f h k c.whole-hand.ensures (mine_of f l.hand k was c.requires.local),
+          hand_from f h k c.into_hand-hand.ensures (mine_of f l.hand k was c.requires.local),
           (
             free_of f l.hand k l.ring was c.requires.local l.free,
-            (hand_own tags l.hand k h l.cache was c.whole-hand.ensures l.kept l.single, search rules),
+            (hand_own tags l.hand k h l.cache was c.into_hand-hand.ensures l.kept l.single, search rules),
           ),
         ),
       ),
@@ -32,12 +32,12 @@ invariant_of-self g c =
     let tags = g.T.Tagged.numbers in
     let f = c.args.f.now in
     let l = c.args.self.now in
-    let k = c.in-Some.keeper in
+    let k = c.in-Some.cache_hand in
     let was : l.hand ≡ Some k = search rules in
     let back = c.keep_back in
     record {
       here = refl;
-      free = free_at f back.result l.ring (keeper_from f c.in-Ok.hand back.result back.ensures.seat c.in-Ok.ensures.kept.0)
+      free = free_at f back.result l.ring (cache_hand_from f c.in-Ok.hand back.result back.ensures.seat c.in-Ok.ensures.kept.0)
           (free_of f l.hand k l.ring was c.requires.local l.free);
       small = l.small;
       room = l.room;
@@ -50,12 +50,12 @@ pub keep_back-requires-in-Err : goal.keep_back-requires-in-Err
 keep_back-requires-in-Err g c =
     let tags = g.T.Tagged.numbers in
     let l = c.args.self.now in
-    let k = c.in-Some.keeper in
-    let h = c.whole-hand.result in
+    let k = c.in-Some.cache_hand in
+    let h = c.into_hand-hand.result in
     let was : l.hand ≡ Some k = search rules in (
       search rules,
       same_own tags (view h) (view c.in-Err.hand) l.cache c.empty.new.cache c.in-Err.ensures.party c.in-Err.ensures.same.1
-          (hand_own tags l.hand k h l.cache was c.whole-hand.ensures l.kept l.single),
+          (hand_own tags l.hand k h l.cache was c.into_hand-hand.ensures l.kept l.single),
     )
 
 pub invariant_of-self-in-Err : goal.invariant_of-self-in-Err
@@ -63,12 +63,12 @@ invariant_of-self-in-Err g c =
     let tags = g.T.Tagged.numbers in
     let f = c.args.f.now in
     let l = c.args.self.now in
-    let k = c.in-Some.keeper in
+    let k = c.in-Some.cache_hand in
     let was : l.hand ≡ Some k = search rules in
     let back = c.keep_back-in-Err in
     record {
       here = refl;
-      free = free_at f back.result l.ring (keeper_from f c.in-Err.hand back.result back.ensures.seat c.in-Err.ensures.same.0)
+      free = free_at f back.result l.ring (cache_hand_from f c.in-Err.hand back.result back.ensures.seat c.in-Err.ensures.same.0)
           (free_of f l.hand k l.ring was c.requires.local l.free);
       small = l.small;
       room = l.room;
@@ -77,29 +77,29 @@ invariant_of-self-in-Err g c =
       single = subst (AreSingle tags) (sym c.in-Err.ensures.same.1) l.single;
     }
 
-pub returns-in-Ok-clause-told : goal.returns-in-Ok-clause-told
-returns-in-Ok-clause-told g c plan there =
+pub returns-in-Ok-clause-exact : goal.returns-in-Ok-clause-exact
+returns-in-Ok-clause-exact g c plan there =
     let tags = g.T.Tagged.numbers in
     let l = c.args.self.now in
-    let k = c.in-Some.keeper in
+    let k = c.in-Some.cache_hand in
     let was : l.hand ≡ Some k = search rules in (
       c.in-Ok.hand,
       subst (λ v. Flushes tags g.row.N l.ring plan v l.cache (Ok c.in-Ok.hand) c.empty.new.cache)
-          (view_at tags l.hand k c.whole-hand.result was c.whole-hand.ensures)
-          (c.in-Ok.ensures.told plan there),
+          (view_at tags l.hand k c.into_hand-hand.result was c.into_hand-hand.ensures)
+          (c.in-Ok.ensures.exact plan there),
       ap (λ s. s.me.0) c.keep_back.ensures.seat,
     )
 
-pub returns-in-Err-clause-told : goal.returns-in-Err-clause-told
-returns-in-Err-clause-told g c plan there =
+pub returns-in-Err-clause-exact : goal.returns-in-Err-clause-exact
+returns-in-Err-clause-exact g c plan there =
     let tags = g.T.Tagged.numbers in
     let l = c.args.self.now in
-    let k = c.in-Some.keeper in
+    let k = c.in-Some.cache_hand in
     let was : l.hand ≡ Some k = search rules in (
       refl,
       c.in-Err.hand,
       subst (λ v. Flushes tags g.row.N l.ring plan v l.cache (Err c.in-Err.hand) c.empty.new.cache)
-          (view_at tags l.hand k c.whole-hand.result was c.whole-hand.ensures)
-          (c.in-Err.ensures.told plan there),
+          (view_at tags l.hand k c.into_hand-hand.result was c.into_hand-hand.ensures)
+          (c.in-Err.ensures.exact plan there),
       ap (λ s. s.me.0) c.keep_back-in-Err.ensures.seat,
     )

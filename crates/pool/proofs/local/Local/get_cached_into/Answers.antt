@@ -2,7 +2,7 @@ use Rattle.std.proofs.Common.{◌-◌, ◌++◌, refl, sym, subst, rules}
 use Rattle.std.specs.Prelude.{length}
 use Rattle.ringcore_laws.specs.FreeRings.{AreSingle}
 use Rattle.fabric_laws.specs.declared.view.View.{View}
-use Rattle.fabric.specs.Keepers.{Keeps, view_of_keeper}
+use Rattle.fabric.specs.CacheHands.{Keeps, view_of_cache_hand}
 use Rattle.fabric.specs.Settles.{AreOwnBuffers}
 use Rattle.pool.specs.Hands.{IsFreeRing, KeepsIn, view_in}
 use Rattle.pool.proofs.Kept.{hit_own, own_kept, same_view}
@@ -19,10 +19,10 @@ invariant_of-self-in-Some g c =
     let tags = g.T.Tagged.numbers in
     let l = c.args.self.now in
     let k = length l.cache - c.args.n in
-    let free : IsFreeRing (view_of_keeper c.in-Some.keeper).plans l.ring = subst (λ o. IsFreeRing (view_in o).plans l.ring) c.in-Some.is l.free in
+    let free : IsFreeRing (view_of_cache_hand c.in-Some.cache_hand).plans l.ring = subst (λ o. IsFreeRing (view_in o).plans l.ring) c.in-Some.is l.free in
     record {
       here = refl;
-      free = subst (λ (v : View g.row.T.Denot). IsFreeRing v.plans l.ring) (sym (same_view tags c.in-Some.keeper c.give.new.keeper c.give.ensures.same)) free;
+      free = subst (λ (v : View g.row.T.Denot). IsFreeRing v.plans l.ring) (sym (same_view tags c.in-Some.cache_hand c.give.new.cache_hand c.give.ensures.same)) free;
       small = l.small;
       room = l.room;
       within = search rules;
@@ -34,7 +34,7 @@ pub returns-clause-own : goal.returns-clause-own
 returns-clause-own g c =
     let tags = g.T.Tagged.numbers in
     let l = c.args.self.now in
-    let keeps : Keeps tags c.in-Some.keeper l.cache = subst (λ o. KeepsIn tags o l.cache) c.in-Some.is l.kept in
-    subst (λ v. AreOwnBuffers tags v (c.give.new.into ++ c.give.new.cache)) (sym (same_view tags c.in-Some.keeper c.give.new.keeper c.give.ensures.same))
-    (hit_own tags (view_of_keeper c.in-Some.keeper) (length l.cache - c.args.n) l.cache c.give.new.into c.give.new.cache c.give.ensures.moved
-    c.give.ensures.left (own_kept tags c.in-Some.keeper l.cache keeps l.single))
+    let keeps : Keeps tags c.in-Some.cache_hand l.cache = subst (λ o. KeepsIn tags o l.cache) c.in-Some.is l.kept in
+    subst (λ v. AreOwnBuffers tags v (c.give.new.into ++ c.give.new.cache)) (sym (same_view tags c.in-Some.cache_hand c.give.new.cache_hand c.give.ensures.same))
+    (hit_own tags (view_of_cache_hand c.in-Some.cache_hand) (length l.cache - c.args.n) l.cache c.give.new.into c.give.new.cache c.give.ensures.moved
+    c.give.ensures.left (own_kept tags c.in-Some.cache_hand l.cache keeps l.single))

@@ -1,7 +1,7 @@
 use Rattle.std.proofs.Common.{◌≡◌, length, true, refl, sym, ap, subst, rules, arith}
 use Rattle.ringcore_laws.specs.FreeRings.{AreSingle}
 use Rattle.fabric_laws.specs.declared.view.View.{View}
-use Rattle.fabric.specs.Keepers.{Keeps}
+use Rattle.fabric.specs.CacheHands.{Keeps}
 use Rattle.pool.specs.Hands.{IsFreeRing}
 use Rattle.pool.proofs.local.Local.new.Goals as goal
 
@@ -12,10 +12,10 @@ invariant_of-result g c =
     let fits = c.may_be.ensures.fits may in
     record {
       here = refl;
-      free = subst (λ (v : View g.row.T.Denot). IsFreeRing v.plans c.args.ring) (ap (λ s. s.me.0) (sym c.keeper.ensures.seat)) c.requires.free;
+      free = subst (λ (v : View g.row.T.Denot). IsFreeRing v.plans c.args.ring) (ap (λ s. s.me.0) (sym c.into_cache_hand.ensures.seat)) c.requires.free;
       small = fits.0;
       room = fits.1;
       within = omega (arith, ap length c.new.ensures);
-      kept = subst (Keeps tags c.keeper.result) (sym c.new.ensures) c.keeper.ensures.none;
+      kept = subst (Keeps tags c.into_cache_hand.result) (sym c.new.ensures) c.into_cache_hand.ensures.none;
       single = subst (AreSingle tags) (sym c.new.ensures) refl;
     }

@@ -13,8 +13,8 @@ use Rattle.pool.proofs.Counts.{spilled_none, spilled_some}
 use Rattle.pool.proofs.Wholes.{free_at, free_of, keeps_of, mine_of, same_mine, view_later}
 use Rattle.pool.proofs.local.Local.put_from.Goals as goal
 
-pub returns-then-not-may-clause-told : goal.returns-then-not-may-clause-told
-returns-then-not-may-clause-told g c plan there =
+pub returns-then-not-may-clause-exact : goal.returns-then-not-may-clause-exact
+returns-then-not-may-clause-exact g c plan there =
     let tags = g.T.Tagged.numbers in
     let l = c.args.self.now in
     let none : c.admit-may.result ≡ false = search rules in
@@ -22,11 +22,11 @@ returns-then-not-may-clause-told g c plan there =
       subst (λ o. AreNotOwnBuffers tags (view_in o) (l.cache ++ c.args.list.now)) (sym c.in-Some.is) (c.admit-may.ensures.other none),
       back.1,
       back.0,
-      view_later tags l.hand c.in-Some.keeper c.admit-may.new.keeper c.admit-may.new.keeper c.in-Some.is c.admit-may.ensures.same refl,
+      view_later tags l.hand c.in-Some.cache_hand c.admit-may.new.cache_hand c.admit-may.new.cache_hand c.in-Some.is c.admit-may.ensures.same refl,
     )
 
-pub returns-then-len-self-clause-told : goal.returns-then-len-self-clause-told
-returns-then-len-self-clause-told g c plan there =
+pub returns-then-len-self-clause-exact : goal.returns-then-len-self-clause-exact
+returns-then-len-self-clause-exact g c plan there =
     let tags = g.T.Tagged.numbers in
     let l = c.args.self.now in
     let may : c.admit-may.result ≡ true = search rules in
@@ -36,7 +36,7 @@ returns-then-len-self-clause-told g c plan there =
       subst (λ o. AreOwnBuffers tags (view_in o) all) (sym c.in-Some.is) (c.admit-may.ensures.yours may),
       moved.1,
       moved.0 ∙ ap (λ k. drop k all) (sym (spilled_none l.size (3 * l.size / 2) (length all) few)),
-      inl (few, view_later tags l.hand c.in-Some.keeper c.admit-may.new.keeper c.admit-may.new.keeper c.in-Some.is c.admit-may.ensures.same refl),
+      inl (few, view_later tags l.hand c.in-Some.cache_hand c.admit-may.new.cache_hand c.admit-may.new.cache_hand c.in-Some.is c.admit-may.ensures.same refl),
     )
 
 pub shed-requires : goal.shed-requires
@@ -46,24 +46,24 @@ shed-requires g c =
     let l = c.args.self.now in
     let may : c.admit-may.result ≡ true = search rules in
     let moved = c.admit-may.ensures.moved may in
-    let taken : Some c.admit-may.new.keeper ≡ Some c.in-Some-take.keeper = search rules in
-    let mine = same_mine f c.in-Some.keeper c.admit-may.new.keeper c.admit-may.ensures.same (mine_of f l.hand c.in-Some.keeper c.in-Some.is c.requires.local) in
+    let taken : Some c.admit-may.new.cache_hand ≡ Some c.in-Some-take.cache_hand = search rules in
+    let mine = same_mine f c.in-Some.cache_hand c.admit-may.new.cache_hand c.admit-may.ensures.same (mine_of f l.hand c.in-Some.cache_hand c.in-Some.is c.requires.local) in
     let long = length-append l.cache c.args.list.now in (
       search rules,
       (
         search rules,
         (
-          mine_of f (Some c.admit-may.new.keeper) c.in-Some-take.keeper taken mine,
+          mine_of f (Some c.admit-may.new.cache_hand) c.in-Some-take.cache_hand taken mine,
           (
-            free_of f l.hand c.in-Some.keeper l.ring c.in-Some.is c.requires.local l.free,
+            free_of f l.hand c.in-Some.cache_hand l.ring c.in-Some.is c.requires.local l.free,
             (
-              keeps_of tags (Some c.admit-may.new.keeper) c.in-Some-take.keeper c.admit-may.new.cache taken c.admit-may.ensures.kept,
+              keeps_of tags (Some c.admit-may.new.cache_hand) c.in-Some-take.cache_hand c.admit-may.new.cache taken c.admit-may.ensures.kept,
               (
                 c.admit-may.ensures.single,
                 (
                   omega (arith, c.if-len-self.false, c.len.ensures.value),
                   (
-                    omega (arith, ap length moved.0, long, l.within, l.room, c.requires.few),
+                    omega (arith, ap length moved.0, long, l.within, l.room, c.requires.at_most),
                     (omega (arith, ap length moved.0, long, c.len-before.ensures.value), moved.1),
                   ),
                 ),
@@ -78,17 +78,17 @@ pub invariant_of-self-in-Ok : goal.invariant_of-self-in-Ok
 invariant_of-self-in-Ok g c =
     let f = c.args.f.now in
     let l = c.args.self.now in
-    let free = free_of f l.hand c.in-Some.keeper l.ring c.in-Some.is c.requires.local l.free in
+    let free = free_of f l.hand c.in-Some.cache_hand l.ring c.in-Some.is c.requires.local l.free in
     let known = ring_at (rings_of f) l.ring free.0 in
-    let told = c.in-Ok.ensures.told known.0 known.1 in
+    let told = c.in-Ok.ensures.exact known.0 known.1 in
     let left = length-drop (length c.admit-may.new.cache - l.size) c.admit-may.new.cache in
     record {
       here = refl;
-      free = free_at f c.in-Ok.keeper l.ring c.in-Ok.ensures.keeper.0 free;
+      free = free_at f c.in-Ok.cache_hand l.ring c.in-Ok.ensures.cache_hand.0 free;
       small = l.small;
       room = l.room;
       within = omega (arith, ap length told.1, left, c.if-len-self.false, c.len.ensures.value);
-      kept = c.in-Ok.ensures.keeper.1;
+      kept = c.in-Ok.ensures.cache_hand.1;
       single = c.in-Ok.ensures.single;
     }
 
@@ -96,13 +96,13 @@ pub invariant_of-self-in-Err : goal.invariant_of-self-in-Err
 invariant_of-self-in-Err g c =
     let f = c.args.f.now in
     let l = c.args.self.now in
-    let free = free_of f l.hand c.in-Some.keeper l.ring c.in-Some.is c.requires.local l.free in
+    let free = free_of f l.hand c.in-Some.cache_hand l.ring c.in-Some.is c.requires.local l.free in
     let known = ring_at (rings_of f) l.ring free.0 in
-    let told = c.in-Err.ensures.told known.0 known.1 in
+    let told = c.in-Err.ensures.exact known.0 known.1 in
     let left = length-take c.len-before.result c.admit-may.new.cache in
     record {
       here = refl;
-      free = free_at f c.in-Err.keeper l.ring c.in-Err.ensures.same.0 free;
+      free = free_at f c.in-Err.cache_hand l.ring c.in-Err.ensures.same.0 free;
       small = l.small;
       room = l.room;
       within = omega (arith, ap length told.1, left, c.len-before.ensures.value, l.within);
@@ -110,15 +110,15 @@ invariant_of-self-in-Err g c =
       single = c.in-Err.ensures.single;
     }
 
-pub returns-in-Ok-clause-told : goal.returns-in-Ok-clause-told
-returns-in-Ok-clause-told g c plan there =
+pub returns-in-Ok-clause-exact : goal.returns-in-Ok-clause-exact
+returns-in-Ok-clause-exact g c plan there =
     let tags = g.T.Tagged.numbers in
     let l = c.args.self.now in
     let may : c.admit-may.result ≡ true = search rules in
     let moved = c.admit-may.ensures.moved may in
-    let taken : Some c.admit-may.new.keeper ≡ Some c.in-Some-take.keeper = search rules in
+    let taken : Some c.admit-may.new.cache_hand ≡ Some c.in-Some-take.cache_hand = search rules in
     let all = l.cache ++ c.args.list.now in
-    let told = c.in-Ok.ensures.told plan there in
+    let told = c.in-Ok.ensures.exact plan there in
     let many : 3 * l.size / 2 < length all = omega (arith, c.if-len-self.false, c.len.ensures.value, ap length moved.0) in
     let spare : length c.admit-may.new.cache - l.size ≡ spilled l.size all =
     ap (λ x. length x - l.size) moved.0 ∙ sym (spilled_some l.size (3 * l.size / 2) (length all) many) in (
@@ -130,7 +130,7 @@ returns-in-Ok-clause-told g c plan there =
         told.2,
         subst (λ (z : View g.row.T.Denot × List g.row.T.Denot). Spills tags g.row.N l.ring plan z.0 z.1 (Ok told.2))
             (λ i. (
-              view_later tags l.hand c.in-Some.keeper c.admit-may.new.keeper c.in-Some-take.keeper c.in-Some.is c.admit-may.ensures.same taken i,
+              view_later tags l.hand c.in-Some.cache_hand c.admit-may.new.cache_hand c.in-Some-take.cache_hand c.in-Some.is c.admit-may.ensures.same taken i,
               take (spare i) (moved.0 i),
             ))
             told.3,
@@ -138,15 +138,15 @@ returns-in-Ok-clause-told g c plan there =
       ),
     )
 
-pub returns-in-Err-clause-told : goal.returns-in-Err-clause-told
-returns-in-Err-clause-told g c plan there =
+pub returns-in-Err-clause-exact : goal.returns-in-Err-clause-exact
+returns-in-Err-clause-exact g c plan there =
     let tags = g.T.Tagged.numbers in
     let l = c.args.self.now in
     let may : c.admit-may.result ≡ true = search rules in
     let moved = c.admit-may.ensures.moved may in
-    let taken : Some c.admit-may.new.keeper ≡ Some c.in-Some-take.keeper = search rules in
+    let taken : Some c.admit-may.new.cache_hand ≡ Some c.in-Some-take.cache_hand = search rules in
     let all = l.cache ++ c.args.list.now in
-    let told = c.in-Err.ensures.told plan there in
+    let told = c.in-Err.ensures.exact plan there in
     let many : 3 * l.size / 2 < length all = omega (arith, c.if-len-self.false, c.len.ensures.value, ap length moved.0) in
     let spare : length c.admit-may.new.cache - l.size ≡ spilled l.size all =
     ap (λ x. length x - l.size) moved.0 ∙ sym (spilled_some l.size (3 * l.size / 2) (length all) many) in (
@@ -157,7 +157,7 @@ returns-in-Err-clause-told g c plan there =
       told.2,
       subst (λ (z : View g.row.T.Denot × List g.row.T.Denot). Spills tags g.row.N l.ring plan z.0 z.1 (Err told.2))
           (λ i. (
-            view_later tags l.hand c.in-Some.keeper c.admit-may.new.keeper c.in-Some-take.keeper c.in-Some.is c.admit-may.ensures.same taken i,
+            view_later tags l.hand c.in-Some.cache_hand c.admit-may.new.cache_hand c.in-Some-take.cache_hand c.in-Some.is c.admit-may.ensures.same taken i,
             take (spare i) (moved.0 i),
           ))
           told.3,

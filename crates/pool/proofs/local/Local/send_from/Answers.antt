@@ -3,10 +3,10 @@ use Rattle.pool.specs.Beside.{Sends}
 use Rattle.pool.proofs.Wholes.{free_at, free_of, keeps_of, mine_of}
 use Rattle.pool.proofs.local.Local.send_from.Goals as goal
 
-pub send-keeper-requires : goal.send-keeper-requires
-send-keeper-requires g c =
+pub send-cache_hand-requires : goal.send-cache_hand-requires
+send-cache_hand-requires g c =
     let l = c.args.self.now in
-    let k = c.in-Some.keeper in
+    let k = c.in-Some.cache_hand in
     let was : l.hand ≡ Some k = search rules in (
       search rules,
       (
@@ -22,23 +22,23 @@ pub invariant_of-self : goal.invariant_of-self
 invariant_of-self g c =
     let f = c.args.f.now in
     let l = c.args.self.now in
-    let k = c.in-Some.keeper in
+    let k = c.in-Some.cache_hand in
     let was : l.hand ≡ Some k = search rules in
     record {
       here = refl;
-      free = free_at f c.send-keeper.result.0 l.ring c.send-keeper.ensures.keeper.0 (free_of f l.hand k l.ring was c.requires.local l.free);
+      free = free_at f c.send-cache_hand.result.0 l.ring c.send-cache_hand.ensures.cache_hand.0 (free_of f l.hand k l.ring was c.requires.local l.free);
       small = l.small;
       room = l.room;
       within = l.within;
-      kept = c.send-keeper.ensures.keeper.1;
+      kept = c.send-cache_hand.ensures.cache_hand.1;
       single = l.single;
     }
 
-pub returns-clause-told : goal.returns-clause-told
-returns-clause-told g c plan there =
+pub returns-clause-exact : goal.returns-clause-exact
+returns-clause-exact g c plan there =
     let l = c.args.self.now in
-    let k = c.in-Some.keeper in
+    let k = c.in-Some.cache_hand in
     let was : l.hand ≡ Some k = search rules in
-    subst (λ o. Sends g.T.Tagged.numbers g.row.N c.args.ring plan o (Some c.send-keeper.result.0) l.cache c.args.list.now c.send-keeper.result.1
-    c.send-keeper.new.list) (sym was)
-    (c.send-keeper.ensures.told plan there)
+    subst (λ o. Sends g.T.Tagged.numbers g.row.N c.args.ring plan o (Some c.send-cache_hand.result.0) l.cache c.args.list.now c.send-cache_hand.result.1
+    c.send-cache_hand.new.list) (sym was)
+    (c.send-cache_hand.ensures.exact plan there)

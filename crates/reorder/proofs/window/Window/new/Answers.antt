@@ -5,7 +5,7 @@ use Rattle.reorder.proofs.window.Window.new.Goals as goal
 
 pub invariant_of-result : goal.invariant_of-result
 invariant_of-result g c = subst (λ places. IsRowOf places 0 0) (sym c.in_ok-empty_row.ensures)
-    (laid_new c.args.size c.requires.some c.requires.small)
+    (laid_new c.args.size c.requires.nonzero c.requires.small)
 
 pub returns : goal.returns
-returns g c = ap (λ places. waiting_in places 0) c.in_ok-empty_row.ensures ∙ waiting_new c.args.size c.requires.some
+returns g c = ap (λ places. waiting_in places 0) c.in_ok-empty_row.ensures ∙ waiting_new c.args.size c.requires.nonzero

@@ -22,6 +22,6 @@ returns g c =
     c.slot-self-inside.ensures.within c.slot-self-inside.ensures.value (rw item c.index_mut.ensures.value) in
     record {
       item = ap (λ (q : Fifo g.row.T.Denot). q.items) (sym c.self.view_is) ∙ rw c.take-item.ensures.after after.items;
-      some = after.some;
+      present = after.some;
       capacity = ap (λ (q : Fifo g.row.T.Denot). q.capacity) c.self.view_is;
     }

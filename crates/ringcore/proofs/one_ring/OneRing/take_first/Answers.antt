@@ -25,5 +25,5 @@ loop-preserved g c =
             rw w.out-is (let grown = w.push_reserved.ensures.len in let so_far = c.loop.invariant.2 in omega arith),
             rw w.out-is (w.push_reserved.ensures.capacity ∙ c.loop.invariant.3),
           )
-      | in_default w ↦ absurd (false≢true w.in_default.ensures.some)
+      | in_default w ↦ absurd (false≢true w.in_default.ensures.present)
     ]

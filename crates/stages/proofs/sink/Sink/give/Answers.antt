@@ -39,16 +39,16 @@ invariant_of-self-2 g c =
           (vs ++ x.verdict ∷ [])) sink.ports c.add.ensures.counted));
       bounded = search rules;
       ports = search rules;
-      many = c.pass.ensures.many ∙ sink.many;
-      texts = subst (λ n. HasTexts g.W.Write.contents g.J.Run.before g.J.Run.resolution outs n c.pass.new.self.failed c.pass.new.self.writers.items)
+      many = c.put_unless_failed.ensures.length ∙ sink.many;
+      texts = subst (λ n. HasTexts g.W.Write.contents g.J.Run.before g.J.Run.resolution outs n c.put_unless_failed.new.self.failed c.put_unless_failed.new.self.writers.items)
           (sym further)
-          (texts_turn g.W.Write.contents g.J.Run.before g.J.Run.resolution outs sink.window.next o sink.outputs.failed c.pass.new.self.failed
-          sink.outputs.writers.items c.pass.new.self.writers.items
-          here sink.texts (λ p e. ap (λ u. u.failed) (c.pass.ensures.still p e) ∙ e) c.pass.ensures.longer);
-      begun = begun_turn g.W.Write.contents g.J.Run.before g.J.Run.resolution outs sink.window.next o sink.outputs.failed c.pass.new.self.failed
-          sink.outputs.writers.items c.pass.new.self.writers.items
-          here sink.texts sink.begun (λ p e. ap (λ u. u.writers.items) (c.pass.ensures.still p e)) c.pass.ensures.cut;
-      failures = failures_turn g.J.Run.failures sink.outputs.failed c.pass.new.self.failed sink.outputs.writers.items c.pass.new.self.writers.items
+          (texts_turn g.W.Write.contents g.J.Run.before g.J.Run.resolution outs sink.window.next o sink.outputs.failed c.put_unless_failed.new.self.failed
+          sink.outputs.writers.items c.put_unless_failed.new.self.writers.items
+          here sink.texts (λ p e. ap (λ u. u.failed) (c.put_unless_failed.ensures.still p e) ∙ e) c.put_unless_failed.ensures.longer);
+      begun = begun_turn g.W.Write.contents g.J.Run.before g.J.Run.resolution outs sink.window.next o sink.outputs.failed c.put_unless_failed.new.self.failed
+          sink.outputs.writers.items c.put_unless_failed.new.self.writers.items
+          here sink.texts sink.begun (λ p e. ap (λ u. u.writers.items) (c.put_unless_failed.ensures.still p e)) c.put_unless_failed.ensures.cut;
+      failures = failures_turn g.J.Run.failures sink.outputs.failed c.put_unless_failed.new.self.failed sink.outputs.writers.items c.put_unless_failed.new.self.writers.items
           sink.failures
-          (λ p e. (ap (λ u. u.failed) (c.pass.ensures.still p e) ∙ e, ap (λ u. u.writers.items) (c.pass.ensures.still p e))) c.pass.ensures.failures;
+          (λ p e. (ap (λ u. u.failed) (c.put_unless_failed.ensures.still p e) ∙ e, ap (λ u. u.writers.items) (c.put_unless_failed.ensures.still p e))) c.put_unless_failed.ensures.failures;
     }

@@ -39,6 +39,6 @@ invariant_of-result g c =
       many = many;
       texts = subst (λ n. HasTexts g.W.Write.contents g.J.Run.before g.J.Run.resolution outs n c.args.outputs.failed writers.items) next
           (fresh_texts g.W.Write.contents g.J.Run.before g.J.Run.resolution outs c.args.outputs.failed writers.items c.requires.before c.requires.fresh);
-      begun = λ all p known bad. absurd (cc (sym c.requires.well ∙ bad));
-      failures = fresh_failures g.J.Run.failures c.args.outputs.failed (devices_of writers.items) c.requires.failures c.requires.well;
+      begun = λ all p known bad. absurd (cc (sym c.requires.no_failure ∙ bad));
+      failures = fresh_failures g.J.Run.failures c.args.outputs.failed (devices_of writers.items) c.requires.failures c.requires.no_failure;
     }

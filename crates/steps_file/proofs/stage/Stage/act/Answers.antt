@@ -16,14 +16,14 @@ held (Err error) fine at_ok = absurd (let h : true ≡ false = fine in cc)
 pub returns-clause-ok : goal.returns-clause-ok
 returns-clause-ok c =
     let well : is_err c.answer_step.result ≡ false = search rules in
-    let known : c.knows.result ≡ true = search rules in
+    let known : c.has.result ≡ true = search rules in
     let world = held c.answer_step.result well c.answer_step.ensures.world in
     let told = held c.answer_step.result well c.answer_step.ensures.reply in
     λ s keeps.
     let h = running s in
     let runs : IsRunning s.plan c.in-Some.world h =
     subst (λ (o : Option World). IfSome o (λ w. IsRunning s.plan w h)) c.in-Some.is (c.in_ok-open_world.ensures.opened s keeps) in
-    let both = planned_is h c.args.actor c.args.step c.knows.result (c.knows.ensures.planned h runs.agrees) in
+    let both = planned_is h c.args.actor c.args.step c.has.result (c.has.ensures.planned h runs.agrees) in
     let plan : named c.open_world.new.self.draft ≡ s.plan = ap named c.open_world.ensures.kept ∙ keeps.plan in
     let after = world h runs.agrees runs.right in
     let rings : c.as_slice-rings.result.now ≡ s.plan.rings =

@@ -1,0 +1,166 @@
+//! Open spans, and how they are settled.
+ghost use Rattle.std.specs.Prelude.{◌≡◌, [], take, IfOk, IfErr};
+ghost use Rattle.std.specs.List.{flat_map};
+ghost use Rattle.fabric.specs.Hands.{RefusesPut, RefusesTake, HasPut, HasTaken, SamePut, SameTake, put_left};
+ghost use Rattle.fabric.specs.Hands.{put_span, put_view, take_left, take_span, take_view, view};
+ghost use Rattle.fabric.specs.Settles.{HoldsLess, HoldsMore};
+ghost use Rattle.burst.specs.Numbers.{AreDistinct};
+ghost use Rattle.fabric.specs.Truths.{IsTrueTooEarly};
+ghost use Rattle.fabric.specs.Views.{IsKept};
+ghost use Rattle.fabric.specs.declared.hand.SettleFault.TheVariants.{NotYours};
+ghost use Rattle.geom.specs.declared.plan.Mode.TheVariants.{Hts};
+
+use crate::hand::{Hand, PutOpen, SettleFault, Share, TakeOpenLent};
+use crate::spans::settle::is_count;
+use burst::{Burst, Tagged};
+use geom::Side;
+
+impl<'f, T: Tagged, const N: usize> PutOpen<'f, T, N> {
+    /// The first position of the span.
+    pub fn start(&self) -> u64
+        ensures { result ≡ (put_span self.now).start }
+    {
+        self.place.start
+    }
+
+    /// How many positions the span has, 1 to `N`.
+    #[inline]
+    pub fn count(&self) -> usize
+        ensures { result ≡ (put_span self.now).count }
+    {
+        self.place.count
+    }
+
+    /// How many positions more were free as the span was reserved.
+    pub fn left(&self) -> u64
+        ensures { result ≡ put_left self.now }
+    {
+        self.place.left
+    }
+
+    /// Tries once to publish the items at the positions of the span: on a multi side as many as it has, on an HTS side
+    /// at most so many, and the others are given up. One step on a word at most. The burst is empty then; at a refusal
+    /// it is as it was, and the span stays open.
+    ///
+    /// Refused, in the order of the tests: `BadCount`, `NotYours`, before any step; `NotYet`.
+    pub fn try_settle_from(
+        self,
+        items: &mut Burst<T, N>,
+    ) -> Result<Hand<T>, (PutOpen<'f, T, N>, SettleFault)>
+        ensures done { IfOk result (λ h. HasPut self.entry items.old h × (items.new ≡ [])) }
+        ensures refused { IfErr result (λ e. SamePut self.entry e.0 × (items.new ≡ items.old)
+            × RefusesPut T.numbers self.entry items.old e.0 e.1) }
+        ensures kept { IfErr result (λ e. IsKept (put_view self.entry) (put_view e.0)) }
+        ensures true_refusal { IfErr result
+            (λ e. IsTrueTooEarly T.numbers (put_span self.entry) (put_view self.entry) e.1) }
+        ensures owned { IfOk result (λ h. HoldsLess T.numbers (put_view self.entry) items.old (view h)) }
+    {
+        if !is_count(self.ring.shape.plan.put, items.len(), self.place.count) {
+            return Err((self, SettleFault::BadCount));
+        }
+        let PutOpen { ring, share, place } = self;
+        let Share {
+            mut seat,
+            mut owned,
+            parts,
+        } = share;
+        if !owned.disown(ring.shape.plan.free, items) {
+            let share = Share { seat, owned, parts };
+            return Err((PutOpen { ring, share, place }, SettleFault::NotYours));
+        }
+        let Some(tail) = ring.publish(&mut seat, place, &mut items.cells) else {
+            return Ok(Hand {
+                share: Share { seat, owned, parts },
+            });
+        };
+        owned.own(items, items.len());
+        let share = Share { seat, owned, parts };
+        Err((PutOpen { ring, share, place }, SettleFault::NotYet(tail)))
+    }
+
+    /// Gives up all positions of a span on a head/tail-sync side: `try_settle_from` with no item, without a burst.
+    /// Asked: the side is one. One step on a word.
+    pub fn abort(self) -> Hand<T>
+        requires hts { self.ring.shape.plan.put ≡ Hts }
+        ensures { HasPut self.entry [] result }
+    {
+        let PutOpen { ring, share, place } = self;
+        let Share {
+            mut seat,
+            owned,
+            parts,
+        } = share;
+        ring.store(&mut seat, Side::Put, place.start, 0);
+        Hand {
+            share: Share { seat, owned, parts },
+        }
+    }
+}
+
+impl<'f, T: Tagged, const N: usize> TakeOpenLent<'f, T, N> {
+    /// The first position of the span.
+    pub fn start(&self) -> u64
+        ensures { result ≡ (take_span self.now).start }
+    {
+        self.place.start
+    }
+
+    /// How many positions the span has, 1 to `N`.
+    #[inline]
+    pub fn count(&self) -> usize
+        ensures { result ≡ (take_span self.now).count }
+    {
+        self.place.count
+    }
+
+    /// How many items more were queued as the span was reserved.
+    pub fn left(&self) -> u64
+        ensures { result ≡ take_left self.now }
+    {
+        self.place.left
+    }
+
+    /// Tries once to take the items at the first `k` positions of the span: on a multi side all, on an HTS side any
+    /// number, and the other items are queued again. One step on a word at most. The burst, as the start filled it,
+    /// then has the items that were taken; at a refusal it is as it was, and the span stays open. Asked: the burst has
+    /// the items that the start showed.
+    ///
+    /// Refused, in the order of the tests: `BadCount`, before any step; `NotYet`.
+    pub fn try_settle_into(
+        self,
+        k: usize,
+        items: &mut Burst<T, N>,
+    ) -> Result<Hand<T>, (TakeOpenLent<'f, T, N>, SettleFault)>
+        requires shows { items.old ≡ (take_view self).shown }
+        ensures done { IfOk result (λ h. HasTaken self.entry k items.old h × (items.new ≡ take k items.old)) }
+        ensures refused { IfErr result (λ e. SameTake self.entry e.0 × (items.new ≡ items.old)
+            × RefusesTake T.numbers self.entry k e.0 e.1) }
+        ensures kept { IfErr result (λ e. IsKept (take_view self.entry) (take_view e.0)) }
+        ensures apart { IfOk result (λ _. AreDistinct (flat_map T.numbers items.new)) }
+        ensures named { IfErr result (λ e. e.1 ≡ NotYours → ⊥) }
+        ensures true_refusal { IfErr result
+            (λ e. IsTrueTooEarly T.numbers (take_span self.entry) (take_view self.entry) e.1) }
+        ensures owned { IfOk result (λ h. HoldsMore T.numbers (take_view self.entry) items.new (view h)) }
+    {
+        if !is_count(self.ring.shape.plan.take, k, self.place.count) {
+            return Err((self, SettleFault::BadCount));
+        }
+        let TakeOpenLent { ring, share, place } = self;
+        let Share {
+            mut seat,
+            mut owned,
+            parts,
+        } = share;
+        let Some(tail) = ring.dequeue(&mut seat, place, k, &mut items.cells) else {
+            owned.own(items, items.len());
+            return Ok(Hand {
+                share: Share { seat, owned, parts },
+            });
+        };
+        let share = Share { seat, owned, parts };
+        Err((
+            TakeOpenLent { ring, share, place },
+            SettleFault::NotYet(tail),
+        ))
+    }
+}

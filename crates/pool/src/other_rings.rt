@@ -1,0 +1,68 @@
+//! Puts and takes on any ring of the fabric by a hand that keeps the buffers of a cache back: the cache stays as it is.
+ghost use Rattle.std.specs.Prelude.{◌≡◌, ◌<◌, [], Some, length};
+ghost use Rattle.ringcore_laws.specs.FreeRings.{AreSingle};
+ghost use Rattle.fabric.specs.Hands.{OnRing, rings_of};
+ghost use Rattle.fabric.specs.CacheHands.{IsCacheHandOf, Keeps};
+ghost use Rattle.pool.specs.Beside.{Receives, Sends};
+
+use crate::set_aside::keep_back;
+use burst::{Burst, Tagged};
+use fabric::{CacheHand, Fabric, StartFault};
+use ringapi::{Moved, PutAnswer, Refusal, TakeAnswer, put_own_burst_from, take_burst_into};
+use std::sync::Wait;
+
+/// Puts as many items of a list as there is room for, from its front.
+pub(crate) fn send<T: Tagged, const N: usize, R: Wait>(
+    rt: &R,
+    f: &Fabric<T, N>,
+    cache_hand: CacheHand<T>,
+    ring: usize,
+    cache: &Burst<T, N>,
+    list: &mut Burst<T, N>,
+) -> (CacheHand<T>, Result<Moved, Refusal>)
+    requires cache_hand { IsCacheHandOf f.now cache_hand }
+    requires ring { ring < length (rings_of f.now) }
+    requires kept { Keeps T.numbers cache_hand cache.now }
+    requires single { AreSingle T.numbers cache.now }
+    ensures cache_hand { IsCacheHandOf f.now result.0 × Keeps T.numbers result.0 cache.now }
+    ensures exact { OnRing f.now ring
+        (λ plan. Sends T.numbers N ring plan (Some cache_hand) (Some result.0) cache.now list.old result.1 list.new) }
+{
+    let mut cache_hand = cache_hand;
+    if !cache_hand.may_put(f, ring, list) {
+        return (cache_hand, Err(Refusal::NotYours));
+    }
+    let hand = cache_hand.into_hand(cache);
+    match put_own_burst_from(rt, f, hand, ring, list) {
+        PutAnswer::Done(hand, moved) => (keep_back(hand, cache), Ok(moved)),
+        PutAnswer::Refused(hand, refusal) => (keep_back(hand, cache), Err(refusal)),
+        PutAnswer::Open(_, _) => unreachable!(),
+    }
+}
+
+/// Takes at most `n` items, as many as are queued, into an empty list.
+pub(crate) fn receive<T: Tagged, const N: usize, R: Wait>(
+    rt: &R,
+    f: &Fabric<T, N>,
+    cache_hand: CacheHand<T>,
+    ring: usize,
+    n: usize,
+    cache: &Burst<T, N>,
+    into: &mut Burst<T, N>,
+) -> (CacheHand<T>, Result<Moved, StartFault>)
+    requires cache_hand { IsCacheHandOf f.now cache_hand }
+    requires ring { ring < length (rings_of f.now) }
+    requires kept { Keeps T.numbers cache_hand cache.now }
+    requires single { AreSingle T.numbers cache.now }
+    requires empty { into.old ≡ [] }
+    ensures cache_hand { IsCacheHandOf f.now result.0 × Keeps T.numbers result.0 cache.now }
+    ensures exact { OnRing f.now ring (λ plan. Receives T.numbers N ring plan (Some cache_hand) (Some result.0) n
+        result.1 into.new) }
+{
+    let hand = cache_hand.into_hand(cache);
+    match take_burst_into(rt, f, hand, ring, n, into) {
+        TakeAnswer::Done(hand, moved) => (keep_back(hand, cache), Ok(moved)),
+        TakeAnswer::Refused(hand, fault) => (keep_back(hand, cache), Err(fault)),
+        TakeAnswer::Open(_, _) => unreachable!(),
+    }
+}

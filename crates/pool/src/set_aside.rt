@@ -1,0 +1,146 @@
+//! A hand and the cache whose buffers it keeps back.
+ghost use Rattle.std.specs.Prelude.{◌≡◌, ◌+◌, ◌-◌, ◌<◌, ◌≤◌, ◌++◌, [], length, take, drop, reverse, true, false, IfOk, IfErr};
+ghost use Rattle.ringcore_laws.specs.FreeRings.{AreSingle};
+ghost use Rattle.fabric.specs.Hands.{OnRing, view};
+ghost use Rattle.fabric.specs.CacheHands.{IsCacheHandFor, IsCacheHandOf, Keeps, SameCacheHand, view_of_cache_hand};
+ghost use Rattle.fabric.specs.Settles.{AreNotOwnBuffers, AreOwnBuffers};
+ghost use Rattle.pool.specs.Asks.{Sheds};
+ghost use Rattle.pool.specs.Hands.{IsFreeOf};
+
+use crate::list_moves::{part, push_all};
+use crate::ring_requests::spill;
+use burst::{Burst, Tagged};
+use fabric::{CacheHand, Fabric, Hand};
+use std::sync::Wait;
+
+/// The hand as one that keeps the buffers of a cache back. Asked: they are its own to put on a free ring.
+pub(crate) fn keep_back<T: Tagged, const N: usize>(
+    hand: Hand<T>,
+    cache: &Burst<T, N>,
+) -> CacheHand<T>
+    requires own { AreOwnBuffers T.numbers (view hand) cache.now }
+    ensures seat { IsCacheHandFor hand result }
+    ensures kept { Keeps T.numbers result cache.now }
+{
+    let mut cache_hand = hand.into_cache_hand();
+    if !cache_hand.set_aside(cache) {
+        unreachable!();
+    }
+    cache_hand
+}
+
+/// Appends the items of a list to a cache, where all of them together are the hand's to put on a free ring; else
+/// nothing changes.
+pub(crate) fn admit<T: Tagged, const N: usize>(
+    cache_hand: &mut CacheHand<T>,
+    cache: &mut Burst<T, N>,
+    list: &mut Burst<T, N>,
+) -> bool
+    requires kept { Keeps T.numbers cache_hand.old cache.old }
+    requires single { AreSingle T.numbers cache.old }
+    requires room { length cache.old + length list.old ≤ N }
+    ensures same { SameCacheHand cache_hand.old cache_hand.new }
+    ensures kept { Keeps T.numbers cache_hand.new cache.new }
+    ensures single { AreSingle T.numbers cache.new }
+    ensures yours { result ≡ true
+        → AreOwnBuffers T.numbers (view_of_cache_hand cache_hand.old) (cache.old ++ list.old) }
+    ensures other { result ≡ false
+        → AreNotOwnBuffers T.numbers (view_of_cache_hand cache_hand.old) (cache.old ++ list.old) }
+    ensures moved { result ≡ true → (cache.new ≡ cache.old ++ list.old) × (list.new ≡ []) }
+    ensures back { result ≡ false → (cache.new ≡ cache.old) × (list.new ≡ list.old) }
+{
+    let may = cache_hand.set_aside(list);
+    if may {
+        push_all(cache, list);
+    }
+    may
+}
+
+/// Moves the items behind the first `k` of a cache into an empty list, the newest first, and keeps them back no more.
+/// Never in line, so that `give` is short enough to be.
+#[inline(never)]
+fn give_behind<T: Tagged, const N: usize>(
+    cache_hand: &mut CacheHand<T>,
+    cache: &mut Burst<T, N>,
+    k: usize,
+    into: &mut Burst<T, N>,
+)
+    requires kept { Keeps T.numbers cache_hand.old cache.old }
+    requires at_most { k ≤ length cache.old }
+    requires empty { into.old ≡ [] }
+    ensures same { SameCacheHand cache_hand.old cache_hand.new }
+    ensures kept { Keeps T.numbers cache_hand.new cache.new }
+    ensures left { cache.new ≡ take k cache.old }
+    ensures moved { into.new ≡ reverse (drop k cache.old) }
+{
+    // its clause says that no list is longer than `N`
+    let _fits = cache.len();
+    cache.move_tail_reversed(k, into);
+    cache_hand.restore(into);
+}
+
+/// Moves the newest `n` items of a cache into an empty list, the newest first, and keeps them back no more. One item,
+/// as in most calls, goes without a loop.
+#[inline]
+pub(crate) fn give<T: Tagged, const N: usize>(
+    cache_hand: &mut CacheHand<T>,
+    cache: &mut Burst<T, N>,
+    n: usize,
+    into: &mut Burst<T, N>,
+)
+    requires kept { Keeps T.numbers cache_hand.old cache.old }
+    requires at_most { n ≤ length cache.old }
+    requires empty { into.old ≡ [] }
+    ensures same { SameCacheHand cache_hand.old cache_hand.new }
+    ensures kept { Keeps T.numbers cache_hand.new cache.new }
+    ensures left { cache.new ≡ take (length cache.old - n) cache.old }
+    ensures moved { into.new ≡ reverse (drop (length cache.old - n) cache.old) }
+{
+    let k = cache.len() - n;
+    if n != 1 {
+        give_behind(cache_hand, cache, k, into);
+        return;
+    }
+    if let Some(item) = cache.pop() {
+        cache_hand.restore_one(&item);
+        into.push(item);
+    }
+}
+
+/// Puts the oldest items of a cache on the ring until `size` are left. Where that is refused, those behind the first
+/// `before` go into an empty list, in order.
+pub(crate) fn shed<T: Tagged, const N: usize, R: Wait>(
+    rt: &R,
+    f: &Fabric<T, N>,
+    cache_hand: CacheHand<T>,
+    ring: usize,
+    size: usize,
+    before: usize,
+    cache: &mut Burst<T, N>,
+    list: &mut Burst<T, N>,
+) -> Result<CacheHand<T>, CacheHand<T>>
+    requires cache_hand { IsCacheHandOf f.now cache_hand }
+    requires free { IsFreeOf f.now ring }
+    requires kept { Keeps T.numbers cache_hand cache.old }
+    requires single { AreSingle T.numbers cache.old }
+    requires length { size < length cache.old }
+    requires room { length cache.old ≤ N }
+    requires before { before ≤ length cache.old }
+    requires empty { list.old ≡ [] }
+    ensures cache_hand { IfOk result (λ k. IsCacheHandOf f.now k × Keeps T.numbers k cache.new) }
+    ensures same { IfErr result (λ k. IsCacheHandOf f.now k × Keeps T.numbers k cache.new) }
+    ensures single { AreSingle T.numbers cache.new }
+    ensures exact { OnRing f.now ring
+        (λ plan. Sheds T.numbers N ring plan size before (view_of_cache_hand cache_hand) cache.old
+        result list.new cache.new) }
+{
+    let spare = cache.len() - size;
+    let hand = cache_hand.into_hand(cache);
+    match spill(rt, f, hand, ring, spare, cache, list) {
+        Ok(hand) => Ok(keep_back(hand, cache)),
+        Err(hand) => {
+            part(cache, before, list);
+            Err(keep_back(hand, cache))
+        }
+    }
+}

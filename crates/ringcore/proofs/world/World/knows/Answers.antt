@@ -1,7 +1,0 @@
-use Rattle.ringcore.proofs.Rightness.{knows_planned}
-use Rattle.ringcore.proofs.world.World.knows.Goals as goal
-
-pub returns-clause-planned : goal.returns-clause-planned
-returns-clause-planned c = λ h agree.
-    let same = knows_planned c.args.self.now h c.args.actor c.args.step.now agree in
-    ((λ is. same.0 (c.has.ensures.0 is)), (λ is. c.has.ensures.1 (same.1 is)))

@@ -1,6 +1,0 @@
-use Rattle.std.proofs.Common.{refl}
-use Rattle.stages.proofs.station.Station.receive.Goals as goal
-
-pub returns-in-Err-Worn : goal.returns-in-Err-Worn
-returns-in-Err-Worn g c =
-    record { told = (refl, c.in-Err-Worn.field-0, c.in-Err-Worn.field-0-is, λ plan there. c.in-Err-Worn.ensures.told plan there) }

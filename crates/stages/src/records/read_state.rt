@@ -1,0 +1,47 @@
+//! How far the reader of a run is in its input.
+ghost use Rattle.std.specs.Prelude.{◌≡◌, ◌≤◌, ◌<◌, ◌+◌, ◌^◌, [], length};
+ghost use Rattle.counters.specs.Counted.{counts_of};
+ghost use Rattle.counters.specs.Tally.{records_of};
+ghost use Rattle.stages.specs.SoFar.{IsAll};
+
+use crate::records::input_totals::InputTotals;
+use counters::Counts;
+use stages_laws::Run;
+use std::marker::PhantomData;
+
+/// How many records were numbered so far, and the counts of those that are oversize.
+#[derive(Drop)]
+pub(crate) struct ReadState {
+    pub(crate) count: u64,
+    pub(crate) share: Counts,
+}
+
+impl ReadState {
+    /// Before the first record of an input, for so many ports.
+    pub(crate) fn new(ports: usize) -> ReadState
+        requires nonzero { 0 < ports }
+        requires at_most { ports ≤ 16 }
+        ensures count { result.count ≡ 0 }
+        ensures share { result.share ≡ counts_of ports 0 [] }
+    {
+        ReadState {
+            count: 0,
+            share: Counts::new(ports),
+        }
+    }
+
+    /// What is told at the end of the input.
+    pub(crate) fn into_totals<J: Run>(self, torn: bool) -> InputTotals<J>
+        requires all { IsAll J.input J.room (length J.before) self torn }
+        requires bounded { self.count + records_of self.share < 2 ^ 64 }
+        ensures { result.count ≡ self.count }
+    {
+        let ReadState { count, share } = self;
+        InputTotals {
+            count,
+            share,
+            torn,
+            of: PhantomData,
+        }
+    }
+}

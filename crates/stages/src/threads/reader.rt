@@ -1,0 +1,180 @@
+//! The reader of a run in threads: it reads each record into free segments, and gives it to the workers.
+ghost use Rattle.std.specs.Prelude.{◌≡◌, ◌≤◌, ◌<◌, ◌⊎◌, ◌*◌, ◌-◌, max, length, IfOk, IfErr};
+ghost use Rattle.mbuf.specs.Chain.{space_of};
+ghost use Rattle.stages.specs.Begun.{GoesBy, HasInput};
+ghost use Rattle.stages.specs.Feeding.{WhyUnfed};
+
+use crate::fault::{RunFault, StageFault};
+use crate::packet::Packet;
+use crate::records::input_totals::InputTotals;
+use crate::records::next_record::NextRecord;
+use crate::records::read_state::ReadState;
+use crate::records::{look, read_record};
+use crate::threads::reader_outcome::ReaderOutcome;
+use crate::threads::ring_port::RingPort;
+use crate::threads::rings::{INPUT, SPAN};
+use crate::threads::segments::link;
+use burst::Burst;
+use crossbeam_utils::Backoff;
+use mbuf::Chain;
+use pcapio::Reader;
+use pool::PoolFault;
+use settings::Settings;
+use stages_laws::Run;
+use std::io::Read;
+use std::sync::Wait;
+
+/// How many segments a record takes: as many as have room for its bytes, and one at least.
+fn segments_of(captured: usize, room: usize) -> usize
+    requires room { 0 < room }
+    requires small { room ≤ 65536 }
+    requires fits { captured ≤ 64 * room }
+    ensures nonzero { 0 < result }
+    ensures at_most { result ≤ 64 }
+    ensures enough { captured ≤ result * room }
+    ensures least { (result ≡ 1) ⊎ ((result - 1) * room < captured) }
+{
+    if captured == 0 {
+        return 1;
+    }
+    (captured - 1) / room + 1
+}
+
+/// Free segments for a record, as soon as there are so many. Before it waits for them, packets that wait to be put
+/// together are put.
+fn obtain<J: Run, T: Wait>(
+    rt: &T,
+    ring_port: &mut RingPort<'_, Packet<J>>,
+    batch: &mut Burst<Packet<J>, SPAN>,
+    got: &mut Burst<Packet<J>, SPAN>,
+    n: usize,
+    captured: usize,
+) -> Result<Chain, StageFault>
+    requires nonzero { 0 < n }
+    requires at_most { n ≤ 64 }
+    ensures space { IfOk result (λ chain. captured ≤ space_of chain) }
+{
+    let backoff = Backoff::new();
+    for _ in rt.forever() {
+        got.clear();
+        match ring_port.get(rt, n, got) {
+            Ok(()) => {
+                let Some(chain) = link(got) else {
+                    return Err(StageFault::Window);
+                };
+                if chain.space() < captured {
+                    return Err(StageFault::Window);
+                }
+                return Ok(chain);
+            }
+            Err(PoolFault::Short) => {
+                if batch.is_empty() {
+                    backoff.snooze();
+                } else {
+                    ring_port.send(rt, INPUT, batch)?;
+                }
+            }
+            Err(PoolFault::Worn) => return Err(StageFault::Worn),
+            Err(_) => return Err(StageFault::Window),
+        }
+    }
+    unreachable!()
+}
+
+/// Puts a packet to those that wait to be put together, which are put before it where they are as many as a burst.
+fn enqueue<J: Run, T: Wait>(
+    rt: &T,
+    ring_port: &mut RingPort<'_, Packet<J>>,
+    batch: &mut Burst<Packet<J>, SPAN>,
+    burst: usize,
+    packet: Packet<J>,
+) -> Result<(), StageFault>
+    requires at_most { burst ≤ 64 }
+    ensures { IfOk result (λ _. length batch.new ≤ max 1 burst) }
+{
+    if batch.len() >= burst {
+        ring_port.send(rt, INPUT, batch)?;
+    }
+    batch.push(packet);
+    Ok(())
+}
+
+/// Reads all records, and puts each on the input ring; the last ones wait in `batch` then.
+fn read_all<J: Run, R: Read, T: Wait>(
+    rt: &T,
+    ring_port: &mut RingPort<'_, Packet<J>>,
+    reader: &mut Reader<R>,
+    batch: &mut Burst<Packet<J>, SPAN>,
+    settings: &Settings,
+) -> Result<InputTotals<J>, RunFault>
+    requires input { HasInput R.remaining reader.old J.input J.read_failures }
+    requires settings { GoesBy settings.now J.room J.forwarding (length J.before) }
+    ensures cause { IfErr result (WhyUnfed J.input reader.old reader.new) }
+{
+    let room = settings.room as usize;
+    let burst = settings.burst as usize;
+    let mut got = Burst::<Packet<J>, SPAN>::new();
+    let mut progress = ReadState::new(settings.ports.sources.len());
+    for _turn in 0..u64::MAX {
+        let head = match look::<J, R>(reader, &mut progress, room) {
+            Ok(NextRecord::Record(head)) => head,
+            Ok(NextRecord::Oversize) => continue,
+            Ok(NextRecord::Ended(torn)) => return Ok(progress.into_totals(torn)),
+            Err(fault) => return Err(fault),
+        };
+        let captured = head.captured as usize;
+        let n = segments_of(captured, room);
+        let chain = match obtain(rt, ring_port, batch, &mut got, n, captured) {
+            Ok(chain) => chain,
+            Err(fault) => return Err(fault.to_run_fault()),
+        };
+        let packet = match read_record::<J, R>(reader, &mut progress, head, chain) {
+            Ok(Some(packet)) => packet,
+            Ok(None) => return Ok(progress.into_totals(true)),
+            Err(fault) => return Err(fault),
+        };
+        match enqueue(rt, ring_port, batch, burst, Packet::Before(packet)) {
+            Ok(()) => (),
+            Err(fault) => return Err(fault.to_run_fault()),
+        }
+    }
+    Err(RunFault::Window)
+}
+
+/// Puts the last packets, and then an end mark for each worker.
+pub(crate) fn dismiss<J: Run, T: Wait>(
+    rt: &T,
+    ring_port: &mut RingPort<'_, Packet<J>>,
+    batch: &mut Burst<Packet<J>, SPAN>,
+    workers: usize,
+) -> Result<(), StageFault>
+    requires at_most { workers ≤ 16 }
+{
+    ring_port.send(rt, INPUT, batch)?;
+    for _i in 0..workers {
+        batch.push(Packet::mark());
+    }
+    ring_port.send(rt, INPUT, batch)
+}
+
+/// The reader: reads all records, gives each to the workers, and then an end mark to each worker, whatever happens.
+pub(crate) fn feed<J: Run, R: Read, T: Wait>(
+    rt: &T,
+    mut ring_port: RingPort<'_, Packet<J>>,
+    mut reader: Reader<R>,
+    workers: usize,
+    settings: &Settings,
+) -> ReaderOutcome<J, R>
+    requires input { HasInput R.remaining reader J.input J.read_failures }
+    requires settings { GoesBy settings.now J.room J.forwarding (length J.before) }
+    requires at_most { workers ≤ 16 }
+{
+    let mut batch = Burst::<Packet<J>, SPAN>::new();
+    let answer = read_all::<J, R, T>(rt, &mut ring_port, &mut reader, &mut batch, settings);
+    let sent = dismiss(rt, &mut ring_port, &mut batch, workers);
+    let outcome = ReaderOutcome {
+        device: Some(reader.into_inner()),
+        answer,
+    };
+    outcome.with(sent)
+}

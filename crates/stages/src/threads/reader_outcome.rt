@@ -1,0 +1,65 @@
+//! What the reader of a run in threads leaves.
+ghost use Rattle.std.specs.Prelude.{◌≡◌, ◌⊎◌, Err, Ok};
+ghost use Rattle.stages.specs.Feeding.{ReadFailed, IsHere, IsNoCapture, WroteNothing};
+ghost use Rattle.stages.specs.Faults.{fault_of_stage, lower_of};
+ghost use Rattle.stages.specs.declared.fault.StageFault.{StageFault};
+ghost use Rattle.stages.specs.declared.fault.RunFault.{RunFault};
+ghost use Rattle.stages.specs.declared.fault.RunFault.TheVariants.{Memory, Thread};
+
+use crate::fault::{RunFault, StageFault, lower};
+use crate::records::input_totals::InputTotals;
+use pcapio::{Counted, Reader};
+use stages_laws::Run;
+use std::io::Read;
+
+/// The input's device, where its thread could be started, and what was read of it.
+#[derive(Drop)]
+pub(crate) struct ReaderOutcome<J: Run, R> {
+    pub(crate) device: Option<Counted<R>>,
+    pub(crate) answer: Result<InputTotals<J>, RunFault>,
+    pub ghost failed: { ReadFailed J.read_failures device answer },
+    pub ghost here: { IsHere device answer },
+    pub ghost refused: { IsNoCapture J.input answer },
+    pub ghost unwritten: { WroteNothing answer },
+}
+
+impl<J: Run, R: Read> ReaderOutcome<J, R> {
+    /// Nothing was read: memory was refused, or the thread of a worker couldn't be started.
+    pub(crate) fn unread(reader: Reader<R>, fault: RunFault) -> ReaderOutcome<J, R>
+        requires { (fault ≡ Memory) ⊎ (fault ≡ Thread) }
+    {
+        ReaderOutcome {
+            device: Some(reader.into_inner()),
+            answer: Err(fault),
+        }
+    }
+
+    /// The reader's own thread couldn't be started, and what was given to it is gone.
+    pub(crate) fn lost() -> ReaderOutcome<J, R> {
+        ReaderOutcome {
+            device: None,
+            answer: Err(RunFault::Thread),
+        }
+    }
+
+    /// The same, where the sink couldn't go on.
+    pub(crate) fn with(self, drained: Result<(), StageFault>) -> ReaderOutcome<J, R>
+        ensures exact { (stage : StageFault) (fault : RunFault) → drained ≡ Err stage → self.answer ≡ Err fault
+            → result.answer ≡ Err (lower_of fault (fault_of_stage stage)) }
+    {
+        let ReaderOutcome { device, answer, .. } = self;
+        match drained {
+            Ok(()) => ReaderOutcome { device, answer },
+            Err(stage) => match answer {
+                Ok(_) => ReaderOutcome {
+                    device,
+                    answer: Err(stage.to_run_fault()),
+                },
+                Err(fault) => ReaderOutcome {
+                    device,
+                    answer: Err(lower(fault, stage.to_run_fault())),
+                },
+            },
+        }
+    }
+}

@@ -1,0 +1,127 @@
+//! The rings of a run in threads, and the segments that stand on them.
+ghost use Rattle.std.specs.Prelude.{◌≡◌, ◌<◌, [], IfOk, IfSome};
+ghost use Rattle.fabric.specs.Hands.{IsHandOf, rings_of};
+ghost use Rattle.stages.specs.Passing.{AreRings, AreAsked};
+
+use crate::fault::StageFault;
+use crate::packet::Packet;
+use crate::threads::put_all::put_all;
+use crate::threads::segments::as_free;
+use burst::Burst;
+use fabric::{Fabric, Hand, Opened};
+use geom::{Geometry, Mode, RingPlan};
+use mbuf::make;
+use settings::Settings;
+use stages_laws::Run;
+use std::alloc::Global;
+use std::sync::Wait;
+
+/// The most items of one span on them.
+pub(crate) const SPAN: usize = 256;
+
+/// The ring of segments that no packet uses.
+pub(crate) const FREE: usize = 0;
+
+/// The ring of packets before their verdict.
+pub(crate) const INPUT: usize = 1;
+
+/// The ring of packets after their verdict.
+pub(crate) const OUTPUT: usize = 2;
+
+/// The rings: free segments; packets before their verdict, at which workers peek; packets after it. None for want of
+/// memory.
+fn plans(alloc: Global, settings: &Settings) -> Option<Vec<RingPlan>>
+    ensures rings { IfSome result (λ rings. AreRings rings.items) }
+    ensures asked { IfSome result (λ rings. AreAsked settings.now.buffers settings.now.ring rings.items) }
+{
+    let free = Geometry::exact(settings.buffers as u64).ok()?;
+    let geometry = Geometry::exact(settings.ring as u64).ok()?;
+    let input = RingPlan {
+        geometry,
+        put: Mode::Multi,
+        take: Mode::Hts,
+        free: false,
+    };
+    let output = RingPlan::same_mode(geometry, Mode::Multi, false);
+    Vec::from_slice(
+        alloc,
+        &[RingPlan::same_mode(free, Mode::Multi, true), input, output],
+    )
+    .ok()
+}
+
+/// The segments, each as it stands on the ring of free ones. None for want of memory.
+fn segments<J: Run>(alloc: Global, settings: &Settings) -> Option<Vec<Packet<J>>>
+    requires room { settings.now.room ≡ J.room }
+{
+    let room = settings.room as usize;
+    let chains = make(alloc, settings.buffers, settings.headroom as usize, room).ok()?;
+    let mut list = Vec::with_capacity(alloc, chains.len()).ok()?;
+    for chain in chains {
+        list.push(as_free(chain, room)?).ok()?;
+    }
+    Some(list)
+}
+
+/// The rings, all empty, the segments, and a hand that has them all. None for want of memory.
+pub(crate) fn open_rings<J: Run>(
+    alloc: Global,
+    settings: &Settings,
+) -> Option<Opened<Packet<J>, SPAN>>
+    requires room { settings.now.room ≡ J.room }
+    ensures { IfSome result (λ o. IsHandOf o.fabric o.hand × AreRings (rings_of o.fabric)) }
+{
+    let plans = plans(alloc, settings)?;
+    let list = segments(alloc, settings)?;
+    match Fabric::new(alloc, plans, settings.buffers, list) {
+        Ok(opened) => Some(opened),
+        Err(_) => None,
+    }
+}
+
+/// Puts these segments on their ring. Refused where they aren't the hand's, or the ring is worn.
+fn free_all<J: Run, T: Wait>(
+    rt: &T,
+    f: &Fabric<Packet<J>, SPAN>,
+    mut hand: Hand<Packet<J>>,
+    list: &mut Burst<Packet<J>, SPAN>,
+) -> Result<Hand<Packet<J>>, StageFault>
+    requires hand { IsHandOf f.now hand }
+    requires rings { AreRings (rings_of f.now) }
+    ensures { IfOk result (λ h. IsHandOf f.now h × (list.new ≡ [])) }
+{
+    if !hand.may_put(f, FREE, list) {
+        return Err(StageFault::Window);
+    }
+    match put_all(rt, f, hand, FREE, list) {
+        Ok(hand) => Ok(hand),
+        Err(_) => Err(StageFault::Worn),
+    }
+}
+
+/// Puts all segments on their ring.
+pub(crate) fn fill<J: Run, T: Wait>(
+    rt: &T,
+    f: &Fabric<Packet<J>, SPAN>,
+    mut hand: Hand<Packet<J>>,
+    items: Vec<Packet<J>>,
+) -> Result<Hand<Packet<J>>, StageFault>
+    requires hand { IsHandOf f.now hand }
+    requires rings { AreRings (rings_of f.now) }
+    ensures { IfOk result (IsHandOf f.now) }
+{
+    let mut list = Burst::<Packet<J>, SPAN>::new();
+    for item in items {
+        if list.is_full() {
+            hand = match free_all(rt, f, hand, &mut list) {
+                Ok(hand) => hand,
+                Err(fault) => return Err(fault),
+            };
+        }
+        list.push(item);
+    }
+    match free_all(rt, f, hand, &mut list) {
+        Ok(hand) => Ok(hand),
+        Err(fault) => Err(fault),
+    }
+}

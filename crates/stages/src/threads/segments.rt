@@ -1,0 +1,90 @@
+//! Segments that no packet uses: linked to a chain, and taken off one.
+ghost use Rattle.std.specs.Prelude.{◌≡◌, ◌≤◌, length};
+ghost use Rattle.std.specs.List.{flat_map};
+ghost use Rattle.burst.specs.Numbers.{AreDistinct};
+ghost use Rattle.stages.specs.Numbers.{packet_numbers};
+
+use crate::fault::StageFault;
+use crate::packet::Packet;
+use crate::threads::ring_port::RingPort;
+use crate::threads::rings::SPAN;
+use burst::Burst;
+use mbuf::Chain;
+use stages_laws::Run;
+use std::sync::Wait;
+
+/// The most segments that are given back at once.
+const MAX_FREE: usize = 64;
+
+/// Links free segments, from the first on, to one chain. None where there are none, or one of them isn't free.
+pub(crate) fn link<J: Run>(got: &mut Burst<Packet<J>, SPAN>) -> Option<Chain>
+    requires apart { AreDistinct (flat_map packet_numbers got.old) }
+{
+    let Some(Packet::Free(last)) = got.pop() else {
+        return None;
+    };
+    let mut whole = last.chain;
+    while let Some(packet) = got.pop() {
+        let Packet::Free(segment) = packet else {
+            return None;
+        };
+        match segment.chain.chain(whole) {
+            Ok(linked) => whole = linked,
+            Err(_) => return None,
+        }
+    }
+    Some(whole)
+}
+
+/// A segment as it stands on the ring of free ones, where it has the room of the run.
+pub(crate) fn as_free<J: Run>(chain: Chain, room: usize) -> Option<Packet<J>>
+    requires room { room ≡ J.room }
+{
+    if chain.segments() == 1 && chain.space() >= room {
+        Some(Packet::free(chain))
+    } else {
+        None
+    }
+}
+
+/// Puts the segments of a packet behind those that are to be given back, which are given back where they are many.
+/// After a refusal the others of these are lost.
+pub(crate) fn release<J: Run, R: Wait>(
+    rt: &R,
+    ring_port: &mut RingPort<'_, Packet<J>>,
+    chain: Chain,
+    room: usize,
+    free: &mut Burst<Packet<J>, SPAN>,
+) -> Result<(), StageFault>
+    requires room { room ≡ J.room }
+    requires at_most { length free.old ≤ 64 }
+    ensures at_most { length free.new ≤ 64 }
+{
+    let mut rest = Some(chain);
+    while let Some(chain) = rest {
+        let (first, others) = chain.take_first();
+        rest = others;
+        let Some(segment) = as_free(first, room) else {
+            return Err(StageFault::Window);
+        };
+        if free.len() == MAX_FREE {
+            give_back(rt, ring_port, free)?;
+        }
+        free.push(segment);
+    }
+    Ok(())
+}
+
+/// Gives segments back, and leaves none in the list.
+pub(crate) fn give_back<J: Run, R: Wait>(
+    rt: &R,
+    ring_port: &mut RingPort<'_, Packet<J>>,
+    free: &mut Burst<Packet<J>, SPAN>,
+) -> Result<(), StageFault>
+    requires at_most { length free.old ≤ 64 }
+    ensures { length free.new ≡ 0 }
+{
+    let given = ring_port.put(rt, free);
+    free.clear();
+    given
+}

@@ -1,0 +1,152 @@
+//! The sink of a run in threads: it empties the output ring until each worker has ended.
+ghost use Rattle.std.specs.Prelude.{◌≡◌, ◌≤◌, length, vec_len};
+
+use crate::fault::StageFault;
+use crate::packet::Packet;
+use crate::sink::Sink;
+use crate::threads::ring_port::RingPort;
+use crate::threads::rings::{OUTPUT, SPAN};
+use crate::threads::segments::{give_back, release};
+use burst::Burst;
+use crossbeam_utils::Backoff;
+use stages_laws::Run;
+use std::io::Write;
+use std::sync::Wait;
+
+/// Lets all packets go whose turn it is, and gives their segments back.
+fn let_go<J: Run, W: Write + Drop, T: Wait>(
+    rt: &T,
+    ring_port: &mut RingPort<'_, Packet<J>>,
+    sink: &mut Sink<J, W>,
+    room: usize,
+    free: &mut Burst<Packet<J>, SPAN>,
+) -> Result<(), StageFault>
+    requires room { room ≡ J.room }
+    requires at_most { length free.old ≤ 64 }
+    ensures at_most { length free.new ≤ 64 }
+    ensures length { vec_len sink.new.outputs.writers ≡ vec_len sink.old.outputs.writers }
+{
+    for _ in rt.forever() {
+        let Some(chain) = sink.give() else {
+            return Ok(());
+        };
+        release(rt, ring_port, chain, room, free)?;
+    }
+    unreachable!()
+}
+
+/// Takes what stood on the output ring, and tells whether it is an end mark.
+fn handle<J: Run, W: Write + Drop, T: Wait>(
+    rt: &T,
+    ring_port: &mut RingPort<'_, Packet<J>>,
+    sink: &mut Sink<J, W>,
+    packet: Packet<J>,
+    room: usize,
+    free: &mut Burst<Packet<J>, SPAN>,
+) -> Result<bool, StageFault>
+    requires room { room ≡ J.room }
+    requires at_most { length free.old ≤ 64 }
+    ensures at_most { length free.new ≤ 64 }
+    ensures length { vec_len sink.new.outputs.writers ≡ vec_len sink.old.outputs.writers }
+{
+    match packet {
+        Packet::Mark => Ok(true),
+        Packet::After(packet) => match sink.accept(packet) {
+            Ok(()) => {
+                let_go(rt, ring_port, sink, room, free)?;
+                Ok(false)
+            }
+            Err(packet) => {
+                release(rt, ring_port, packet.chain, room, free)?;
+                Err(StageFault::Window)
+            }
+        },
+        Packet::Free(segment) => {
+            release(rt, ring_port, segment.chain, room, free)?;
+            Ok(false)
+        }
+        Packet::Before(packet) => {
+            release(rt, ring_port, packet.chain, room, free)?;
+            Err(StageFault::Window)
+        }
+    }
+}
+
+/// Takes what was received, in order; gives the number of end marks, and the first fault.
+fn handle_all<J: Run, W: Write + Drop, T: Wait>(
+    rt: &T,
+    ring_port: &mut RingPort<'_, Packet<J>>,
+    sink: &mut Sink<J, W>,
+    items: &mut Burst<Packet<J>, SPAN>,
+    room: usize,
+    free: &mut Burst<Packet<J>, SPAN>,
+) -> (usize, Result<(), StageFault>)
+    requires room { room ≡ J.room }
+    requires at_most { length free.old ≤ 64 }
+    ensures at_most { length free.new ≤ 64 }
+    ensures marks { result.0 ≤ 256 }
+    ensures length { vec_len sink.new.outputs.writers ≡ vec_len sink.old.outputs.writers }
+{
+    let mut marks = 0usize;
+    let mut told = Ok(());
+    items.reverse();
+    for _i in 0..items.len() {
+        let Some(packet) = items.pop() else {
+            return (marks, told);
+        };
+        match handle(rt, ring_port, sink, packet, room, free) {
+            Ok(mark) => {
+                if mark {
+                    marks += 1;
+                }
+            }
+            Err(fault) => {
+                if told.is_ok() {
+                    told = Err(fault);
+                }
+            }
+        }
+    }
+    (marks, told)
+}
+
+/// Empties the output ring until it has given as many end marks as there are workers, whatever happens but a ring that
+/// is worn. What it finds doesn't stop it: packets go on to come, and their segments are given back.
+pub(crate) fn drain<J: Run, W: Write + Drop, T: Wait>(
+    rt: &T,
+    ring_port: &mut RingPort<'_, Packet<J>>,
+    sink: &mut Sink<J, W>,
+    workers: usize,
+    burst: usize,
+    room: usize,
+) -> Result<(), StageFault>
+    requires room { room ≡ J.room }
+    requires at_most { workers ≤ 16 }
+    ensures length { vec_len sink.new.outputs.writers ≡ vec_len sink.old.outputs.writers }
+{
+    let mut items = Burst::<Packet<J>, SPAN>::new();
+    let mut free = Burst::<Packet<J>, SPAN>::new();
+    let mut left = workers;
+    let mut told = Ok(());
+    let backoff = Backoff::new();
+    for _ in rt.forever() {
+        if left == 0 {
+            return told;
+        }
+        items.clear();
+        ring_port.receive(rt, OUTPUT, burst, &mut items)?;
+        if items.is_empty() {
+            backoff.snooze();
+            continue;
+        }
+        backoff.reset();
+        let (marks, found) = handle_all(rt, ring_port, sink, &mut items, room, &mut free);
+        // a worker passes one mark on; that no more come than there are workers is said by no clause
+        left = left.saturating_sub(marks);
+        let given = give_back(rt, ring_port, &mut free);
+        if told.is_ok() {
+            told = if found.is_ok() { given } else { found };
+        }
+    }
+    unreachable!()
+}
