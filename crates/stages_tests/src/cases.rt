@@ -128,3 +128,23 @@ pub fn three_records(alloc: Global, more: &[u8]) -> Result<Case, AllocError> {
     case.capture.extend_from_slice(&[0; 15])?;
     Ok(case)
 }
+
+/// A capture of so many records, two to one port and two to the other in turn, each with its number behind its header.
+pub fn in_turn(alloc: Global, records: u64) -> Result<Case, AllocError> {
+    in_turn_behind(alloc, records, &[0; 8])
+}
+
+/// The same, with these bytes in the first record.
+pub fn in_turn_behind(alloc: Global, records: u64, first: &[u8]) -> Result<Case, AllocError> {
+    let mut case = Case::new(alloc, 2)?;
+    for record in 0..records {
+        let number = record.to_le_bytes();
+        let more = if record == 0 {
+            first
+        } else {
+            number.as_slice()
+        };
+        case.send((record / 2 % 2) as u8, more)?;
+    }
+    Ok(case)
+}
