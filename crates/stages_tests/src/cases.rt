@@ -13,8 +13,8 @@ pub const MICRO: [u8; 24] = [
     0xd4, 0xc3, 0xb2, 0xa1, 2, 0, 4, 0, 0, 0, 0, 0, 0, 0, 0, 0, 0, 0, 4, 0, 1, 0, 0, 0,
 ];
 
-/// Bytes of a frame behind its IPv4 header, more than a writer keeps waiting.
-pub const LONG: [u8; 20_000] = [0; 20_000];
+/// Bytes of a frame behind its IPv4 header, more than the 64 KiB that a writer keeps waiting.
+pub const LONG: [u8; 70_000] = [0; 70_000];
 
 /// A capture, and what each port is to be told of it.
 #[derive(Drop)]

@@ -9,6 +9,8 @@ mod cases;
 #[cfg(test)]
 mod devices;
 #[cfg(test)]
+mod drained;
+#[cfg(test)]
 mod faults;
 #[cfg(test)]
 mod gates;
