@@ -17,6 +17,8 @@ mod gates;
 #[cfg(test)]
 mod many;
 #[cfg(test)]
+mod marks;
+#[cfg(test)]
 mod memory;
 #[cfg(test)]
 mod runs;
