@@ -53,6 +53,8 @@ impl Read for Greedy<'_> {
 /// so it takes no memory: it looks whether they are those that it waits for.
 #[derive(Drop)]
 pub struct Port<'a> {
+    /// Which port it is.
+    pub number: usize,
     /// What it still waits for.
     pub rest: &'a [u8],
     pub most: usize,

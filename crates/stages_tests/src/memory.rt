@@ -95,7 +95,8 @@ fn memory_is_not_told_as_a_thread(rt: HostRuntime) -> Result<(), Fail> {
     });
     assert_eq!(rt; ports.len(), settings.ports.sources.len());
     assert_eq!(rt; grow_stack(), 1);
-    let (input, _, answer) = forward(&rt, &Open, 2, input, ports, &settings);
+    let (input, ports, answer) = forward(&rt, &Open, 2, input, ports, &settings);
+    assert_eq!(rt; ports.len(), 2);
     let held = input.ok_or("no input")?.into_inner().held;
     assert!(rt; held.is_some(), "memory can't be used up in this build");
     assert_eq!(rt; answer.err(), Some(RunFault::Memory));

@@ -37,7 +37,8 @@ pub struct Left {
     pub answer: Result<Summary, RunFault>,
     /// How often devices failed.
     pub failures: u64,
-    /// Whether a port was told anything but a beginning of what it waits for, or anything after a port failed.
+    /// Whether a port was told anything but a beginning of what it waits for, or anything after a port failed, or came
+    /// back in another place.
     pub wrong: bool,
     /// Whether each port was told all.
     pub whole: bool,
@@ -103,6 +104,7 @@ pub fn run_watched<G: Gate + Sync, R: Abort + AllocGlobal + Threads + Wait + Syn
     let mut ports = Vec::new(rt.alloc());
     for (q, output) in case.outputs.iter().enumerate() {
         ports.push(Counted::new(Port {
+            number: q,
             rest: output.as_slice(),
             most,
             fails: failing.ports.get(q).copied().unwrap_or(NEVER),
@@ -119,19 +121,36 @@ pub fn run_watched<G: Gate + Sync, R: Abort + AllocGlobal + Threads + Wait + Syn
     });
     assert_eq!(rt; ports.len(), settings.ports.sources.len());
     let (input, ports, answer) = forward(rt, gate, workers, input, ports, settings);
+    have_come_back(rt, input.is_some(), ports.as_slice(), case, &answer);
     let mut left = Left {
         answer,
         failures: input.map_or(0, |input| input.failures()),
         wrong: false,
         whole: true,
     };
-    for port in ports {
+    for (q, port) in ports.into_iter().enumerate() {
         left.failures = left.failures.wrapping_add(port.failures());
         let port = port.into_inner();
-        left.wrong |= port.wrong;
+        left.wrong |= port.wrong || port.number != q;
         left.whole &= port.rest.is_empty();
     }
     Ok(left)
+}
+
+/// Tests that a run gave back as many ports' devices as it was given, and the input's, but where a thread couldn't be
+/// started.
+fn have_come_back(
+    rt: &impl Abort,
+    input: bool,
+    ports: &[Counted<Port<'_>>],
+    case: &Case,
+    answer: &Result<Summary, RunFault>,
+) {
+    assert!(rt;
+        input || matches!(answer, Err(RunFault::Thread)),
+        "the input is lost"
+    );
+    assert_eq!(rt; ports.len(), case.outputs.len());
 }
 
 /// Tests a run without a fault: each port was told all, and so many records were counted.
