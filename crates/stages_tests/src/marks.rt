@@ -44,8 +44,8 @@ fn rings(alloc: Global) -> Result<Vec<RingPlan>, Fail>
         take: Mode::Hts,
         free: false,
     };
-    let output = RingPlan::alike(geometry, Mode::Multi, false);
-    let rings = [RingPlan::alike(geometry, Mode::Multi, true), input, output];
+    let output = RingPlan::same_mode(geometry, Mode::Multi, false);
+    let rings = [RingPlan::same_mode(geometry, Mode::Multi, true), input, output];
     let list = Vec::from_slice(alloc, &rings)?;
     Ok(list)
 }
@@ -130,7 +130,7 @@ fn leaves<J: Run>(
     match peek_take_into(f, hand, INPUT, BURST, How::Burst, &mut shown) {
         Ok(peek) => {
             let are = are_marks(&shown, left);
-            let hand = peek.abort_into(&mut shown);
+            let hand = peek.abort(&mut shown);
             if are {
                 Ok(hand)
             } else {
