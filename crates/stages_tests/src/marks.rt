@@ -45,7 +45,11 @@ fn rings(alloc: Global) -> Result<Vec<RingPlan>, Fail>
         free: false,
     };
     let output = RingPlan::same_mode(geometry, Mode::Multi, false);
-    let rings = [RingPlan::same_mode(geometry, Mode::Multi, true), input, output];
+    let rings = [
+        RingPlan::same_mode(geometry, Mode::Multi, true),
+        input,
+        output,
+    ];
     let list = Vec::from_slice(alloc, &rings)?;
     Ok(list)
 }

@@ -2,8 +2,8 @@
 //! has then is proved, and not looked at here.
 use super::Ticket;
 use super::openings::{plans, tickets};
-use burst::Burst;
 use crate::send_and_close;
+use burst::Burst;
 use fabric::{Fabric, Opened};
 use std::alloc::Global;
 use std::test::Fail;
