@@ -1,51 +1,36 @@
 //! An item with one number, and each call of a burst once.
-mod calls;
+mod acts;
+mod caches;
+mod dropped;
+mod early;
 mod faults;
-mod frame;
+mod harness;
 mod marks;
 mod numbers;
+mod once;
 mod openings;
-mod plays;
+mod peeks;
 mod rings;
+mod roles;
 mod rows;
+mod said;
+mod scenarios;
+mod script;
 mod sent;
-mod spans;
+mod settles;
+mod starts;
 mod starved;
-mod stopped;
 mod stops;
 mod tries;
-mod ways;
+mod verbs;
+mod whole;
+mod whole_calls;
 
+use crate::ticket::Ticket;
 use arrayvec::ArrayVec;
 use burst::{Burst, Tagged};
 use std::alloc::{AllocError, Global};
 use std::test::Fail;
-
-/// A small boxed item with one number, as the tests of rings use it.
-#[derive(Drop)]
-struct Ticket {
-    number: Box<u32>,
-    load: u64,
-}
-
-impl Ticket {
-    fn new(alloc: Global, number: u32) -> Result<Ticket, AllocError> {
-        Ok(Ticket {
-            number: Box::new(alloc, number)?,
-            load: 0,
-        })
-    }
-}
-
-impl Tagged for Ticket {
-    ghost use Rattle.std.specs.Prelude.{[], ◌∷◌};
-
-    ghost numbers = { λ t. t.number.value ∷ [] };
-
-    fn tags(&self, out: &mut ArrayVec<u32, 64>) {
-        out.push(*self.number);
-    }
-}
 
 #[test]
 fn an_item_tells_its_number(rt: HostRuntime) -> Result<(), Fail> {

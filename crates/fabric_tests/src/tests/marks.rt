@@ -5,16 +5,28 @@ ghost use Rattle.fabric.specs.Closed.{ring_count};
 use super::Ticket;
 use super::rings::{Items, Wrong};
 use super::tries::ENOUGH;
+use burst::Burst;
 use fabric::{Closed, Hand};
 use std::alloc::{AllocError, Global};
 use std::sync::atomic::{AtomicU64, Ordering};
-use std::thread;
+use std::sync::{Mutex, Wait};
+use std::{mem, thread};
 
-/// How often each number was met, and how far the threads have come.
+/// How far two threads have come.
+pub(super) const BEGUN: u64 = 1;
+
+pub(super) const MET: u64 = 2;
+
+pub(super) const ENDING: u64 = 3;
+
+pub(super) const ENDED: u64 = 4;
+
+/// How often each number was met, how far the threads have come, and items that one thread gives the other.
 #[derive(Drop)]
 pub(super) struct Marks {
     met: Vec<AtomicU64>,
     reached: AtomicU64,
+    given: Mutex<Items>,
 }
 
 impl Marks {
@@ -29,6 +41,7 @@ impl Marks {
         Ok(Marks {
             met,
             reached: AtomicU64::new(0),
+            given: Mutex::new(Burst::new()),
         })
     }
 
@@ -86,6 +99,16 @@ impl Marks {
     /// Whether the other thread has come so far.
     pub(super) fn has_reached(&self, step: u64) -> bool {
         self.reached.load(Ordering::SeqCst) >= step
+    }
+
+    /// Gives the other thread items, by a plain move.
+    pub(super) fn give(&self, rt: &impl Wait, list: Items) {
+        *self.given.lock(rt) = list;
+    }
+
+    /// What the other thread gave.
+    pub(super) fn given(&self, rt: &impl Wait) -> Items {
+        mem::replace(&mut *self.given.lock(rt), Burst::new())
     }
 
     /// Waits until the other thread has come so far.

@@ -3,19 +3,13 @@ ghost use Rattle.std.specs.Prelude.{◌<◌, length, IfOk};
 ghost use Rattle.fabric.specs.Hands.{IsHandOf, rings_of};
 
 use super::Ticket;
+pub(super) use crate::ticket::{Items, MOST, Rings};
 use burst::Burst;
 use fabric::{Fabric, Hand, Opened};
 use geom::{Geometry, Mode, RingPlan};
 use ringapi::{PutAnswer, TakeAnswer};
 use std::alloc::{AllocError, Global};
 use std::test::Fail;
-
-/// The most items of a call: a cache needs 64 places and its threshold.
-pub(super) const MOST: usize = 72;
-
-pub(super) type Rings = Fabric<Ticket, MOST>;
-
-pub(super) type Items = Burst<Ticket, MOST>;
 
 /// A free ring for all buffers, and two rings that take any items.
 pub(super) const POOL: usize = 0;
@@ -177,4 +171,21 @@ pub(super) fn shows(list: &Items, numbers: &[u32]) -> bool {
         }
     }
     true
+}
+
+/// Takes all items of the first ring, at most three, of these numbers.
+pub(super) fn take_all(
+    f: &Rings,
+    hand: Hand<Ticket>,
+    numbers: &[u32],
+) -> Result<Hand<Ticket>, Wrong>
+    requires hand { IsHandOf f.now hand }
+    requires rings { 2 < length (rings_of f.now) }
+    ensures { IfOk result (λ h. IsHandOf f.now h) }
+{
+    let (answer, list) = ringapi::try_take_burst(f, hand, FIRST, 3);
+    match answer {
+        TakeAnswer::Done(hand, moved) if moved.left == 0 && shows(&list, numbers) => Ok(hand),
+        _ => Err(Wrong("a take gives other items")),
+    }
 }

@@ -1,13 +1,13 @@
-//! Want of memory at each request alone. `new` makes seven requests and `split` one. All memory is taken, but for
-//! pieces of just the sizes of these requests; the first of them are given back, so that the request behind these is
-//! refused.
+//! Each request for memory refused alone. `new` makes seven requests and `split` one. All memory is taken, and pieces
+//! of exactly the sizes of these requests are set aside; the first of them are given back, so that the request behind
+//! these is refused.
 ghost use Rattle.std.specs.Prelude.{◌<◌};
 ghost use Rattle.fabric.specs.Hands.{IsHandOf};
 
 use super::Ticket;
-use super::calls::taken;
 use super::openings::{are, plans, tickets};
 use super::rings::{Layout, Rings, Wrong, opened, split};
+use super::script::taken;
 use fabric::{Fabric, Hand, OpenFault, Opened, SplitFault};
 use geom::Mode;
 use std::alloc::{AllocError, Global};
@@ -61,10 +61,11 @@ fn numbers(alloc: Global, buffers: u32) -> Result<Vec<u32>, AllocError> {
     Ok(all)
 }
 
-/// What was told where there is no memory before all of it is taken, or after it was given back.
+/// There is no memory before all of it is taken, or after it was given back.
 const SCARCE: Wrong = Wrong("no memory before it is taken");
 
-/// The items that come back from `new`, where there are just so many of its pieces; none where a fabric is made.
+/// The items that come back from `new`, where only the first `served` of its pieces are there; none where a fabric is
+/// made.
 fn refused_items(
     alloc: Global,
     case: &Case,
@@ -87,8 +88,8 @@ fn refused_items(
     }
 }
 
-/// Whether `new` tells want of memory where there are just so many of its pieces. Its items come back then, in order,
-/// and a fabric is made of them once there is memory.
+/// Whether `new` answers Memory where only the first `served` of its pieces are there. Its items then come back in
+/// order, and a fabric is made of them once there is memory.
 fn is_refused(alloc: Global, case: &Case, served: usize) -> Result<bool, Wrong> {
     let all = numbers(alloc, case.buffers).or(Err(SCARCE))?;
     let Some(items) = refused_items(alloc, case, served, &all)? else {

@@ -1,12 +1,12 @@
-//! Threads that stop for ever, each in its own way, and threads that go on beside them.
+//! Threads that stop and do nothing more, each in its own way, and threads that go on beside them.
 ghost use Rattle.std.specs.Prelude.{◌≡◌, ◌<◌, [], length, IfOk, IfSome};
 ghost use Rattle.fabric.specs.Hands.{IsHandOf, rings_of};
 
 use super::Ticket;
 use super::marks::Marks;
 use super::rings::{FIRST, Items, POOL, Rings, SECOND, Wrong, split};
+use super::roles::{cache_of, held, peeked};
 use super::tries::{ENOUGH, fetch, pass};
-use super::ways::{cache_of, held, peeked};
 use burst::Burst;
 use fabric::{Hand, PutOpen, SettleFault};
 use geom::{How, Mode};

