@@ -1,16 +1,16 @@
-"""Producers and consumers in threads of their own, by whole calls that wait, beside rte_ring's."""
+"""Producers and consumers in threads of their own, by whole calls that wait, compared with rte_ring's."""
 import os
 import statistics
 import subprocess
 import sys
 import time
 
-# How many calls of so many items a thread makes, so that a run takes some tenths of a second.
+# The number of calls that a thread makes, by the items in a call, so that a run takes some tenths of a second.
 CALLS = {1: 500_000, 8: 300_000, 32: 200_000, 128: 100_000}
 
 
 def rate(command, threads=0):
-    """The rate that one run prints. So many threads are put on processors of their own as soon as they are there."""
+    """The rate that one run prints. Its threads, if their number is given, are pinned to processors of their own."""
     cpus = sorted(os.sched_getaffinity(0))
     process = subprocess.Popen(command, stdout=subprocess.PIPE, text=True)
     while threads and process.poll() is None:
@@ -30,7 +30,7 @@ def rate(command, threads=0):
 
 
 def together(ours, theirs, rounds):
-    """Threads on processors of their own."""
+    """Measures threads on processors of their own."""
     print(f"{'threads, Mitem/s':<24} {'calls':>8} {'rte_ring':>9} {'ratio':>7}")
     for mode in ["multi", "hts"]:
         for pairs in [1, 2]:
