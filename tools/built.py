@@ -1,4 +1,4 @@
-"""The program that the tools beside this file try."""
+"""The program that the tools in this folder test."""
 import os
 import shutil
 import sys
@@ -8,7 +8,7 @@ BUILT = os.path.join(TOP, "crates", "pktkit", "out", "pktkit")
 
 
 def program():
-    """The file of `pktkit`: the one that PKTKIT names, the one that is built here, or the one on the path."""
+    """The file of `pktkit`: the one that PKTKIT names, the one that was built here, or the one on the path."""
     file = os.environ.get("PKTKIT") or (BUILT if os.path.exists(BUILT) else shutil.which("pktkit"))
     if not file:
         sys.exit(f"{os.path.basename(sys.argv[0])}: no pktkit: make build, or make run and PKTKIT=FILE")

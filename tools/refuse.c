@@ -1,15 +1,16 @@
-// Refuses memory to a program that it is preloaded to: tools/try-memory builds it. REFUSE=N refuses the Nth request, counted over
-// all threads, and REFUSE_LATER, where it is set, each one after that as well. At the Nth a byte goes to the descriptor REFUSE_TELLS.
+// Refuses memory to a program into which it is preloaded: tools/try-memory builds it. REFUSE=N refuses the Nth request, counted
+// over all threads, and REFUSE_LATER, if set, also each one after that. At the Nth request a byte is written to the descriptor
+// REFUSE_TELLS.
 //
-// pktkit asks by malloc and realloc, and not before its main; glibc asks by calloc where it starts a thread. The stack of a thread
-// glibc gets from the system, by no call that stands here. A program that asks by another call is stopped, so that none of its
-// requests is missed.
+// pktkit requests memory with malloc and realloc, and not before its main; glibc uses calloc when it starts a thread. glibc gets the
+// stack of a thread from the system, with none of the calls in this file. A program that uses another call is aborted, so that
+// none of its requests is missed.
 #include <errno.h>
 #include <stdatomic.h>
 #include <stdlib.h>
 #include <unistd.h>
 
-// What glibc calls its own beside the names that are taken here.
+// glibc's own names for the functions that are replaced here.
 extern void *__libc_malloc(size_t), *__libc_calloc(size_t, size_t), *__libc_realloc(void *, size_t);
 
 static atomic_long requests;
