@@ -1,4 +1,4 @@
-# A ring that takes exactly five items has eight slots; a refused size leaves the ring before.
+# A ring for exactly five items has eight slots; after a refused size the previous ring stays.
 ring exact 5
 put burst a b c d e f
 ring power 6

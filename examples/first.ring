@@ -1,4 +1,4 @@
-# A ring of eight slots takes seven items.
+# A ring of eight slots holds seven items.
 ring power 8
 put bulk a b c d e f g h
 put burst a b c d e f g h

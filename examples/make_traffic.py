@@ -4,10 +4,10 @@
     examples/make_traffic.py OUT [COUNT [SEED]]
 
 writes COUNT records (default 300) into the file OUT, the same ones each time for a SEED (default 1), and prints the
-report that a run on it is meant to give. The first records are one of each kind, in the order of KINDS at the end; the
-others are drawn.
+expected report of a run on it. The first records are one of each kind, in the order of KINDS at the end; the others are
+drawn at random.
 
-Each kind of frame is a function of the dice that it is drawn by, and says which line of the report is to count it."""
+Each kind of frame is a function of the dice, and says which line of the report should count it."""
 import ipaddress
 import random
 import struct
@@ -15,8 +15,8 @@ import sys
 from typing import NamedTuple
 
 ROOM = 64  # as in router.toml
-MOST = 64 * ROOM  # the longest record that is no oversize one
-SNAPLEN = 96  # what a capture that cuts its records keeps of each
+MOST = 64 * ROOM  # the longest record that isn't oversize
+SNAPLEN = 96  # how many bytes a capture that cuts its records keeps of each
 
 IPV4, IPV6, ARP, TAG = 0x0800, 0x86DD, 0x0806, 0x8100
 REASONS = ["short", "not-ipv4", "bad-header", "bad-length", "bad-checksum", "expired", "no-route"]
@@ -24,13 +24,13 @@ REASONS = ["short", "not-ipv4", "bad-header", "bad-length", "bad-checksum", "exp
 
 class Record(NamedTuple):
     captured: bytes
-    original: int  # how long the frame was on the wire
-    line: str  # the line of the report that is to count it
-    tagged: bool = False  # whether the line `tagged` is to count it too
+    original: int  # the length of the frame on the wire
+    line: str  # the line of the report that should count it
+    tagged: bool = False  # whether the line `tagged` should count it, too
 
 
 class Dice:
-    """Random numbers by `random()` alone, whose numbers for a seed Python keeps from version to version."""
+    """Random numbers that use only `random()`, since Python keeps its numbers for a seed the same in all versions."""
 
     def __init__(self, seed):
         self.source = random.Random(seed)
@@ -50,10 +50,10 @@ def address(text):
 
 
 def way(dice):
-    """A line `port Q` and a destination whose route leaves there."""
+    """A line `port Q` and a destination that is routed there."""
     at_0 = [
-        address("10.2.0.0") + dice.between(0, 0xFFFF),  # 10.0.0.0/8 alone
-        address("10.1.2.3"),  # all three routes of 10/8: that of 32 bits decides
+        address("10.2.0.0") + dice.between(0, 0xFFFF),  # only 10.0.0.0/8
+        address("10.1.2.3"),  # all three routes of 10/8 match: that of 32 bits decides
         address("198.51.100.0") + dice.between(0, 255),
     ]
     at_1 = [
@@ -86,8 +86,8 @@ def checksum(header):
 
 def packet(dice, to, length, options=b"", version=4, words=None, total=None, time=None, flip=0):
     """An IPv4 packet of `length` bytes (RFC 791, section 3.1) with a UDP datagram (RFC 768) to the port `discard`. The
-    names at the end are for what isn't as it should be: version, header length in words, total length, time to live,
-    and the bits of the checksum that flip."""
+    last parameters are for wrong values: version, header length in words, total length, time to live, and the bits of
+    the checksum that are flipped."""
     words = 5 + len(options) // 4 if words is None else words
     total = length if total is None else total
     time = dice.between(2, 255) if time is None else time
@@ -136,7 +136,7 @@ def plain(dice):
 
 
 def smallest(dice):
-    """Sent: a packet without data, and the padding that Ethernet puts behind it."""
+    """Sent: a packet without data, and the padding that Ethernet adds after it."""
     line, to = way(dice)
     return whole(frame(packet(dice, to, 28)), line)
 
@@ -148,13 +148,13 @@ def last_hop(dice):
 
 
 def with_options(dice):
-    """Sent: options in the header, which are in the checksum and stay as they are."""
+    """Sent: options in the header, which are part of the checksum and stay as they are."""
     line, to = way(dice)
     return whole(frame(packet(dice, to, dice.between(68, 200), some_options(dice))), line)
 
 
 def tagged(dice):
-    """Sent with its tag, and counted as `tagged` too."""
+    """Sent with its tag, and also counted as `tagged`."""
     line, to = way(dice)
     return whole(frame(packet(dice, to, dice.between(28, 300)), tag=tag(dice)), line, True)
 
@@ -166,13 +166,13 @@ def tagged_with_options(dice):
 
 
 def cut_behind_the_header(dice):
-    """Sent as far as it was kept: the total length is compared with the frame on the wire."""
+    """Sent as far as it was captured: the total length is compared with the length on the wire."""
     line, to = way(dice)
     return cut(frame(packet(dice, to, dice.between(200, 1500))), SNAPLEN, line)
 
 
 def cut_and_tagged(dice):
-    """Sent as far as it was kept, with its tag."""
+    """Sent as far as it was captured, with its tag."""
     line, to = way(dice)
     return cut(frame(packet(dice, to, dice.between(200, 1500)), tag=tag(dice)), SNAPLEN, line, True)
 
@@ -184,7 +184,7 @@ def as_long_as_may_be(dice):
 
 
 def cut_to_the_most(dice):
-    """Sent: a jumbo frame of which 64 * room bytes were kept."""
+    """Sent: a jumbo frame of which 64 * room bytes were captured."""
     line, to = way(dice)
     return cut(frame(packet(dice, to, 8986)), MOST, line)
 
@@ -193,13 +193,13 @@ def cut_to_the_most(dice):
 
 
 def oversize(dice):
-    """`oversize`: a record of more than 64 * room bytes, whatever its frame says."""
+    """`oversize`: a record of more than 64 * room bytes, whatever its frame contains."""
     _, to = way(dice)
     return whole(frame(packet(dice, to, dice.between(MOST + 1, MOST + 900) - 14)), "oversize")
 
 
 def cut_in_the_addresses(dice):
-    """`short`: cut before the end of the Ethernet header, or nothing kept at all."""
+    """`short`: cut before the end of the Ethernet header, or nothing captured at all."""
     _, to = way(dice)
     return cut(frame(packet(dice, to, 60)), dice.between(0, 13), "short")
 
@@ -212,7 +212,7 @@ def cut_in_the_header(dice):
 
 
 def cut_in_the_options(dice):
-    """`short`: cut behind 20 bytes of the header, before its end."""
+    """`short`: cut after 20 bytes of the header, before its end."""
     _, to = way(dice)
     options = some_options(dice)
     return cut(frame(packet(dice, to, 100, options)), dice.between(34, 33 + len(options)), "short")
@@ -225,25 +225,25 @@ def cut_in_the_tag(dice):
 
 
 def arp(dice):
-    """`not-ipv4`: who has an address (RFC 826)?"""
+    """`not-ipv4`: an ARP request (RFC 826)."""
     asked = struct.pack(">HHBBH", 1, IPV4, 6, 4, 1) + machine(2) + struct.pack(">I", address("172.16.0.1"))
     return whole(frame(asked + bytes(6) + struct.pack(">I", way(dice)[1]), ARP), "not-ipv4")
 
 
 def ipv6(dice):
-    """`not-ipv4`: a header of IPv6 (RFC 8200) without a next one."""
+    """`not-ipv4`: an IPv6 header (RFC 8200) without a next header."""
     here, there = (ipaddress.IPv6Address(text).packed for text in ("2001:db8::1", "2001:db8::2"))
     return whole(frame(struct.pack(">IHBB", 6 << 28, 0, 59, dice.between(2, 255)) + here + there, IPV6), "not-ipv4")
 
 
 def two_tags(dice):
-    """`not-ipv4`: behind the first tag stands another one, which is no IPv4."""
+    """`not-ipv4`: the first tag is followed by another one, which isn't IPv4."""
     _, to = way(dice)
     return whole(frame(packet(dice, to, 100), tag=tag(dice) + tag(dice)), "not-ipv4")
 
 
 def service_tag(dice):
-    """`not-ipv4`: a service tag (IEEE 802.1ad) isn't one of 802.1Q."""
+    """`not-ipv4`: a service tag (IEEE 802.1ad) isn't an 802.1Q tag."""
     _, to = way(dice)
     return whole(frame(packet(dice, to, 100), tag=tag(dice, 0x88A8)), "not-ipv4")
 
@@ -267,14 +267,14 @@ def total_below_the_header(dice):
 
 
 def total_above_the_frame(dice):
-    """`bad-length`: a total length that ends behind the frame, with a tag or without."""
+    """`bad-length`: a total length that ends after the frame, with a tag or without."""
     _, to = way(dice)
     with_tag = dice.one_of([b"", tag(dice)])
     return whole(frame(packet(dice, to, 100, total=dice.between(101, 1500)), tag=with_tag), "bad-length")
 
 
 def wrong_checksum(dice):
-    """`bad-checksum`: one bit turned."""
+    """`bad-checksum`: one bit flipped."""
     _, to = way(dice)
     return whole(frame(packet(dice, to, 100, flip=1 << dice.between(0, 15))), "bad-checksum")
 
@@ -286,16 +286,16 @@ def expired(dice):
 
 
 def no_route(dice):
-    """`no-route`: all is right, and no prefix holds the destination."""
+    """`no-route`: everything is right, but no prefix contains the destination."""
     return whole(frame(packet(dice, nowhere(dice), dice.between(28, 300))), "no-route")
 
 
 def tagged_no_route(dice):
-    """`no-route`: the line `tagged` counts sent frames alone."""
+    """`no-route`: the line `tagged` counts only sent frames."""
     return whole(frame(packet(dice, nowhere(dice), 100), tag=tag(dice)), "no-route")
 
 
-# Each kind, with how often it is drawn
+# Each kind, with its weight
 KINDS = {
     plain: 40,
     smallest: 8,
@@ -329,14 +329,14 @@ BAG = [kind for kind, times in KINDS.items() for _ in range(times)]
 
 
 def records(count, seed):
-    """One of each kind, and then kinds drawn from the bag."""
+    """One record of each kind, and then kinds drawn from the bag."""
     dice = Dice(seed)
     first = list(KINDS)[:count]
     return [kind(dice) for kind in first + [dice.one_of(BAG) for _ in range(count - len(first))]]
 
 
 def capture(made):
-    """A little-endian capture of microseconds, one record a millisecond."""
+    """A little-endian capture with microsecond resolution, one record per millisecond."""
     yield struct.pack("<IHHIIII", 0xA1B2C3D4, 2, 4, 0, 0, 262144, 1)
     for number, record in enumerate(made):
         seconds, thousandth = divmod(number, 1000)
@@ -345,7 +345,7 @@ def capture(made):
 
 
 def report(made):
-    """The report that a run on these records is meant to give."""
+    """The expected report of a run on these records."""
     lines = [record.line for record in made]
     yield f"records {len(made)}"
     for line in ["oversize", "port 0", "port 1", *REASONS]:

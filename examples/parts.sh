@@ -1,8 +1,8 @@
 #!/usr/bin/env bash
-# A capture in parts on one machine, several at a time, by the scripts that a cluster uses: cluster/cut, part and merge.
-# What comes out is compared with the run in one piece: the same bytes at each port, and the sums of the reports.
+# Runs a capture in parts on one machine, several at a time, with the scripts for a cluster: cluster/cut, part and merge.
+# The result is compared with the run in one piece: the same bytes at each port, and the sums of the reports.
 #
-#   examples/parts.sh [RECORDS [RECORDS OF A PART]]     5000 and 700 where nothing is said
+#   examples/parts.sh [RECORDS [RECORDS OF A PART]]     by default 5000 and 700
 #
 # Needs a built pktkit (`make build`, or PKTKIT=PROGRAM), and editcap and mergecap (Debian's package wireshark-common).
 set -euo pipefail
@@ -19,12 +19,12 @@ folder=$(mktemp -d)
 trap 'rm -rf "$folder"' EXIT
 cd "$folder"
 
-# In one piece. The script that makes the capture prints the report that it is meant to give.
+# In one piece. The script that makes the capture prints the expected report.
 "$here/make_traffic.py" whole.pcap "${1:-5000}" 7 > meant.report
 "$PKTKIT" run --config "$config" --in whole.pcap --out whole > whole.report
 diff meant.report whole.report
 
-# In parts. Any batch engine can stand in the place of xargs.
+# In parts. Any batch system can replace xargs.
 "$here/cluster/cut" --config "$config" --in whole.pcap --out together --records "${2:-700}" > numbers
 xargs -a numbers -P "$(nproc)" -n 1 together.parts/part > /dev/null
 together.parts/merge

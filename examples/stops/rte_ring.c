@@ -1,12 +1,12 @@
 /* What others see of an rte_ring on which a thread stopped for ever between reserving and settling.
  *
- * Each case has a ring of 8 slots for 7 items, with 2 items on it. One thread reserves one position more, for a put or
+ * Each case has a ring of 8 slots for 7 items, with 2 items on it. One thread reserves one more position, for a put or
  * for a take, and ends without settling. Then a producer puts one item after the other and a consumer takes one after
- * the other, each in a thread of its own; the first thread looks at both for TURNS turns and tells how far they came.
+ * the other, each in a thread of its own. The first thread watches both for TURNS turns and prints how far they came.
  * A call of rte_ring that waits for the stopped thread waits inside the library for ever, so each case is a process of
  * its own, which ends with such a call still open.
  *
- * An MP/MC reservation is the first of the two functions that rte_ring_enqueue and rte_ring_dequeue are made of; an HTS
+ * An MP/MC reservation is the first of the two functions that make up rte_ring_enqueue and rte_ring_dequeue; an HTS
  * reservation is the start of a peek. */
 #include <pthread.h>
 #include <sched.h>
@@ -28,7 +28,7 @@ static struct rte_ring *ring;
 static int hts;
 static enum side stopped;
 
-/* How many items each has moved, and whether it was told that there is no room, or no item. */
+/* How many items each has moved, and whether the ring was reported full, or empty. */
 static atomic_ulong put_so_far, taken_so_far;
 static atomic_int full, empty;
 
@@ -62,7 +62,7 @@ static void *consume(void *unused)
 	return unused;
 }
 
-/* Runs one of the others for TURNS turns, or until it is told that nothing is left for it. */
+/* Runs one of the others for TURNS turns, or until the ring is reported full or empty. */
 static void watch(void *(*other)(void *), atomic_int *done)
 {
 	pthread_t thread;
