@@ -1,10 +1,10 @@
-// Refuses memory to a program into which it is preloaded: tools/try-memory builds it. REFUSE=N refuses the Nth request, counted
-// over all threads, and REFUSE_LATER, if set, also each one after that. At the Nth request a byte is written to the descriptor
-// REFUSE_TELLS.
+// Refuses memory to a program into which it is preloaded: tools/try-memory builds it. REFUSE=N refuses the Nth request,
+// counted over all threads, and REFUSE_LATER, if set, also each one after that. At the Nth request a byte is written to
+// the descriptor REFUSE_TELLS.
 //
-// pktkit requests memory with malloc and realloc, and not before its main; glibc uses calloc when it starts a thread. glibc gets the
-// stack of a thread from the system, with none of the calls in this file. A program that uses another call is aborted, so that
-// none of its requests is missed.
+// pktkit requests memory with malloc and realloc, and not before its main; glibc uses calloc when it starts a thread.
+// glibc gets the stack of a thread from the system, with none of the calls in this file. A program that uses another
+// call is aborted, so that none of its requests is missed.
 #include <errno.h>
 #include <stdatomic.h>
 #include <stdlib.h>
