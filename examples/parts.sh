@@ -1,6 +1,6 @@
 #!/usr/bin/env bash
-# Runs a capture in parts on one machine, several at a time, with the scripts for a cluster: cluster/cut, part and merge.
-# The result is compared with the run in one piece: the same bytes at each port, and the sums of the reports.
+# Runs a capture in parts on one machine, several at a time, with the scripts for a cluster: cluster/cut, part and
+# merge. The result is compared with the run in one piece: the same bytes at each port, and the sums of the reports.
 #
 #   examples/parts.sh [RECORDS [RECORDS OF A PART]]     by default 5000 and 700
 #
