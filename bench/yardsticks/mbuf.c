@@ -1,4 +1,4 @@
-/* rte_mbuf: 64 bytes put behind and before packets of one segment, with the copy, and cut off again; the first byte
+/* rte_mbuf: 64 bytes put after and before packets of one segment, with the copy, and cut off again; the first byte
  * read where it lies, and the first 34 bytes copied out and in. */
 #include "bench.h"
 #include <rte_eal.h>

@@ -1,7 +1,7 @@
 /* rte_mempool with a cache of 32 before a ring of many producers and consumers: pointers got and put again, in one
  * thread, 1 and 32 in a call. The cache has what is asked for, but for the first time. The cache alone has no calls of
- * its own in DPDK, so cached-1 is beside the same calls as get-put-1. NAME TURNS behind the options of EAL and `--`
- * measures one name alone, in so many turns: to count instructions. */
+ * its own in DPDK, so cached-1 is beside the same calls as get-put-1. NAME TURNS after the options of EAL and `--`
+ * measures only one name, in so many turns: to count instructions. */
 #include "bench.h"
 #include <rte_eal.h>
 #include <rte_mempool.h>

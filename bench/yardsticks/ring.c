@@ -6,7 +6,7 @@
  *   32 and 256 items: rte_ring, by rte_ring_enqueue_bulk and rte_ring_dequeue_bulk.
  * In C nothing depends on the most that a call may have, and nothing looks at an item, so what stands beside items with
  * numbers on a free ring (free-multi-32-n32) is the same. What the other ring of the two takes is printed as
- * multi-1-rte, multi-32-plain and so on. NAME TURNS behind the options of EAL and `--` measures one name alone, in so
+ * multi-1-rte, multi-32-plain and so on. NAME TURNS after the options of EAL and `--` measures only one name, in so
  * many turns: to count instructions. */
 #include "bench.h"
 #include <rte_eal.h>

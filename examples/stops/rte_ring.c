@@ -1,9 +1,9 @@
-/* What others see of an rte_ring on which a thread stopped for ever between reserving and settling.
+/* What others see of an rte_ring on which a thread stopped forever between reserving and settling.
  *
  * Each case has a ring of 8 slots for 7 items, with 2 items on it. One thread reserves one more position, for a put or
  * for a take, and ends without settling. Then a producer puts one item after the other and a consumer takes one after
  * the other, each in a thread of its own. The first thread watches both for TURNS turns and prints how far they came.
- * A call of rte_ring that waits for the stopped thread waits inside the library for ever, so each case is a process of
+ * A call of rte_ring that waits for the stopped thread waits inside the library forever, so each case is a process of
  * its own, which ends with such a call still open.
  *
  * An MP/MC reservation is the first of the two functions that make up rte_ring_enqueue and rte_ring_dequeue; an HTS
