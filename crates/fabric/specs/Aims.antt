@@ -36,13 +36,13 @@ module _ {T : Type 0} {N : ℕ} (tags : T → List ℕ) where
   -- these positions of a side are its open span, and their slots are all that it has; v is its view before
   pub record HasStarted (most : ℕ) (how : How) (n : ℕ) (side : Side) (r : Ring T N) (v : View T)
       (s : Seat (Option T) (View T))
-      (place : Positions) : Type 0 where
+      (range : Positions) : Type 0 where
     pub seated : IsSeated r s
-    pub starts : Starts tags how n r.index side r.shape.plan v place.start place.count place.left s.me.0.shown s.me.0
-    pub span : s.me.0.party.span ≡ Some (span_of r.index side place.start place.count)
-    pub party : s.me.0.party ≡ with_open v.party (span_of r.index side place.start place.count)
-    pub slots : s.me.1 ≡ slots_of r place.start (slot_values side place.count s.me.0.shown)
+    pub starts : Starts tags how n r.index side r.shape.plan v range.start range.count range.left s.me.0.shown s.me.0
+    pub span : s.me.0.party.span ≡ Some (span_of r.index side range.start range.count)
+    pub party : s.me.0.party ≡ with_open v.party (span_of r.index side range.start range.count)
+    pub slots : s.me.1 ≡ slots_of r range.start (slot_values side range.count s.me.0.shown)
     pub empty : side ≡ Put → s.me.0.shown ≡ []
-    pub full : side ≡ Take → length s.me.0.shown ≡ place.count
-    pub fits : place.count ≤ most
+    pub full : side ≡ Take → length s.me.0.shown ≡ range.count
+    pub fits : range.count ≤ most
     pub may : MayAsk tags most n side r.shape.plan v

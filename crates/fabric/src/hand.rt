@@ -52,14 +52,14 @@ pub struct Hand<T: Tagged> {
 pub struct PutOpen<'f, T: Tagged, const N: usize> {
     pub(crate) ring: Ring<'f, T, N>,
     pub(crate) share: Share<T>,
-    pub(crate) place: Positions,
+    pub(crate) range: Positions,
     pub ghost table: { share.seat.table_id ≡ ring.fabric.now.table.shared.table_id },
     pub ghost plans: { (share.seat.me.0.plans ≡ ring.fabric.now.plan.rings.items)
         × (share.seat.me.0.pool ≡ ring.fabric.now.plan.buffers) },
-    pub ghost span: { share.seat.me.0.party.span ≡ Some (span_of ring.index Put place.start place.count) },
+    pub ghost span: { share.seat.me.0.party.span ≡ Some (span_of ring.index Put range.start range.count) },
     pub ghost slots: { share.seat.me.1 ≡ run (slot_at ring.fabric.now.plan.rings.items ring.index ring.shape.plan)
-        place.start (replicate place.count None) },
-    pub ghost fits: { place.count ≤ N },
+        range.start (replicate range.count None) },
+    pub ghost fits: { range.count ≤ N },
 }
 
 /// A hand with a span whose items it takes. They were moved out at the start, into a burst that the caller lent.
@@ -68,15 +68,15 @@ pub struct PutOpen<'f, T: Tagged, const N: usize> {
 pub struct TakeOpenLent<'f, T: Tagged, const N: usize> {
     pub(crate) ring: Ring<'f, T, N>,
     pub(crate) share: Share<T>,
-    pub(crate) place: Positions,
+    pub(crate) range: Positions,
     pub ghost table: { share.seat.table_id ≡ ring.fabric.now.table.shared.table_id },
     pub ghost plans: { (share.seat.me.0.plans ≡ ring.fabric.now.plan.rings.items)
         × (share.seat.me.0.pool ≡ ring.fabric.now.plan.buffers) },
-    pub ghost span: { share.seat.me.0.party.span ≡ Some (span_of ring.index Take place.start place.count) },
-    pub ghost many: { length share.seat.me.0.shown ≡ place.count },
+    pub ghost span: { share.seat.me.0.party.span ≡ Some (span_of ring.index Take range.start range.count) },
+    pub ghost many: { length share.seat.me.0.shown ≡ range.count },
     pub ghost slots: { share.seat.me.1 ≡ run (slot_at ring.fabric.now.plan.rings.items ring.index ring.shape.plan)
-        place.start (replicate place.count None) },
-    pub ghost fits: { place.count ≤ N },
+        range.start (replicate range.count None) },
+    pub ghost fits: { range.count ≤ N },
 }
 
 /// Why a start reserves nothing. Each number is one that this call found.

@@ -20,7 +20,7 @@ impl<'f, T: Tagged, const N: usize> PutOpen<'f, T, N> {
     pub fn start(&self) -> u64
         ensures { result ≡ (put_span self.now).start }
     {
-        self.place.start
+        self.range.start
     }
 
     /// How many positions the span has, 1 to `N`.
@@ -28,14 +28,14 @@ impl<'f, T: Tagged, const N: usize> PutOpen<'f, T, N> {
     pub fn count(&self) -> usize
         ensures { result ≡ (put_span self.now).count }
     {
-        self.place.count
+        self.range.count
     }
 
     /// How many positions more were free as the span was reserved.
     pub fn left(&self) -> u64
         ensures { result ≡ put_left self.now }
     {
-        self.place.left
+        self.range.left
     }
 
     /// Tries once to publish the items at the positions of the span: on a multi side as many as it has, on an HTS side
@@ -55,10 +55,10 @@ impl<'f, T: Tagged, const N: usize> PutOpen<'f, T, N> {
             (λ e. IsTrueTooEarly T.numbers (put_span self.entry) (put_view self.entry) e.1) }
         ensures owned { IfOk result (λ h. HoldsLess T.numbers (put_view self.entry) items.old (view h)) }
     {
-        if !is_count(self.ring.shape.plan.put, items.len(), self.place.count) {
+        if !is_count(self.ring.shape.plan.put, items.len(), self.range.count) {
             return Err((self, SettleFault::BadCount));
         }
-        let PutOpen { ring, share, place } = self;
+        let PutOpen { ring, share, range } = self;
         let Share {
             mut seat,
             mut owned,
@@ -66,16 +66,16 @@ impl<'f, T: Tagged, const N: usize> PutOpen<'f, T, N> {
         } = share;
         if !owned.disown(ring.shape.plan.free, items) {
             let share = Share { seat, owned, parts };
-            return Err((PutOpen { ring, share, place }, SettleFault::NotYours));
+            return Err((PutOpen { ring, share, range }, SettleFault::NotYours));
         }
-        let Some(tail) = ring.publish(&mut seat, place, &mut items.cells) else {
+        let Some(tail) = ring.publish(&mut seat, range, &mut items.cells) else {
             return Ok(Hand {
                 share: Share { seat, owned, parts },
             });
         };
         owned.own(items, items.len());
         let share = Share { seat, owned, parts };
-        Err((PutOpen { ring, share, place }, SettleFault::NotYet(tail)))
+        Err((PutOpen { ring, share, range }, SettleFault::NotYet(tail)))
     }
 
     /// Gives up all positions of a span on a head/tail-sync side: `try_settle_from` with no item, without a burst.
@@ -84,13 +84,13 @@ impl<'f, T: Tagged, const N: usize> PutOpen<'f, T, N> {
         requires hts { self.ring.shape.plan.put ≡ Hts }
         ensures { HasPut self.entry [] result }
     {
-        let PutOpen { ring, share, place } = self;
+        let PutOpen { ring, share, range } = self;
         let Share {
             mut seat,
             owned,
             parts,
         } = share;
-        ring.store(&mut seat, Side::Put, place.start, 0);
+        ring.store(&mut seat, Side::Put, range.start, 0);
         Hand {
             share: Share { seat, owned, parts },
         }
@@ -102,7 +102,7 @@ impl<'f, T: Tagged, const N: usize> TakeOpenLent<'f, T, N> {
     pub fn start(&self) -> u64
         ensures { result ≡ (take_span self.now).start }
     {
-        self.place.start
+        self.range.start
     }
 
     /// How many positions the span has, 1 to `N`.
@@ -110,14 +110,14 @@ impl<'f, T: Tagged, const N: usize> TakeOpenLent<'f, T, N> {
     pub fn count(&self) -> usize
         ensures { result ≡ (take_span self.now).count }
     {
-        self.place.count
+        self.range.count
     }
 
     /// How many items more were queued as the span was reserved.
     pub fn left(&self) -> u64
         ensures { result ≡ take_left self.now }
     {
-        self.place.left
+        self.range.left
     }
 
     /// Tries once to take the items at the first `k` positions of the span: on a multi side all, on an HTS side any
@@ -142,16 +142,16 @@ impl<'f, T: Tagged, const N: usize> TakeOpenLent<'f, T, N> {
             (λ e. IsTrueTooEarly T.numbers (take_span self.entry) (take_view self.entry) e.1) }
         ensures owned { IfOk result (λ h. HoldsMore T.numbers (take_view self.entry) items.new (view h)) }
     {
-        if !is_count(self.ring.shape.plan.take, k, self.place.count) {
+        if !is_count(self.ring.shape.plan.take, k, self.range.count) {
             return Err((self, SettleFault::BadCount));
         }
-        let TakeOpenLent { ring, share, place } = self;
+        let TakeOpenLent { ring, share, range } = self;
         let Share {
             mut seat,
             mut owned,
             parts,
         } = share;
-        let Some(tail) = ring.dequeue(&mut seat, place, k, &mut items.cells) else {
+        let Some(tail) = ring.dequeue(&mut seat, range, k, &mut items.cells) else {
             owned.own(items, items.len());
             return Ok(Hand {
                 share: Share { seat, owned, parts },
@@ -159,7 +159,7 @@ impl<'f, T: Tagged, const N: usize> TakeOpenLent<'f, T, N> {
         };
         let share = Share { seat, owned, parts };
         Err((
-            TakeOpenLent { ring, share, place },
+            TakeOpenLent { ring, share, range },
             SettleFault::NotYet(tail),
         ))
     }

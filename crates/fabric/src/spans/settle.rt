@@ -34,37 +34,37 @@ pub(crate) fn is_count(mode: Mode, k: usize, count: usize) -> bool
 
 impl<T: Tagged, const N: usize> Ring<'_, T, N> {
     /// Moves the items into the first slots of a put span.
-    fn offer(&self, seat: &mut Seat<Option<T>, View<T>>, place: Positions, cells: &mut Cells<T, N>)
+    fn offer(&self, seat: &mut Seat<Option<T>, View<T>>, range: Positions, cells: &mut Cells<T, N>)
         requires table { seat.old.table_id ≡ self.now.fabric.now.table.shared.table_id }
-        requires fits { length cells.old ≤ place.count }
-        requires slots { seat.old.me.1 ≡ slots_of self.now place.start (replicate place.count None) }
+        requires fits { length cells.old ≤ range.count }
+        requires slots { seat.old.me.1 ≡ slots_of self.now range.start (replicate range.count None) }
         ensures seat { IsSameSeat seat.old seat.new × (seat.new.me.0 ≡ seat.old.me.0) }
-        ensures slots { seat.new.me.1 ≡ slots_of self.now place.start
-            (cells.old ++ replicate (place.count - length cells.old) None) }
+        ensures slots { seat.new.me.1 ≡ slots_of self.now range.start
+            (cells.old ++ replicate (range.count - length cells.old) None) }
         ensures cells { cells.new ≡ [] }
     {
         let k = cells.len();
-        self.fill(seat, place.start, 0, cells);
-        skip(seat, place.count - k);
+        self.fill(seat, range.start, 0, cells);
+        skip(seat, range.count - k);
     }
 
     /// Moves the items out of the slots of a span into an empty list: those of a take, or those of a put again.
     pub(crate) fn withdraw(
         &self,
         seat: &mut Seat<Option<T>, View<T>>,
-        place: Positions,
+        range: Positions,
         cells: &mut Cells<T, N>,
     )
         requires table { seat.old.table_id ≡ self.now.fabric.now.table.shared.table_id }
-        requires fits { place.count ≤ N }
+        requires fits { range.count ≤ N }
         requires blank { cells.old ≡ [] }
-        requires slots { (length (values seat.old.me.1) ≡ place.count)
-            × (seat.old.me.1 ≡ slots_of self.now place.start (values seat.old.me.1)) }
+        requires slots { (length (values seat.old.me.1) ≡ range.count)
+            × (seat.old.me.1 ≡ slots_of self.now range.start (values seat.old.me.1)) }
         ensures seat { IsSameSeat seat.old seat.new × (seat.new.me.0 ≡ seat.old.me.0) }
-        ensures slots { seat.new.me.1 ≡ slots_of self.now place.start (replicate place.count None) }
+        ensures slots { seat.new.me.1 ≡ slots_of self.now range.start (replicate range.count None) }
         ensures cells { cells.new ≡ values seat.old.me.1 }
     {
-        self.drain(seat, place.start, place.count, cells);
+        self.drain(seat, range.start, range.count, cells);
     }
 
     /// Publishes items at the first positions of a put span. Where an earlier span of a multi side isn't settled, the
@@ -72,40 +72,40 @@ impl<T: Tagged, const N: usize> Ring<'_, T, N> {
     pub(crate) fn publish(
         &self,
         seat: &mut Seat<Option<T>, View<T>>,
-        place: Positions,
+        range: Positions,
         cells: &mut Cells<T, N>,
     ) -> Option<u64>
         requires seat { IsSeated self.now seat.old }
-        requires fits { place.count ≤ N }
+        requires fits { range.count ≤ N }
         requires packed { cells.old ≡ map Some (somes cells.old) }
-        requires count { IsCount self.now.shape.plan.put (length cells.old) place.count }
-        requires span { seat.old.me.0.party.span ≡ Some (span_of self.now.index Put place.start place.count) }
+        requires count { IsCount self.now.shape.plan.put (length cells.old) range.count }
+        requires span { seat.old.me.0.party.span ≡ Some (span_of self.now.index Put range.start range.count) }
         requires owned { Owns T.numbers seat.old.me.0.party (somes cells.old) }
         requires single { self.now.shape.plan.free ≡ true → AreSingle T.numbers (somes cells.old) }
-        requires slots { seat.old.me.1 ≡ slots_of self.now place.start (replicate place.count None) }
+        requires slots { seat.old.me.1 ≡ slots_of self.now range.start (replicate range.count None) }
         ensures seat { IsSameSeat seat.old seat.new }
         ensures done { IfNone result ((seat.new.me.0
-            ≡ settled (span_of self.now.index Put place.start place.count) (somes cells.old) seat.old.me.0)
+            ≡ settled (span_of self.now.index Put range.start range.count) (somes cells.old) seat.old.me.0)
             × (seat.new.me.1 ≡ []) × IsHeldOnce T.numbers seat.new.me.0.pool seat.new.me.0.party × (cells.new ≡ [])) }
-        ensures early { IfSome result (λ x. (self.now.shape.plan.put ≡ Multi) × (x < place.start)
+        ensures early { IfSome result (λ x. (self.now.shape.plan.put ≡ Multi) × (x < range.start)
             × (seat.new.me.0 ≡ missed x seat.old.me.0) × (seat.new.me.1 ≡ seat.old.me.1)
             × (cells.new ≡ cells.old)) }
         ensures true_refusal { IfSome result
-            (λ x. WasEarlier T.numbers (span_of self.now.index Put place.start place.count) seat.old.me.0 x) }
+            (λ x. WasEarlier T.numbers (span_of self.now.index Put range.start range.count) seat.old.me.0 x) }
     {
         let k = cells.len();
-        self.offer(seat, place, cells);
+        self.offer(seat, range, cells);
         match self.shape.plan.put {
             Mode::Hts => {
-                self.store(seat, Side::Put, place.start, k);
+                self.store(seat, Side::Put, range.start, k);
                 None
             }
             Mode::Multi => {
-                let found = self.settle(seat, Side::Put, place.start, place.count);
-                if found == place.start {
+                let found = self.settle(seat, Side::Put, range.start, range.count);
+                if found == range.start {
                     return None;
                 }
-                self.withdraw(seat, place, cells);
+                self.withdraw(seat, range, cells);
                 Some(found)
             }
         }
@@ -115,20 +115,20 @@ impl<T: Tagged, const N: usize> Ring<'_, T, N> {
     fn keep(
         &self,
         seat: &mut Seat<Option<T>, View<T>>,
-        place: Positions,
+        range: Positions,
         k: usize,
         cells: &mut Cells<T, N>,
     )
         requires table { seat.old.table_id ≡ self.now.fabric.now.table.shared.table_id }
-        requires whole { length cells.old ≡ place.count }
+        requires whole { length cells.old ≡ range.count }
         requires fits { k ≤ length cells.old }
-        requires slots { seat.old.me.1 ≡ slots_of self.now place.start (replicate place.count None) }
+        requires slots { seat.old.me.1 ≡ slots_of self.now range.start (replicate range.count None) }
         ensures seat { IsSameSeat seat.old seat.new × (seat.new.me.0 ≡ seat.old.me.0) }
-        ensures slots { seat.new.me.1 ≡ slots_of self.now place.start (replicate k None ++ drop k cells.old) }
+        ensures slots { seat.new.me.1 ≡ slots_of self.now range.start (replicate k None ++ drop k cells.old) }
         ensures cells { cells.new ≡ take k cells.old }
     {
         skip(seat, k);
-        self.fill(seat, place.start + k as u64, k, cells);
+        self.fill(seat, range.start + k as u64, k, cells);
     }
 
     /// Dequeues the items at the first `k` positions of a take span. Where an earlier span of a multi side isn't
@@ -136,37 +136,37 @@ impl<T: Tagged, const N: usize> Ring<'_, T, N> {
     pub(crate) fn dequeue(
         &self,
         seat: &mut Seat<Option<T>, View<T>>,
-        place: Positions,
+        range: Positions,
         k: usize,
         cells: &mut Cells<T, N>,
     ) -> Option<u64>
         requires seat { IsSeated self.now seat.old }
         requires shows { cells.old ≡ map Some seat.old.me.0.shown }
-        requires whole { length cells.old ≡ place.count }
-        requires count { IsCount self.now.shape.plan.take k place.count }
-        requires span { seat.old.me.0.party.span ≡ Some (span_of self.now.index Take place.start place.count) }
-        requires slots { seat.old.me.1 ≡ slots_of self.now place.start (replicate place.count None) }
+        requires whole { length cells.old ≡ range.count }
+        requires count { IsCount self.now.shape.plan.take k range.count }
+        requires span { seat.old.me.0.party.span ≡ Some (span_of self.now.index Take range.start range.count) }
+        requires slots { seat.old.me.1 ≡ slots_of self.now range.start (replicate range.count None) }
         ensures seat { IsSameSeat seat.old seat.new }
         ensures done { IfNone result ((seat.new.me.0
-            ≡ settled (span_of self.now.index Take place.start place.count) (take k seat.old.me.0.shown) seat.old.me.0)
+            ≡ settled (span_of self.now.index Take range.start range.count) (take k seat.old.me.0.shown) seat.old.me.0)
             × (seat.new.me.1 ≡ [])
             × IsHeldOnce T.numbers seat.new.me.0.pool seat.new.me.0.party
             × (cells.new ≡ map Some (take k seat.old.me.0.shown))) }
-        ensures early { IfSome result (λ x. (self.now.shape.plan.take ≡ Multi) × (x < place.start)
+        ensures early { IfSome result (λ x. (self.now.shape.plan.take ≡ Multi) × (x < range.start)
             × (seat.new.me.0 ≡ missed x seat.old.me.0) × (seat.new.me.1 ≡ seat.old.me.1)
             × (cells.new ≡ cells.old)) }
         ensures true_refusal { IfSome result
-            (λ x. WasEarlier T.numbers (span_of self.now.index Take place.start place.count) seat.old.me.0 x) }
+            (λ x. WasEarlier T.numbers (span_of self.now.index Take range.start range.count) seat.old.me.0 x) }
     {
-        self.keep(seat, place, k, cells);
+        self.keep(seat, range, k, cells);
         match self.shape.plan.take {
             Mode::Hts => {
-                self.store(seat, Side::Take, place.start, k);
+                self.store(seat, Side::Take, range.start, k);
                 None
             }
             Mode::Multi => {
-                let found = self.settle(seat, Side::Take, place.start, place.count);
-                if found == place.start {
+                let found = self.settle(seat, Side::Take, range.start, range.count);
+                if found == range.start {
                     None
                 } else {
                     Some(found)

@@ -230,12 +230,12 @@ impl<T: Tagged, const N: usize> Ring<'_, T, N> {
                 StartFault::Contended(found),
             ));
         }
-        let place = Positions {
+        let range = Positions {
             start: probe.start,
             count,
             left: probe.room - count as u64,
         };
-        Ok((Share { seat, owned, parts }, place))
+        Ok((Share { seat, owned, parts }, range))
     }
 }
 
@@ -274,10 +274,10 @@ impl<T: Tagged, const N: usize> Fabric<T, N> {
             shape: self.shapes[ring],
         };
         match target.start(hand, Side::Put, n, how) {
-            Ok((share, place)) => Ok(PutOpen {
+            Ok((share, range)) => Ok(PutOpen {
                 ring: target,
                 share,
-                place,
+                range,
             }),
             Err(refused) => Err(refused),
         }
@@ -317,7 +317,7 @@ impl<T: Tagged, const N: usize> Fabric<T, N> {
             index: ring,
             shape: self.shapes[ring],
         };
-        let (share, place) = match target.start(hand, Side::Take, n, how) {
+        let (share, range) = match target.start(hand, Side::Take, n, how) {
             Ok(started) => started,
             Err(refused) => return Err(refused),
         };
@@ -326,11 +326,11 @@ impl<T: Tagged, const N: usize> Fabric<T, N> {
             owned,
             parts,
         } = share;
-        target.withdraw(&mut seat, place, &mut into.cells);
+        target.withdraw(&mut seat, range, &mut into.cells);
         Ok(TakeOpenLent {
             ring: target,
             share: Share { seat, owned, parts },
-            place,
+            range,
         })
     }
 }

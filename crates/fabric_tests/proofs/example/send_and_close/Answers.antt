@@ -27,12 +27,12 @@ returns-clause-in_order g c =
     parts_again v (view c.in-Ok.first) (put_view o) (view c.in-Ok-try_settle_from.sent) (view c.in-Ok.second) w halves.1 halves.3
     (ap (λ u. u.parts) start.view ∙ ap (λ u. u.parts) start.found.view) (ap (λ u. u.parts) done) is ∙ c.requires.only in
     let party =
-    one_sent v (put_view o) w o.ring.index o.place.start o.place.count c.args.list.now started.1 c.requires.fresh
-    (c.in-Ok-try_start_put.ensures.opened ∙ ap (λ u. with_open u.party (span_of o.ring.index Put o.place.start o.place.count)) halves.1)
+    one_sent v (put_view o) w o.ring.index o.range.start o.range.count c.args.list.now started.1 c.requires.fresh
+    (c.in-Ok-try_start_put.ensures.opened ∙ ap (λ u. with_open u.party (span_of o.ring.index Put o.range.start o.range.count)) halves.1)
     (ap (λ u. u.party) is ∙ (λ k. joined (done k).party (halves.3 k).party)) in
     c.close.ensures.all.1 parts 0 c.requires.ring
     ∙ (ap (λ p. queue (p ∷ []) 0) party
-    ∙ sent (v.party.given ++ []) o.place.start tags w.plans w.pool plan.0 c.args.list.now
+    ∙ sent (v.party.given ++ []) o.range.start tags w.plans w.pool plan.0 c.args.list.now
     (ap (λ ps. slice_get ps 0) c.join-whole.ensures.hand.0.1 ∙ plan.1)
     (subst (λ p. Sound tags w.plans w.pool (p ∷ [])) party (c.join-whole.ensures.whole parts)))
 

@@ -33,7 +33,7 @@ pub withdraw-requires : goal.withdraw-requires
 withdraw-requires g c =
     let h = c.in-Ok.ensures.started in
     let s = c.in-Ok.started.0.seat in
-    let place = c.in-Ok.started.1 in
+    let range = c.in-Ok.started.1 in
     let slot = slot_at c.args.self.now.plan.rings.items c.args.ring c.index.result.now.plan in
     let blank = c.into.invariant ∙ ap (map Some) (c.into.view_is ∙ c.requires.empty) in (
       search rules,
@@ -43,7 +43,7 @@ withdraw-requires g c =
           h.seated.table,
           (
             h.fits,
-            (blank, row_held slot place.start place.count s.me.0.shown (h.full refl) s.me.1 h.slots),
+            (blank, row_held slot range.start range.count s.me.0.shown (h.full refl) s.me.1 h.slots),
           ),
         ),
       ),
@@ -78,10 +78,10 @@ pub invariant_of-into : goal.invariant_of-into
 invariant_of-into g c =
     let h = c.in-Ok.ensures.started in
     let s = c.in-Ok.started.0.seat in
-    let place = c.in-Ok.started.1 in
+    let range = c.in-Ok.started.1 in
     let slot = slot_at c.args.self.now.plan.rings.items c.args.ring c.index.result.now.plan in
     packed_from c.withdraw.new.cells s.me.0.shown (c.withdraw.ensures.cells
-    ∙ row_values slot place.start place.count s.me.0.shown (h.full refl) s.me.1 h.slots)
+    ∙ row_values slot range.start range.count s.me.0.shown (h.full refl) s.me.1 h.slots)
 
 pub returns-clause-started : goal.returns-clause-started
 returns-clause-started g c =
@@ -90,13 +90,13 @@ returns-clause-started g c =
     let w = c.withdraw.new.seat.me.0 in
     let h = c.in-Ok.ensures.started in
     let s = c.in-Ok.started.0.seat in
-    let place = c.in-Ok.started.1 in
+    let range = c.in-Ok.started.1 in
     let at = shape_at f.plan.rings.items f.shapes.items c.args.ring c.index.result.now f.laid c.requires.ring c.index.ensures in
     let plan = c.index.result.now.plan in
     let slot = slot_at f.plan.rings.items c.args.ring plan in
     let is = c.withdraw.ensures.seat.1 in
     let items =
-    ap somes (c.withdraw.ensures.cells ∙ row_values slot place.start place.count s.me.0.shown (h.full refl) s.me.1 h.slots)
+    ap somes (c.withdraw.ensures.cells ∙ row_values slot range.start range.count s.me.0.shown (h.full refl) s.me.1 h.slots)
     ∙ somes_of s.me.0.shown in (
       refl,
       refl,
@@ -104,7 +104,7 @@ returns-clause-started g c =
       λ plan' there.
           subst
           (λ (z : RingPlan × List g.row.T.Denot × View g.row.T.Denot).
-          Starts g.T.Tagged.numbers c.args.how c.args.n c.args.ring Take z.0 v place.start place.count place.left z.1 z.2)
+          Starts g.T.Tagged.numbers c.args.how c.args.n c.args.ring Take z.0 v range.start range.count range.left z.1 z.2)
           (λ i. (same_ring f.plan.rings.items c.args.ring plan plan' at.0 there i, sym items i, sym is i)) h.starts,
     )
 

@@ -18,7 +18,7 @@ use Rattle.fabric.proofs.hand.PutOpen.try_settle_from.Goals as goal
 pub returns-then-not-disown-clause-refused : goal.returns-then-not-disown-clause-refused
 returns-then-not-disown-clause-refused g c =
     let o = c.args.self in
-    let count = subst (λ n. IsCount o.ring.shape.plan.put n o.place.count) c.len.ensures.value (c.is_count.ensures.good c.if-not-is_count.false) in (
+    let count = subst (λ n. IsCount o.ring.shape.plan.put n o.range.count) c.len.ensures.value (c.is_count.ensures.good c.if-not-is_count.false) in (
       (refl, refl, refl),
       refl,
       (
@@ -36,7 +36,7 @@ publish-requires g c =
     let cells = c.items.inside.cells in
     let mine = c.disown.ensures.mine c.if-not-disown.false in
     let long = sym (ap length c.items.view_is) ∙ packed_long cells c.items.invariant in
-    let count = subst (λ n. IsCount o.ring.shape.plan.put n o.place.count) (c.len.ensures.value ∙ long) (c.is_count.ensures.good c.if-not-is_count.false) in
+    let count = subst (λ n. IsCount o.ring.shape.plan.put n o.range.count) (c.len.ensures.value ∙ long) (c.is_count.ensures.good c.if-not-is_count.false) in
     let owns = put_owns tags o.share.seat.me.0.pool o.share.seat.me.0.party o.share.owned o.share.row c.args.items.now mine.1 in (
       search rules,
       (
@@ -70,16 +70,16 @@ invariant_of-result-in_default g c =
     let mine = c.disown.ensures.mine c.if-not-disown.false in
     let done = c.in_default.ensures.done in
     let row =
-    put_row tags o.share.seat.me.0.pool o.share.seat.me.0.party o.share.owned o.share.row c.args.items.now o.ring.index o.place.start o.place.count
+    put_row tags o.share.seat.me.0.pool o.share.seat.me.0.party o.share.owned o.share.row c.args.items.now o.ring.index o.range.start o.range.count
     mine.1 in
     record {
       counted = o.share.counted ∙ ap (λ v. v.parts) (sym done.0);
       alive = subst (λ v. 0 < v.parts) (sym done.0) o.share.alive;
       well = done.2;
       row = subst (λ v. IsRow tags v.pool v.party c.disown.new.self) (sym done.0)
-          (subst (λ r. IsRow tags o.share.seat.me.0.pool (with_settled o.share.seat.me.0.party (span_of o.ring.index Put o.place.start o.place.count)
+          (subst (λ r. IsRow tags o.share.seat.me.0.pool (with_settled o.share.seat.me.0.party (span_of o.ring.index Put o.range.start o.range.count)
           (somes c.items.inside.cells)) r) (sym mine.0) (subst (λ l. IsRow tags o.share.seat.me.0.pool
-          (with_settled o.share.seat.me.0.party (span_of o.ring.index Put o.place.start o.place.count) l)
+          (with_settled o.share.seat.me.0.party (span_of o.ring.index Put o.range.start o.range.count) l)
           (cleared o.share.owned (flat_map tags c.args.items.now)))
           (sym c.items.view_is) row));
     }
@@ -109,12 +109,12 @@ returns-clause-refused g c =
     let o = c.args.self in
     let early = c.in-Some.ensures.early in
     let mine = c.disown.ensures.mine c.if-not-disown.false in
-    let count = subst (λ n. IsCount o.ring.shape.plan.put n o.place.count) c.len.ensures.value (c.is_count.ensures.good c.if-not-is_count.false) in (
+    let count = subst (λ n. IsCount o.ring.shape.plan.put n o.range.count) c.len.ensures.value (c.is_count.ensures.good c.if-not-is_count.false) in (
       (refl, refl, refl),
       ap somes early.4 ∙ c.items.view_is,
       (
         early.0,
-        count_whole o.ring.shape.plan.put (length c.args.items.now) o.place.count early.0 count,
+        count_whole o.ring.shape.plan.put (length c.args.items.now) o.range.count early.0 count,
         early.1,
         early.2,
         record {
@@ -130,6 +130,6 @@ returns-in_default-clause-owned g c =
     let tags = g.T.Tagged.numbers in
     let v = o.share.seat.me.0 in
     let mine = c.disown.ensures.mine c.if-not-disown.false in
-    holds_less tags o.ring.index o.place.start o.place.count v c.publish.new.seat.me.0 c.args.items.now
-    (c.in_default.ensures.done.0 ∙ ap (λ l. settled (span_of o.ring.index Put o.place.start o.place.count) l v) c.items.view_is)
+    holds_less tags o.ring.index o.range.start o.range.count v c.publish.new.seat.me.0 c.args.items.now
+    (c.in_default.ensures.done.0 ∙ ap (λ l. settled (span_of o.ring.index Put o.range.start o.range.count) l v) c.items.view_is)
     (put_owns tags v.pool v.party o.share.owned o.share.row c.args.items.now mine.1)

@@ -38,8 +38,8 @@ invariant_of-result g c =
       alive = subst (λ w. 0 < w.parts) (sym done.0) o.share.alive;
       well = done.2;
       row = subst (λ w. IsRow tags w.pool w.party c.own.new.self) (sym is)
-          (subst (IsRow tags v.pool (with_settled v.party (span_of o.ring.index Take o.place.start o.place.count) (take c.args.k v.shown))) (sym row)
-          (take_row tags v.pool v.party o.share.owned o.share.row (take c.args.k v.shown) o.ring.index o.place.start o.place.count o.share.well after));
+          (subst (IsRow tags v.pool (with_settled v.party (span_of o.ring.index Take o.range.start o.range.count) (take c.args.k v.shown))) (sym row)
+          (take_row tags v.pool v.party o.share.owned o.share.row (take c.args.k v.shown) o.ring.index o.range.start o.range.count o.share.well after));
     }
 
 pub returns-in_default-clause-done : goal.returns-in_default-clause-done
@@ -52,7 +52,7 @@ returns-in_default-clause-done g c =
       (
         (c.dequeue.ensures.seat.0 ∙ o.table, ap (λ w. w.plans) is ∙ o.plans.0, ap (λ w. w.pool) is ∙ o.plans.1),
         c.is_count.ensures.good c.if-not-is_count.false,
-        is ∙ ap (λ l. settled (span_of o.ring.index Take o.place.start o.place.count) (take c.args.k l) v) (sym c.requires.shows),
+        is ∙ ap (λ l. settled (span_of o.ring.index Take o.range.start o.range.count) (take c.args.k l) v) (sym c.requires.shows),
       ),
       same ∙ ap (take c.args.k) (sym c.requires.shows),
     )
@@ -92,7 +92,7 @@ returns-clause-refused g c =
       ap somes early.4 ∙ c.items.view_is,
       (
         early.0,
-        count_whole o.ring.shape.plan.take c.args.k o.place.count early.0 count,
+        count_whole o.ring.shape.plan.take c.args.k o.range.count early.0 count,
         early.1,
         early.2,
         record { owned = λ b. omega arith; single = λ free. refl },
@@ -107,7 +107,7 @@ returns-in_default-clause-apart g c =
     let done = c.in_default.ensures.done in
     let same = ap somes done.3 ∙ somes_of (take c.args.k v.shown) in
     subst (λ l. AreDistinct (flat_map tags l)) (sym same)
-    (taken_apart tags o.ring.index o.place.start o.place.count (take c.args.k v.shown) v _ done.0 o.share.well done.2)
+    (taken_apart tags o.ring.index o.range.start o.range.count (take c.args.k v.shown) v _ done.0 o.share.well done.2)
 
 pub returns-in_default-clause-owned : goal.returns-in_default-clause-owned
 returns-in_default-clause-owned g c =
@@ -117,4 +117,4 @@ returns-in_default-clause-owned g c =
     let done = c.in_default.ensures.done in
     let same = ap somes done.3 ∙ somes_of (take c.args.k v.shown) in
     subst (λ l. HoldsMore tags v l c.dequeue.new.seat.me.0) (sym same)
-    (holds_more tags o.ring.index o.place.start o.place.count v c.dequeue.new.seat.me.0 (take c.args.k v.shown) done.0 o.share.well)
+    (holds_more tags o.ring.index o.range.start o.range.count v c.dequeue.new.seat.me.0 (take c.args.k v.shown) done.0 o.share.well)

@@ -15,14 +15,14 @@ store-requires g c =
     let q = c.requires in
     let p = c.args.self.now.shape.plan in
     let f = c.args.self.now.fabric.now in
-    let n = c.args.place.count in
+    let n = c.args.range.count in
     let shown = c.args.seat.now.me.0.shown in
     let many = sym (ap length q.shows ∙ length-cells shown) ∙ q.whole in
     let fits = count_fits p.take c.args.k n q.count in
     let ready =
-    ready_take g.T.Tagged.numbers f.plan.rings.items p c.args.self.now.index c.args.place.start n c.args.seat.now.me c.keep.new.seat.me
+    ready_take g.T.Tagged.numbers f.plan.rings.items p c.args.self.now.index c.args.range.start n c.args.seat.now.me c.keep.new.seat.me
     c.keep.ensures.seat.1 c.args.k q.span many fits
-    (c.keep.ensures.slots ∙ ap (λ l. run (slot_at f.plan.rings.items c.args.self.now.index p) c.args.place.start (replicate c.args.k None ++ drop c.args.k l))
+    (c.keep.ensures.slots ∙ ap (λ l. run (slot_at f.plan.rings.items c.args.self.now.index p) c.args.range.start (replicate c.args.k None ++ drop c.args.k l))
     q.shows) in (
       search rules,
       (
@@ -30,7 +30,7 @@ store-requires g c =
         (
           c.in-Hts.is,
           (
-            omega (arith, c.args.place.last, fits),
+            omega (arith, c.args.range.last, fits),
             (take c.args.k shown, n, taken_long c.args.k shown (omega (arith, fits, many)), ready),
           ),
         ),
@@ -42,15 +42,15 @@ settle-found-requires g c =
     let q = c.requires in
     let p = c.args.self.now.shape.plan in
     let f = c.args.self.now.fabric.now in
-    let n = c.args.place.count in
+    let n = c.args.range.count in
     let shown = c.args.seat.now.me.0.shown in
     let many = sym (ap length q.shows ∙ length-cells shown) ∙ q.whole in
     let fits = count_fits p.take c.args.k n q.count in
     let all = count_whole p.take c.args.k n c.in-Multi.is q.count in
     let ready =
-    ready_take g.T.Tagged.numbers f.plan.rings.items p c.args.self.now.index c.args.place.start n c.args.seat.now.me c.keep.new.seat.me
+    ready_take g.T.Tagged.numbers f.plan.rings.items p c.args.self.now.index c.args.range.start n c.args.seat.now.me c.keep.new.seat.me
     c.keep.ensures.seat.1 c.args.k q.span many fits
-    (c.keep.ensures.slots ∙ ap (λ l. run (slot_at f.plan.rings.items c.args.self.now.index p) c.args.place.start (replicate c.args.k None ++ drop c.args.k l))
+    (c.keep.ensures.slots ∙ ap (λ l. run (slot_at f.plan.rings.items c.args.self.now.index p) c.args.range.start (replicate c.args.k None ++ drop c.args.k l))
     q.shows) in (
       search rules,
       (
@@ -58,7 +58,7 @@ settle-found-requires g c =
         (
           c.in-Multi.is,
           (
-            c.args.place.last,
+            c.args.range.last,
             (take c.args.k shown, taken_long c.args.k shown (omega (arith, fits, many)) ∙ all, ready),
           ),
         ),
@@ -70,45 +70,45 @@ returns-in-Hts-clause-done g c =
     let q = c.requires in
     let p = c.args.self.now.shape.plan in
     let f = c.args.self.now.fabric.now in
-    let n = c.args.place.count in
+    let n = c.args.range.count in
     let shown = c.args.seat.now.me.0.shown in
     let many = sym (ap length q.shows ∙ length-cells shown) ∙ q.whole in
     let fits = count_fits p.take c.args.k n q.count in
     let ready =
-    ready_take g.T.Tagged.numbers f.plan.rings.items p c.args.self.now.index c.args.place.start n c.args.seat.now.me c.keep.new.seat.me
+    ready_take g.T.Tagged.numbers f.plan.rings.items p c.args.self.now.index c.args.range.start n c.args.seat.now.me c.keep.new.seat.me
     c.keep.ensures.seat.1 c.args.k q.span many fits
-    (c.keep.ensures.slots ∙ ap (λ l. run (slot_at f.plan.rings.items c.args.self.now.index p) c.args.place.start (replicate c.args.k None ++ drop c.args.k l))
+    (c.keep.ensures.slots ∙ ap (λ l. run (slot_at f.plan.rings.items c.args.self.now.index p) c.args.range.start (replicate c.args.k None ++ drop c.args.k l))
     q.shows) in
     let t = c.store.ensures.done (take c.args.k shown) n (taken_long c.args.k shown (omega (arith, fits, many))) ready in (
-      t.0 ∙ ap (settled (span_of c.args.self.now.index Take c.args.place.start n) (take c.args.k shown)) c.keep.ensures.seat.1,
+      t.0 ∙ ap (settled (span_of c.args.self.now.index Take c.args.range.start n) (take c.args.k shown)) c.keep.ensures.seat.1,
       t.1,
       t.2,
       c.keep.ensures.cells ∙ (ap (take c.args.k) q.shows ∙ take_some c.args.k shown),
     )
 
-pub returns-then-found-place-clause-done : goal.returns-then-found-place-clause-done
-returns-then-found-place-clause-done g c =
+pub returns-then-found-range-clause-done : goal.returns-then-found-range-clause-done
+returns-then-found-range-clause-done g c =
     let q = c.requires in
     let p = c.args.self.now.shape.plan in
     let f = c.args.self.now.fabric.now in
-    let n = c.args.place.count in
+    let n = c.args.range.count in
     let shown = c.args.seat.now.me.0.shown in
     let many = sym (ap length q.shows ∙ length-cells shown) ∙ q.whole in
     let fits = count_fits p.take c.args.k n q.count in
     let all = count_whole p.take c.args.k n c.in-Multi.is q.count in
     let ready =
-    ready_take g.T.Tagged.numbers f.plan.rings.items p c.args.self.now.index c.args.place.start n c.args.seat.now.me c.keep.new.seat.me
+    ready_take g.T.Tagged.numbers f.plan.rings.items p c.args.self.now.index c.args.range.start n c.args.seat.now.me c.keep.new.seat.me
     c.keep.ensures.seat.1 c.args.k q.span many fits
-    (c.keep.ensures.slots ∙ ap (λ l. run (slot_at f.plan.rings.items c.args.self.now.index p) c.args.place.start (replicate c.args.k None ++ drop c.args.k l))
+    (c.keep.ensures.slots ∙ ap (λ l. run (slot_at f.plan.rings.items c.args.self.now.index p) c.args.range.start (replicate c.args.k None ++ drop c.args.k l))
     q.shows) in
-    let t = c.settle-found.ensures.won (take c.args.k shown) (taken_long c.args.k shown (omega (arith, fits, many)) ∙ all) ready c.if-found-place.true in (
-      t.0 ∙ ap (settled (span_of c.args.self.now.index Take c.args.place.start n) (take c.args.k shown)) c.keep.ensures.seat.1,
+    let t = c.settle-found.ensures.won (take c.args.k shown) (taken_long c.args.k shown (omega (arith, fits, many)) ∙ all) ready c.if-found-range.true in (
+      t.0 ∙ ap (settled (span_of c.args.self.now.index Take c.args.range.start n) (take c.args.k shown)) c.keep.ensures.seat.1,
       t.1,
       t.2,
       c.keep.ensures.cells ∙ (ap (take c.args.k) q.shows ∙ take_some c.args.k shown),
     )
 
-pub returns-else-found-place-clause-true_refusal : goal.returns-else-found-place-clause-true_refusal
-returns-else-found-place-clause-true_refusal g c =
-    earlier_on g.T.Tagged.numbers (span_of c.args.self.now.index Take c.args.place.start c.args.place.count) c.args.seat.now.me.0 c.keep.new.seat.me.0
-    c.settle-found.result c.keep.ensures.seat.1 (c.settle-found.ensures.early c.if-found-place.false)
+pub returns-else-found-range-clause-true_refusal : goal.returns-else-found-range-clause-true_refusal
+returns-else-found-range-clause-true_refusal g c =
+    earlier_on g.T.Tagged.numbers (span_of c.args.self.now.index Take c.args.range.start c.args.range.count) c.args.seat.now.me.0 c.keep.new.seat.me.0
+    c.settle-found.result c.keep.ensures.seat.1 (c.settle-found.ensures.early c.if-found-range.false)

@@ -10,20 +10,20 @@ skip-requires g c =
     let q = c.requires in
     let n = length c.args.cells.now in
     let held =
-    q.slots ∙ (same_run c.args.self.now.fabric.now.plan.rings.items c.args.self.now.index c.args.self.now.shape c.args.place.start
-    (replicate c.args.place.count None) c.args.self.now.in_plan.1
-    ∙ ap (λ m. run (shape_slot c.args.self.now.shape) c.args.place.start (replicate m None)) (sym q.whole)) in
-    omega (arith, all_long None (shape_slot c.args.self.now.shape) c.args.place.start n c.args.k q.fits c.args.seat.now.me.1 held, q.fits)
+    q.slots ∙ (same_run c.args.self.now.fabric.now.plan.rings.items c.args.self.now.index c.args.self.now.shape c.args.range.start
+    (replicate c.args.range.count None) c.args.self.now.in_plan.1
+    ∙ ap (λ m. run (shape_slot c.args.self.now.shape) c.args.range.start (replicate m None)) (sym q.whole)) in
+    omega (arith, all_long None (shape_slot c.args.self.now.shape) c.args.range.start n c.args.k q.fits c.args.seat.now.me.1 held, q.fits)
 
 pub fill-requires : goal.fill-requires
 fill-requires g c =
     let q = c.requires in
-    let low = c.args.place.last in
+    let low = c.args.range.last in
     let n = length c.args.cells.now in
     let held =
-    q.slots ∙ (same_run c.args.self.now.fabric.now.plan.rings.items c.args.self.now.index c.args.self.now.shape c.args.place.start
-    (replicate c.args.place.count None) c.args.self.now.in_plan.1
-    ∙ ap (λ m. run (shape_slot c.args.self.now.shape) c.args.place.start (replicate m None)) (sym q.whole)) in (
+    q.slots ∙ (same_run c.args.self.now.fabric.now.plan.rings.items c.args.self.now.index c.args.self.now.shape c.args.range.start
+    (replicate c.args.range.count None) c.args.self.now.in_plan.1
+    ∙ ap (λ m. run (shape_slot c.args.self.now.shape) c.args.range.start (replicate m None)) (sym q.whole)) in (
       search rules,
       (
         search rules,
@@ -33,7 +33,7 @@ fill-requires g c =
             q.fits,
             (
               omega arith,
-              keep_starts None (shape_slot c.args.self.now.shape) c.args.place.start n c.args.k q.fits c.args.seat.now.me.1 held c.skip.new.seat.me.1
+              keep_starts None (shape_slot c.args.self.now.shape) c.args.range.start n c.args.k q.fits c.args.seat.now.me.1 held c.skip.new.seat.me.1
                   (ap (λ m. m.1) c.skip.ensures.2),
             ),
           ),
@@ -47,11 +47,11 @@ returns-clause-slots g c =
     let cells = c.args.cells.now in
     let n = length cells in
     let held =
-    q.slots ∙ (same_run c.args.self.now.fabric.now.plan.rings.items c.args.self.now.index c.args.self.now.shape c.args.place.start
-    (replicate c.args.place.count None) c.args.self.now.in_plan.1
-    ∙ ap (λ m. run (shape_slot c.args.self.now.shape) c.args.place.start (replicate m None)) (sym q.whole)) in
-    keep_ends None (shape_slot c.args.self.now.shape) c.args.place.start n c.args.k q.fits c.args.seat.now.me.1 held c.skip.new.seat.me.1
+    q.slots ∙ (same_run c.args.self.now.fabric.now.plan.rings.items c.args.self.now.index c.args.self.now.shape c.args.range.start
+    (replicate c.args.range.count None) c.args.self.now.in_plan.1
+    ∙ ap (λ m. run (shape_slot c.args.self.now.shape) c.args.range.start (replicate m None)) (sym q.whole)) in
+    keep_ends None (shape_slot c.args.self.now.shape) c.args.range.start n c.args.k q.fits c.args.seat.now.me.1 held c.skip.new.seat.me.1
     (ap (λ m. m.1) c.skip.ensures.2)
     (drop c.args.k cells) c.fill.new.seat.me.1 (length-drop c.args.k cells) c.fill.ensures.filled
-    ∙ sym (same_run c.args.self.now.fabric.now.plan.rings.items c.args.self.now.index c.args.self.now.shape c.args.place.start
+    ∙ sym (same_run c.args.self.now.fabric.now.plan.rings.items c.args.self.now.index c.args.self.now.shape c.args.range.start
     (replicate c.args.k None ++ drop c.args.k cells) c.args.self.now.in_plan.1)

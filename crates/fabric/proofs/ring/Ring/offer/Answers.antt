@@ -8,13 +8,13 @@ use Rattle.fabric.proofs.ring.Ring.offer.Goals as goal
 pub fill-requires : goal.fill-requires
 fill-requires g c =
     let q = c.requires in
-    let low = c.args.place.last in
+    let low = c.args.range.last in
     let n = length c.args.cells.now in
     let all : n ≡ n - 0 = omega arith in
     let held =
-    q.slots ∙ same_run c.args.self.now.fabric.now.plan.rings.items c.args.self.now.index c.args.self.now.shape c.args.place.start
-    (replicate c.args.place.count None) c.args.self.now.in_plan.1 in
-    let starts = offer_starts None (shape_slot c.args.self.now.shape) c.args.place.start c.args.place.count n q.fits c.args.seat.now.me.1 held in (
+    q.slots ∙ same_run c.args.self.now.fabric.now.plan.rings.items c.args.self.now.index c.args.self.now.shape c.args.range.start
+    (replicate c.args.range.count None) c.args.self.now.in_plan.1 in
+    let starts = offer_starts None (shape_slot c.args.self.now.shape) c.args.range.start c.args.range.count n q.fits c.args.seat.now.me.1 held in (
       search rules,
       (
         search rules,
@@ -24,7 +24,7 @@ fill-requires g c =
             omega arith,
             (
               omega arith,
-              subst (λ m. c.args.seat.now.me.1 ≡ run (shape_slot c.args.self.now.shape) c.args.place.start (replicate m None) ++ drop m c.args.seat.now.me.1)
+              subst (λ m. c.args.seat.now.me.1 ≡ run (shape_slot c.args.self.now.shape) c.args.range.start (replicate m None) ++ drop m c.args.seat.now.me.1)
                   all
                   starts,
             ),
@@ -39,12 +39,12 @@ skip-requires g c =
     let n = length c.args.cells.now in
     let all : n - 0 ≡ n = omega arith in
     let held =
-    q.slots ∙ same_run c.args.self.now.fabric.now.plan.rings.items c.args.self.now.index c.args.self.now.shape c.args.place.start
-    (replicate c.args.place.count None) c.args.self.now.in_plan.1 in
+    q.slots ∙ same_run c.args.self.now.fabric.now.plan.rings.items c.args.self.now.index c.args.self.now.shape c.args.range.start
+    (replicate c.args.range.count None) c.args.self.now.in_plan.1 in
     let filled =
-    c.fill.ensures.filled ∙ ap (λ m. drop m c.args.seat.now.me.1 ++ run (shape_slot c.args.self.now.shape) c.args.place.start c.args.cells.now) all in
+    c.fill.ensures.filled ∙ ap (λ m. drop m c.args.seat.now.me.1 ++ run (shape_slot c.args.self.now.shape) c.args.range.start c.args.cells.now) all in
     let long =
-    offer_long None (shape_slot c.args.self.now.shape) c.args.place.start c.args.place.count n q.fits c.args.seat.now.me.1 held c.args.cells.now refl
+    offer_long None (shape_slot c.args.self.now.shape) c.args.range.start c.args.range.count n q.fits c.args.seat.now.me.1 held c.args.cells.now refl
     c.fill.new.seat.me.1 filled in
     omega (arith, c.len-k.ensures.value, long)
 
@@ -55,12 +55,12 @@ returns-clause-slots g c =
     let n = length cells in
     let all : n - 0 ≡ n = omega arith in
     let held =
-    q.slots ∙ same_run c.args.self.now.fabric.now.plan.rings.items c.args.self.now.index c.args.self.now.shape c.args.place.start
-    (replicate c.args.place.count None) c.args.self.now.in_plan.1 in
-    let filled = c.fill.ensures.filled ∙ ap (λ m. drop m c.args.seat.now.me.1 ++ run (shape_slot c.args.self.now.shape) c.args.place.start cells) all in
+    q.slots ∙ same_run c.args.self.now.fabric.now.plan.rings.items c.args.self.now.index c.args.self.now.shape c.args.range.start
+    (replicate c.args.range.count None) c.args.self.now.in_plan.1 in
+    let filled = c.fill.ensures.filled ∙ ap (λ m. drop m c.args.seat.now.me.1 ++ run (shape_slot c.args.self.now.shape) c.args.range.start cells) all in
     ap (λ m. m.1) c.skip.ensures.2
-    ∙ (ap (λ m. rotated (c.args.place.count - m) c.fill.new.seat.me.1) c.len-k.ensures.value
-    ∙ (offer_ends None (shape_slot c.args.self.now.shape) c.args.place.start c.args.place.count n q.fits c.args.seat.now.me.1 held cells refl
+    ∙ (ap (λ m. rotated (c.args.range.count - m) c.fill.new.seat.me.1) c.len-k.ensures.value
+    ∙ (offer_ends None (shape_slot c.args.self.now.shape) c.args.range.start c.args.range.count n q.fits c.args.seat.now.me.1 held cells refl
     c.fill.new.seat.me.1 filled
-    ∙ sym (same_run c.args.self.now.fabric.now.plan.rings.items c.args.self.now.index c.args.self.now.shape c.args.place.start
-    (cells ++ replicate (c.args.place.count - n) None) c.args.self.now.in_plan.1)))
+    ∙ sym (same_run c.args.self.now.fabric.now.plan.rings.items c.args.self.now.index c.args.self.now.shape c.args.range.start
+    (cells ++ replicate (c.args.range.count - n) None) c.args.self.now.in_plan.1)))

@@ -12,22 +12,22 @@ withdraw-requires g c =
     let q = c.requires in
     let p = c.args.self.now.shape.plan in
     let cells = c.args.cells.now in
-    let lost = c.settle-found.ensures.lost c.if-found-place.false in
-    let all = count_whole p.put (length cells) c.args.place.count c.in-Multi.is q.count in
+    let lost = c.settle-found.ensures.lost c.if-found-range.false in
+    let all = count_whole p.put (length cells) c.args.range.count c.in-Multi.is q.count in
     let held =
-    back_held (slot_at c.args.self.now.fabric.now.plan.rings.items c.args.self.now.index p) c.args.place.start c.args.place.count cells
+    back_held (slot_at c.args.self.now.fabric.now.plan.rings.items c.args.self.now.index p) c.args.range.start c.args.range.count cells
     c.settle-found.new.seat.me.1 (lost.1 ∙ c.offer.ensures.slots) all in
     (search rules, (search rules, (c.settle-found.ensures.seat.0 ∙ (c.offer.ensures.seat.0.0 ∙ q.seat.table), (q.fits, (c.offer.ensures.cells, held)))))
 
-pub returns-else-found-place-clause-early : goal.returns-else-found-place-clause-early
-returns-else-found-place-clause-early g c =
+pub returns-else-found-range-clause-early : goal.returns-else-found-range-clause-early
+returns-else-found-range-clause-early g c =
     let q = c.requires in
     let p = c.args.self.now.shape.plan in
     let cells = c.args.cells.now in
-    let lost = c.settle-found.ensures.lost c.if-found-place.false in
-    let all = count_whole p.put (length cells) c.args.place.count c.in-Multi.is q.count in
+    let lost = c.settle-found.ensures.lost c.if-found-range.false in
+    let all = count_whole p.put (length cells) c.args.range.count c.in-Multi.is q.count in
     let back =
-    back_is (slot_at c.args.self.now.fabric.now.plan.rings.items c.args.self.now.index p) c.args.place.start c.args.place.count cells
+    back_is (slot_at c.args.self.now.fabric.now.plan.rings.items c.args.self.now.index p) c.args.range.start c.args.range.count cells
     c.settle-found.new.seat.me.1 (lost.1 ∙ c.offer.ensures.slots) all in (
       c.in-Multi.is,
       lost.2,
@@ -36,7 +36,7 @@ returns-else-found-place-clause-early g c =
       c.withdraw.ensures.cells ∙ back,
     )
 
-pub returns-else-found-place-clause-true_refusal : goal.returns-else-found-place-clause-true_refusal
-returns-else-found-place-clause-true_refusal g c =
-    earlier_on g.T.Tagged.numbers (span_of c.args.self.now.index Put c.args.place.start c.args.place.count) c.args.seat.now.me.0 c.offer.new.seat.me.0
-    c.settle-found.result c.offer.ensures.seat.1 (c.settle-found.ensures.early c.if-found-place.false)
+pub returns-else-found-range-clause-true_refusal : goal.returns-else-found-range-clause-true_refusal
+returns-else-found-range-clause-true_refusal g c =
+    earlier_on g.T.Tagged.numbers (span_of c.args.self.now.index Put c.args.range.start c.args.range.count) c.args.seat.now.me.0 c.offer.new.seat.me.0
+    c.settle-found.result c.offer.ensures.seat.1 (c.settle-found.ensures.early c.if-found-range.false)

@@ -21,9 +21,9 @@ returns-in-Ok-finish_into-clause-at_most g c =
     let started = c.in-Ok.ensures.started in
     let shown = c.peek_take_into.new.into in
     let k = c.first_part-k.result in
-    let granted : span.place.count ≤ c.args.burst =
+    let granted : span.range.count ≤ c.args.burst =
     subst (λ m. m ≤ c.args.burst) (sym (started.3 known.0 known.1).granted) (granted_few by_burst c.args.burst _) in
-    let all : length shown ≡ span.place.count = ap length started.2 ∙ span.many in
+    let all : length shown ≡ span.range.count = ap length started.2 ∙ span.many in
     let some : length (take k shown) ≤ c.args.burst = omega (arith, granted, all, length-take k shown) in
     subst (λ items. length items ≤ c.args.burst) (sym c.in-Ok-finish_into.ensures.done.1) some
 
@@ -42,7 +42,7 @@ returns-in-Ok-finish_into-clause-more g c =
     let shown = c.peek_take_into.new.into in
     let k = c.first_part-k.result in
     let hand = c.in-Ok-finish_into.hand in
-    let taken = subst (λ r. view hand ≡ settled (span_of r Take span.place.start span.place.count) (take k shown) (take_view span)) started.1 done.0.2 in
+    let taken = subst (λ r. view hand ≡ settled (span_of r Take span.range.start span.range.count) (take k shown) (take_view span)) started.1 done.0.2 in
     let more = (took_first packet_numbers by_burst c.args.burst 1 known.0 (view c.loop.hand) _ _ (take_left span) shown (take_view span) (view hand) k
     (view c.loop.hand).pool c.loop.hand.share.well (started.3 known.0 known.1) taken).1 in
     subst (λ items. HasMore packet_numbers (view c.args.hand).party items (view hand).party) (sym done.1)
