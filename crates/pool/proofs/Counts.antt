@@ -1,9 +1,10 @@
 -- How often a buffer stands in what a get gives and keeps, and in what a put moves and keeps
-use Rattle.std.proofs.Common.{◌≡◌, ℕ, ◌+◌, ◌-◌, ◌++◌, List, length, take, drop, reverse, arith}
+use Rattle.std.proofs.Common.{◌≡◌, ℕ, ◌+◌, ◌-◌, ◌++◌, List, length, take, drop, reverse, slice_get, Some, ap, arith}
 use Rattle.std.specs.Prelude.{◌<◌, ◌≤◌, nat_lt, if◌then◌else◌}
 use Rattle.std.specs.List.{sum_by}
 use Rattle.std.proofs.lemmas.Bool.Decides.{nat_tests}
-use Rattle.std.proofs.lemmas.List.Sums.{sum_by-append, sum_by-take-drop}
+use Rattle.std.proofs.lemmas.List.Sums.{get_or-le-sum_by, sum_by-append, sum_by-take-drop, sum_by_more}
+use Rattle.std.proofs.lemmas.Option.{get_or_from_slice_get, slice_get_within}
 use Rattle.std.proofs.lemmas.List.Sorted.{IsPermutation-reverse, sum_by-IsPermutation}
 use Rattle.ringcore_laws.specs.Sound.{occurrences, occurrences_in}
 use Rattle.pool.specs.Caches.{cached_after_get, cached_after_put, put_on_ring, spilled, taken_by_get}
@@ -39,6 +40,24 @@ module _ {T : Type 0} (tags : T → List ℕ) (b : ℕ) where
 
   pub count_parts : (k : ℕ) (items : List T) → occurrences_in tags b (take k items) + occurrences_in tags b (drop k items) ≡ occurrences_in tags b items
   count_parts k items = sum_parts (λ x. occurrences b (tags x)) k items
+
+  -- an item carries it at most as often as the list does, and adds it to those before
+  pub count_at : (items : List T) (i : ℕ) (x : T) → slice_get items i ≡ Some x → occurrences b (tags x) ≤ occurrences_in tags b items
+  count_at items i x at =
+      omega (
+        arith,
+        get_or-le-sum_by (λ y. occurrences b (tags y)) items i x (slice_get_within items i x at),
+        ap (λ y. occurrences b (tags y)) (get_or_from_slice_get items i x x at),
+      )
+
+  pub count_past : (items : List T) (i : ℕ) (x : T) → slice_get items i ≡ Some x
+      → occurrences_in tags b (take (i + 1) items) ≡ occurrences_in tags b (take i items) + occurrences b (tags x)
+  count_past items i x at =
+      omega (
+        arith,
+        sum_by_more (λ y. occurrences b (tags y)) items i x (slice_get_within items i x at),
+        ap (λ y. occurrences b (tags y)) (get_or_from_slice_get items i x x at),
+      )
 
   pub count_get : (n : ℕ) (cache taken : List T)
       → occurrences_in tags b (taken_by_get n cache taken) + occurrences_in tags b (cached_after_get n cache taken)

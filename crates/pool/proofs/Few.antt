@@ -1,6 +1,6 @@
 -- Own items that carry one buffer each are at most as many as the hand has buffers
-use Rattle.std.proofs.Common.{◌≡◌, ℕ, ◌≤◌, List, [], ◌∷◌, length, refl, arith, true, false}
-use Rattle.std.specs.Prelude.{Bool, ◌&&◌, ◌==◌}
+use Rattle.std.proofs.Common.{◌≡◌, ℕ, ◌≤◌, List, [], ◌∷◌, length, refl, arith, true}
+use Rattle.std.specs.Prelude.{◌==◌}
 use Rattle.std.specs.List.{flat_map, range_with_len, sum_by}
 use Rattle.std.proofs.lemmas.Bool.Decides.{nat_tests}
 use Rattle.std.proofs.lemmas.List.{length-append}
@@ -12,18 +12,11 @@ use Rattle.ringcore_laws.specs.Sound.{holds, occurrences}
 use Rattle.ringcore_laws.proofs.FreeRoom.{count_all}
 use Rattle.ringcore_laws.proofs.Laws.{times_in_is}
 use Rattle.fabric_laws.specs.Kinds.{IsHeldOnce}
+use Rattle.pool.proofs.Singles.{first_of, rest_of}
 
 sum_less : {X : Type 0} (f g : X → ℕ) (xs : List X) → ((x : X) → f x ≤ g x) → sum_by f xs ≤ sum_by g xs
 sum_less f g [] less = omega arith
 sum_less f g (x ∷ xs) less = omega (arith, sum_by-cons f x xs, sum_by-cons g x xs, less x, sum_less f g xs less)
-
-first_of : (t u : Bool) → (t && u) ≡ true → t ≡ true
-first_of true u e = refl
-first_of false u e = absurd (let z : false ≡ true = e in cc)
-
-rest_of : (t u : Bool) → (t && u) ≡ true → u ≡ true
-rest_of true u e = e
-rest_of false u e = absurd (let z : false ≡ true = e in cc)
 
 one_is : (n : ℕ) → (n == 1) ≡ true → n ≡ 1
 one_is n e = grind (arith, nat_tests, e)

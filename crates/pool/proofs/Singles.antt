@@ -1,8 +1,9 @@
 -- Items that carry one buffer each, in what a get gives and keeps, and in parts of a list
 use Rattle.std.proofs.Common.{◌≡◌, ℕ, ◌++◌, List, [], ◌∷◌, length, take, drop, reverse, refl, ap, arith, true, false}
-use Rattle.std.specs.Prelude.{Bool, ◌&&◌, ◌==◌}
+use Rattle.std.specs.Prelude.{Bool, ◌&&◌, ◌==◌, Some, slice_get}
 use Rattle.std.specs.List.{list_all, sum_by}
-use Rattle.std.proofs.lemmas.List.Sums.{sum_by-append, sum_by-cons}
+use Rattle.std.proofs.lemmas.List.Sums.{get_or-le-sum_by, sum_by-append, sum_by-cons}
+use Rattle.std.proofs.lemmas.Option.{get_or_from_slice_get, slice_get_within}
 use Rattle.ringcore_laws.specs.FreeRings.{AreSingle}
 use Rattle.pool.specs.Caches.{cached_after_get, taken_by_get}
 use Rattle.pool.proofs.Counts.{sum_get, sum_parts, sum_turned}
@@ -15,11 +16,11 @@ both_true : (t u : Bool) → t ≡ true → u ≡ true → (t && u) ≡ true
 both_true true u e f = f
 both_true false u e f = absurd (let z : false ≡ true = e in cc)
 
-first_of : (t u : Bool) → (t && u) ≡ true → t ≡ true
+pub first_of : (t u : Bool) → (t && u) ≡ true → t ≡ true
 first_of true u e = refl
 first_of false u e = absurd (let z : false ≡ true = e in cc)
 
-rest_of : (t u : Bool) → (t && u) ≡ true → u ≡ true
+pub rest_of : (t u : Bool) → (t && u) ≡ true → u ≡ true
 rest_of true u e = e
 rest_of false u e = absurd (let z : false ≡ true = e in cc)
 
@@ -49,6 +50,17 @@ module _ {T : Type 0} (tags : T → List ℕ) where
       let one : odd x ≡ 0 = omega (arith, none, both) in
       both_true (length (tags x) == 1) (list_all (λ y. length (tags y) == 1) items) (none_is (length (tags x) == 1) one)
       (from_none items (omega (arith, none, both)))
+
+  -- of items that carry one buffer each, each does
+  pub single_at : (items : List T) (i : ℕ) (x : T) → AreSingle tags items → slice_get items i ≡ Some x → (length (tags x) == 1) ≡ true
+  single_at items i x single at =
+      none_is (length (tags x) == 1)
+      (omega (
+        arith,
+        get_or-le-sum_by odd items i x (slice_get_within items i x at),
+        ap odd (get_or_from_slice_get items i x x at),
+        none_odd items single,
+      ))
 
   pub single_both : (items more : List T) → AreSingle tags items → AreSingle tags more → AreSingle tags (items ++ more)
   single_both items more one two =

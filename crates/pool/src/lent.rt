@@ -8,7 +8,7 @@ ghost use Rattle.pool.specs.Locals.{IsLocalOf, SameRing, cache_of, ring_of, view
 use crate::faults::PoolFault;
 use crate::local::Local;
 use crate::ring_requests::{empty, fetch};
-use crate::set_aside::{admit, keep_back, shed};
+use crate::set_aside::{admit, keep_back, shed, take_hand};
 use burst::{Burst, Tagged};
 use fabric::Fabric;
 use std::sync::Wait;
@@ -40,9 +40,7 @@ impl<T: Tagged, const N: usize> Local<T, N> {
         if n <= self.cache.len() {
             return self.get_cached_into(n, into);
         }
-        let Some(cache_hand) = self.hand.take() else {
-            unreachable!();
-        };
+        let cache_hand = take_hand(&mut self.hand);
         let hand = cache_hand.into_hand(&self.cache);
         match fetch(rt, f, hand, self.ring, self.size, &mut self.cache, n, into) {
             Ok(hand) => {
@@ -86,9 +84,7 @@ impl<T: Tagged, const N: usize> Local<T, N> {
         if self.cache.len() <= 3 * self.size / 2 {
             return Ok(());
         }
-        let Some(cache_hand) = self.hand.take() else {
-            unreachable!();
-        };
+        let cache_hand = take_hand(&mut self.hand);
         match shed(
             rt,
             f,
@@ -119,9 +115,7 @@ impl<T: Tagged, const N: usize> Local<T, N> {
         ensures same { SameRing self.old self.new }
         ensures exact { OnRing f.now (ring_of self.old) (λ plan. FlushTells T.numbers plan self.old self.new result) }
     {
-        let Some(cache_hand) = self.hand.take() else {
-            unreachable!();
-        };
+        let cache_hand = take_hand(&mut self.hand);
         let hand = cache_hand.into_hand(&self.cache);
         match empty(rt, f, hand, self.ring, &mut self.cache) {
             Ok(hand) => {

@@ -11,7 +11,6 @@ mod opening;
 mod other_rings;
 mod queries;
 mod ring_requests;
-mod rings;
 mod set_aside;
 mod values;
 

@@ -4,15 +4,17 @@ ghost use Rattle.ringcore_laws.specs.FreeRings.{AreSingle};
 ghost use Rattle.fabric.specs.Hands.{OnRing, rings_of};
 ghost use Rattle.fabric.specs.CacheHands.{IsCacheHandOf, Keeps};
 ghost use Rattle.pool.specs.Beside.{Receives, Sends};
+ghost use Rattle.pool.specs.Locals.{IsLocalOf, SameCache, SameRing, cache_of, hand_of};
 
-use crate::set_aside::keep_back;
+use crate::local::Local;
+use crate::set_aside::{keep_back, take_hand};
 use burst::{Burst, Tagged};
 use fabric::{CacheHand, Fabric, StartFault};
 use ringapi::{Moved, PutAnswer, Refusal, TakeAnswer, put_own_burst_from, take_burst_into};
 use std::sync::Wait;
 
 /// Puts as many items of a list as there is room for, from its front.
-pub(crate) fn send<T: Tagged, const N: usize, R: Wait>(
+fn send<T: Tagged, const N: usize, R: Wait>(
     rt: &R,
     f: &Fabric<T, N>,
     cache_hand: CacheHand<T>,
@@ -41,7 +43,7 @@ pub(crate) fn send<T: Tagged, const N: usize, R: Wait>(
 }
 
 /// Takes at most `n` items, as many as are queued, into an empty list.
-pub(crate) fn receive<T: Tagged, const N: usize, R: Wait>(
+fn receive<T: Tagged, const N: usize, R: Wait>(
     rt: &R,
     f: &Fabric<T, N>,
     cache_hand: CacheHand<T>,
@@ -64,5 +66,60 @@ pub(crate) fn receive<T: Tagged, const N: usize, R: Wait>(
         TakeAnswer::Done(hand, moved) => (keep_back(hand, cache), Ok(moved)),
         TakeAnswer::Refused(hand, fault) => (keep_back(hand, cache), Err(fault)),
         TakeAnswer::Open(_, _) => unreachable!(),
+    }
+}
+
+impl<T: Tagged, const N: usize> Local<T, N> {
+    /// Puts as many items of a list as there is room for on a ring of the fabric, from its front, and tries again while
+    /// the ring is busy. What was not moved stays in the list, in order; the cache stays as it is.
+    ///
+    /// Refused, in the order of the tests: `NotYours`, where the items aren't the hand's to put beside those that are
+    /// cached, before any step; `Start`: `BadCount` where the list is empty; `NoRoom`; `Worn`. No memory; it doesn't
+    /// wait for room.
+    pub fn send_from<R: Wait>(
+        &mut self,
+        rt: &R,
+        f: &Fabric<T, N>,
+        ring: usize,
+        list: &mut Burst<T, N>,
+    ) -> Result<Moved, Refusal>
+        requires local { IsLocalOf f.now self.old }
+        requires ring { ring < length (rings_of f.now) }
+        ensures local { IsLocalOf f.now self.new }
+        ensures same { SameRing self.old self.new × SameCache self.old self.new }
+        ensures exact { OnRing f.now ring (λ plan. Sends T.numbers N ring plan (hand_of self.old) (hand_of self.new)
+            (cache_of self.old) list.old result list.new) }
+    {
+        let cache_hand = take_hand(&mut self.hand);
+        let (cache_hand, answer) = send(rt, f, cache_hand, ring, &self.cache, list);
+        self.hand = Some(cache_hand);
+        answer
+    }
+
+    /// Takes at most `n` items from a ring of the fabric, as many as are queued, into an empty list, and tries again
+    /// while the ring is busy. The cache stays as it is.
+    ///
+    /// Refused, in the order of the tests: `BadCount` where `n` is 0 or above `N`; `NoRoom` where none is queued;
+    /// `Worn`. No memory; it doesn't wait for items.
+    pub fn receive_into<R: Wait>(
+        &mut self,
+        rt: &R,
+        f: &Fabric<T, N>,
+        ring: usize,
+        n: usize,
+        into: &mut Burst<T, N>,
+    ) -> Result<Moved, StartFault>
+        requires local { IsLocalOf f.now self.old }
+        requires ring { ring < length (rings_of f.now) }
+        requires empty { into.old ≡ [] }
+        ensures local { IsLocalOf f.now self.new }
+        ensures same { SameRing self.old self.new × SameCache self.old self.new }
+        ensures exact { OnRing f.now ring (λ plan. Receives T.numbers N ring plan (hand_of self.old)
+            (hand_of self.new) n result into.new) }
+    {
+        let cache_hand = take_hand(&mut self.hand);
+        let (cache_hand, answer) = receive(rt, f, cache_hand, ring, n, &self.cache, into);
+        self.hand = Some(cache_hand);
+        answer
     }
 }

@@ -1,9 +1,42 @@
 //! What a cache answers about itself.
-ghost use Rattle.std.specs.Prelude.{◌≡◌, ◌==◌, length};
-ghost use Rattle.pool.specs.Locals.{cache_of, cache_size, ring_of};
+ghost use Rattle.std.specs.Prelude.{◌≡◌, ◌==◌, ◌<◌, ◌↔◌, IsTrue, length, true, false};
+ghost use Rattle.ringcore_laws.specs.FreeRings.{AreSingle};
+ghost use Rattle.ringcore_laws.specs.Sound.{holds, occurrences, occurrences_in};
+ghost use Rattle.fabric.specs.Owned.{one_if};
+ghost use Rattle.pool.specs.Locals.{cache_of, cache_size, ring_of, view_of};
 
 use crate::local::Local;
-use burst::Tagged;
+use burst::{Burst, Tagged};
+
+/// Whether an item, which carries one buffer, carries this one.
+fn carries<T: Tagged>(item: &T, b: u32) -> bool
+    requires single { (length (T.numbers item.now) == 1) ≡ true }
+    ensures { occurrences b (T.numbers item.now) ≡ one_if result }
+{
+    match item.single_tag() {
+        Some(number) => number == b,
+        None => false,
+    }
+}
+
+/// Whether an item of a list carries this buffer. Each item carries one buffer.
+fn one_carries<T: Tagged, const N: usize>(items: &Burst<T, N>, b: u32) -> bool
+    requires single { AreSingle T.numbers items.now }
+    ensures found { result ≡ true → 0 < occurrences_in T.numbers b items.now }
+    ensures none { result ≡ false → occurrences_in T.numbers b items.now ≡ 0 }
+{
+    for i in 0..items.len() {
+        match items.get(i) {
+            Some(item) => {
+                if carries(item, b) {
+                    return true;
+                }
+            }
+            None => (),
+        }
+    }
+    false
+}
 
 impl<T: Tagged, const N: usize> Local<T, N> {
     /// How many items the cache has.
@@ -25,6 +58,20 @@ impl<T: Tagged, const N: usize> Local<T, N> {
         ensures { result ≡ cache_size self.now }
     {
         self.size
+    }
+
+    /// Whether a buffer is the hand's own, cached or not. Looks at each cached item if it isn't in the hand's row.
+    pub fn owns(&self, b: u32) -> bool
+        ensures { IsTrue result ↔ (holds T.numbers b (view_of self.now).party ≡ 1) }
+    {
+        let spare = match &self.hand {
+            Some(cache_hand) => cache_hand.has_spare(b),
+            None => unreachable!(),
+        };
+        if spare {
+            return true;
+        }
+        one_carries(&self.cache, b)
     }
 
     /// The free ring that the cache is in front of.

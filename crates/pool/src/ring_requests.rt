@@ -143,6 +143,7 @@ pub(crate) fn spill<T: Tagged, const N: usize, R: Wait>(
     ensures left { others.new ≡ [] }
 {
     cache.move_tail_reversed(spare, others);
+    // the same in both arms, behind different items
     match put_bulk(rt, f, hand, ring, cache) {
         Ok(hand) => {
             others.move_tail_reversed(0, cache);
@@ -182,6 +183,7 @@ pub(crate) fn fetch<T: Tagged, const N: usize, R: Wait>(
     ensures party { IfErr result (λ e. (view e.0).party ≡ (view hand).party) }
 {
     let missing = n - cache.len();
+    // the cache, emptied, is lent as the list of the take: so what it keeps is in it without a copy
     cache.move_tail_reversed(0, into);
     match refill(rt, f, hand, ring, missing, size, cache) {
         Ok(hand) => {
@@ -216,6 +218,7 @@ pub(crate) fn empty<T: Tagged, const N: usize, R: Wait>(
         return Ok(hand);
     }
     let answer = put_bulk(rt, f, hand, ring, cache);
+    // arm by arm, so that the proof has each answer by itself
     match answer {
         Ok(hand) => Ok(hand),
         Err(hand) => Err(hand),

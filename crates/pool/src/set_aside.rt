@@ -1,5 +1,6 @@
 //! A hand and the cache whose buffers it keeps back.
-ghost use Rattle.std.specs.Prelude.{◌≡◌, ◌+◌, ◌-◌, ◌<◌, ◌≤◌, ◌++◌, [], length, take, drop, reverse, true, false, IfOk, IfErr};
+ghost use Rattle.std.specs.Prelude.{◌≡◌, ◌+◌, ◌-◌, ◌<◌, ◌≤◌, ◌++◌, [], length, take, drop, reverse, true, false, Some, IfOk, IfErr};
+ghost use Rattle.std.specs.Option.{is_some};
 ghost use Rattle.ringcore_laws.specs.FreeRings.{AreSingle};
 ghost use Rattle.fabric.specs.Hands.{OnRing, view};
 ghost use Rattle.fabric.specs.CacheHands.{IsCacheHandFor, IsCacheHandOf, Keeps, SameCacheHand, view_of_cache_hand};
@@ -12,6 +13,17 @@ use crate::ring_requests::spill;
 use burst::{Burst, Tagged};
 use fabric::{CacheHand, Fabric, Hand};
 use std::sync::Wait;
+
+/// Takes the hand of a cache from its place, for a call on a ring.
+pub(crate) fn take_hand<T: Tagged>(hand: &mut Option<CacheHand<T>>) -> CacheHand<T>
+    requires here { is_some hand.old ≡ true }
+    ensures { hand.old ≡ Some result }
+{
+    match hand.take() {
+        Some(cache_hand) => cache_hand,
+        None => unreachable!(),
+    }
+}
 
 /// The hand as one that keeps the buffers of a cache back. Asked: they are its own to put on a free ring.
 pub(crate) fn keep_back<T: Tagged, const N: usize>(

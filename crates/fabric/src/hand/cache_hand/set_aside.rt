@@ -1,8 +1,9 @@
 //! How a hand sets buffers aside, and takes them back.
 ghost use Rattle.std.specs.Prelude.{◌≡◌, ◌<◌, ◌∷◌, [], length, true, false};
 ghost use Rattle.fabric.specs.CacheHands.{AreKept, AreNotSpare, AreSpare, IsCacheHandFor, IsCacheHandOf, Keeps, KeepsLess};
-ghost use Rattle.fabric.specs.CacheHands.{KeepsMore, KeepsNoMore, SameCacheHand, SparesTheSame};
+ghost use Rattle.fabric.specs.CacheHands.{KeepsMore, KeepsNoMore, SameCacheHand, SparesTheSame, spare};
 ghost use Rattle.fabric.specs.Hands.{OnRing, rings_of};
+ghost use Rattle.fabric.specs.Owned.{one_if};
 
 use crate::fabric::Fabric;
 use crate::hand::cache_hand::CacheHand;
@@ -22,6 +23,13 @@ impl<T: Tagged> Hand<T> {
 }
 
 impl<T: Tagged> CacheHand<T> {
+    /// Whether a buffer is the hand's own and not set aside. No step on a word.
+    pub fn has_spare(&self, b: u32) -> bool
+        ensures { spare self.now b ≡ one_if result }
+    {
+        self.owned.has(b as usize)
+    }
+
     /// Sets the buffers of these items aside, if each item carries exactly one, which is the hand's own and not set
     /// aside yet, and none stands twice; otherwise nothing changes. No step on a word.
     #[inline]

@@ -11,7 +11,7 @@ empty-requires g c =
     let tags = g.T.Tagged.numbers in
     let f = c.args.f.now in
     let l = c.args.self.now in
-    let k = c.in-Some.cache_hand in
+    let k = c.take_hand-cache_hand.result in
     let h = c.into_hand-hand.result in
     let was : l.hand ≡ Some k = search rules in (
       search rules,
@@ -32,7 +32,7 @@ invariant_of-self g c =
     let tags = g.T.Tagged.numbers in
     let f = c.args.f.now in
     let l = c.args.self.now in
-    let k = c.in-Some.cache_hand in
+    let k = c.take_hand-cache_hand.result in
     let was : l.hand ≡ Some k = search rules in
     let back = c.keep_back in
     record {
@@ -50,7 +50,7 @@ pub keep_back-requires-in-Err : goal.keep_back-requires-in-Err
 keep_back-requires-in-Err g c =
     let tags = g.T.Tagged.numbers in
     let l = c.args.self.now in
-    let k = c.in-Some.cache_hand in
+    let k = c.take_hand-cache_hand.result in
     let h = c.into_hand-hand.result in
     let was : l.hand ≡ Some k = search rules in (
       search rules,
@@ -63,7 +63,7 @@ invariant_of-self-in-Err g c =
     let tags = g.T.Tagged.numbers in
     let f = c.args.f.now in
     let l = c.args.self.now in
-    let k = c.in-Some.cache_hand in
+    let k = c.take_hand-cache_hand.result in
     let was : l.hand ≡ Some k = search rules in
     let back = c.keep_back-in-Err in
     record {
@@ -81,7 +81,7 @@ pub returns-in-Ok-clause-exact : goal.returns-in-Ok-clause-exact
 returns-in-Ok-clause-exact g c plan there =
     let tags = g.T.Tagged.numbers in
     let l = c.args.self.now in
-    let k = c.in-Some.cache_hand in
+    let k = c.take_hand-cache_hand.result in
     let was : l.hand ≡ Some k = search rules in (
       c.in-Ok.hand,
       subst (λ v. Flushes tags g.row.N l.ring plan v l.cache (Ok c.in-Ok.hand) c.empty.new.cache)
@@ -94,7 +94,7 @@ pub returns-in-Err-clause-exact : goal.returns-in-Err-clause-exact
 returns-in-Err-clause-exact g c plan there =
     let tags = g.T.Tagged.numbers in
     let l = c.args.self.now in
-    let k = c.in-Some.cache_hand in
+    let k = c.take_hand-cache_hand.result in
     let was : l.hand ≡ Some k = search rules in (
       refl,
       c.in-Err.hand,

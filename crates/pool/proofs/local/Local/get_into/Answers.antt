@@ -10,7 +10,7 @@ pub fetch-requires : goal.fetch-requires
 fetch-requires g c =
     let f = c.args.f.now in
     let l = c.args.self.now in
-    let k = c.in-Some.cache_hand in
+    let k = c.take_hand-cache_hand.result in
     let h = c.into_hand-hand.result in
     let was : l.hand ≡ Some k = search rules in (
       search rules,
@@ -27,7 +27,7 @@ pub keep_back-requires : goal.keep_back-requires
 keep_back-requires g c =
     let tags = g.T.Tagged.numbers in
     let l = c.args.self.now in
-    let k = c.in-Some.cache_hand in
+    let k = c.take_hand-cache_hand.result in
     let h = c.into_hand-hand.result in
     let was : l.hand ≡ Some k = search rules in (
       search rules,
@@ -39,7 +39,7 @@ pub keep_back-requires-in-Err : goal.keep_back-requires-in-Err
 keep_back-requires-in-Err g c =
     let tags = g.T.Tagged.numbers in
     let l = c.args.self.now in
-    let k = c.in-Some.cache_hand in
+    let k = c.take_hand-cache_hand.result in
     let h = c.into_hand-hand.result in
     let was : l.hand ≡ Some k = search rules in (
       search rules,
@@ -52,7 +52,7 @@ invariant_of-self g c =
     let tags = g.T.Tagged.numbers in
     let f = c.args.f.now in
     let l = c.args.self.now in
-    let k = c.in-Some.cache_hand in
+    let k = c.take_hand-cache_hand.result in
     let was : l.hand ≡ Some k = search rules in
     let back = c.keep_back in
     record {
@@ -72,7 +72,7 @@ invariant_of-self-in-Err g c =
     let tags = g.T.Tagged.numbers in
     let f = c.args.f.now in
     let l = c.args.self.now in
-    let k = c.in-Some.cache_hand in
+    let k = c.take_hand-cache_hand.result in
     let was : l.hand ≡ Some k = search rules in
     let back = c.keep_back-in-Err in
     record {
@@ -90,7 +90,7 @@ pub returns-in-Ok-clause-exact : goal.returns-in-Ok-clause-exact
 returns-in-Ok-clause-exact g c plan there =
     let tags = g.T.Tagged.numbers in
     let l = c.args.self.now in
-    let k = c.in-Some.cache_hand in
+    let k = c.take_hand-cache_hand.result in
     let was : l.hand ≡ Some k = search rules in
     let short : length l.cache < c.args.n = search rules in
     inr (
@@ -105,7 +105,7 @@ pub returns-in-Ok-clause-own : goal.returns-in-Ok-clause-own
 returns-in-Ok-clause-own g c =
     let tags = g.T.Tagged.numbers in
     let l = c.args.self.now in
-    let k = c.in-Some.cache_hand in
+    let k = c.take_hand-cache_hand.result in
     let was : l.hand ≡ Some k = search rules in
     same_own tags (view c.in-Ok.hand) c.keep_back.result.seat.me.0 _ _ (ap (λ s. s.me.0.party) c.keep_back.ensures.seat) refl
     (c.in-Ok.ensures.own (hand_own tags l.hand k c.into_hand-hand.result l.cache was c.into_hand-hand.ensures l.kept l.single))
@@ -114,7 +114,7 @@ pub returns-in-Err-clause-exact : goal.returns-in-Err-clause-exact
 returns-in-Err-clause-exact g c plan there =
     let tags = g.T.Tagged.numbers in
     let l = c.args.self.now in
-    let k = c.in-Some.cache_hand in
+    let k = c.take_hand-cache_hand.result in
     let was : l.hand ≡ Some k = search rules in
     let short : length l.cache < c.args.n = search rules in
     inr (

@@ -46,18 +46,18 @@ shed-requires g c =
     let l = c.args.self.now in
     let may : c.admit-may.result ≡ true = search rules in
     let moved = c.admit-may.ensures.moved may in
-    let taken : Some c.admit-may.new.cache_hand ≡ Some c.in-Some-take.cache_hand = search rules in
+    let taken : Some c.admit-may.new.cache_hand ≡ Some c.take_hand-cache_hand.result = search rules in
     let mine = same_mine f c.in-Some.cache_hand c.admit-may.new.cache_hand c.admit-may.ensures.same (mine_of f l.hand c.in-Some.cache_hand c.in-Some.is c.requires.local) in
     let long = length-append l.cache c.args.list.now in (
       search rules,
       (
         search rules,
         (
-          mine_of f (Some c.admit-may.new.cache_hand) c.in-Some-take.cache_hand taken mine,
+          mine_of f (Some c.admit-may.new.cache_hand) c.take_hand-cache_hand.result taken mine,
           (
             free_of f l.hand c.in-Some.cache_hand l.ring c.in-Some.is c.requires.local l.free,
             (
-              keeps_of tags (Some c.admit-may.new.cache_hand) c.in-Some-take.cache_hand c.admit-may.new.cache taken c.admit-may.ensures.kept,
+              keeps_of tags (Some c.admit-may.new.cache_hand) c.take_hand-cache_hand.result c.admit-may.new.cache taken c.admit-may.ensures.kept,
               (
                 c.admit-may.ensures.single,
                 (
@@ -116,7 +116,7 @@ returns-in-Ok-clause-exact g c plan there =
     let l = c.args.self.now in
     let may : c.admit-may.result ≡ true = search rules in
     let moved = c.admit-may.ensures.moved may in
-    let taken : Some c.admit-may.new.cache_hand ≡ Some c.in-Some-take.cache_hand = search rules in
+    let taken : Some c.admit-may.new.cache_hand ≡ Some c.take_hand-cache_hand.result = search rules in
     let all = l.cache ++ c.args.list.now in
     let told = c.in-Ok.ensures.exact plan there in
     let many : 3 * l.size / 2 < length all = omega (arith, c.if-len-self.false, c.len.ensures.value, ap length moved.0) in
@@ -130,7 +130,7 @@ returns-in-Ok-clause-exact g c plan there =
         told.2,
         subst (λ (z : View g.row.T.Denot × List g.row.T.Denot). Spills tags g.row.N l.ring plan z.0 z.1 (Ok told.2))
             (λ i. (
-              view_later tags l.hand c.in-Some.cache_hand c.admit-may.new.cache_hand c.in-Some-take.cache_hand c.in-Some.is c.admit-may.ensures.same taken i,
+              view_later tags l.hand c.in-Some.cache_hand c.admit-may.new.cache_hand c.take_hand-cache_hand.result c.in-Some.is c.admit-may.ensures.same taken i,
               take (spare i) (moved.0 i),
             ))
             told.3,
@@ -144,7 +144,7 @@ returns-in-Err-clause-exact g c plan there =
     let l = c.args.self.now in
     let may : c.admit-may.result ≡ true = search rules in
     let moved = c.admit-may.ensures.moved may in
-    let taken : Some c.admit-may.new.cache_hand ≡ Some c.in-Some-take.cache_hand = search rules in
+    let taken : Some c.admit-may.new.cache_hand ≡ Some c.take_hand-cache_hand.result = search rules in
     let all = l.cache ++ c.args.list.now in
     let told = c.in-Err.ensures.exact plan there in
     let many : 3 * l.size / 2 < length all = omega (arith, c.if-len-self.false, c.len.ensures.value, ap length moved.0) in
@@ -157,7 +157,7 @@ returns-in-Err-clause-exact g c plan there =
       told.2,
       subst (λ (z : View g.row.T.Denot × List g.row.T.Denot). Spills tags g.row.N l.ring plan z.0 z.1 (Err told.2))
           (λ i. (
-            view_later tags l.hand c.in-Some.cache_hand c.admit-may.new.cache_hand c.in-Some-take.cache_hand c.in-Some.is c.admit-may.ensures.same taken i,
+            view_later tags l.hand c.in-Some.cache_hand c.admit-may.new.cache_hand c.take_hand-cache_hand.result c.in-Some.is c.admit-may.ensures.same taken i,
             take (spare i) (moved.0 i),
           ))
           told.3,

@@ -6,7 +6,7 @@ use Rattle.pool.proofs.local.Local.receive_into.Goals as goal
 pub receive-cache_hand-requires : goal.receive-cache_hand-requires
 receive-cache_hand-requires g c =
     let l = c.args.self.now in
-    let k = c.in-Some.cache_hand in
+    let k = c.take_hand-cache_hand.result in
     let was : l.hand ≡ Some k = search rules in (
       search rules,
       (
@@ -22,7 +22,7 @@ pub invariant_of-self : goal.invariant_of-self
 invariant_of-self g c =
     let f = c.args.f.now in
     let l = c.args.self.now in
-    let k = c.in-Some.cache_hand in
+    let k = c.take_hand-cache_hand.result in
     let was : l.hand ≡ Some k = search rules in
     record {
       here = refl;
@@ -37,7 +37,7 @@ invariant_of-self g c =
 pub returns-clause-exact : goal.returns-clause-exact
 returns-clause-exact g c plan there =
     let l = c.args.self.now in
-    let k = c.in-Some.cache_hand in
+    let k = c.take_hand-cache_hand.result in
     let was : l.hand ≡ Some k = search rules in
     subst (λ o. Receives g.T.Tagged.numbers g.row.N c.args.ring plan o (Some c.receive-cache_hand.result.0) c.args.n c.receive-cache_hand.result.1
     c.receive-cache_hand.new.into) (sym was)

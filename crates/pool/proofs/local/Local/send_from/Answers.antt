@@ -6,7 +6,7 @@ use Rattle.pool.proofs.local.Local.send_from.Goals as goal
 pub send-cache_hand-requires : goal.send-cache_hand-requires
 send-cache_hand-requires g c =
     let l = c.args.self.now in
-    let k = c.in-Some.cache_hand in
+    let k = c.take_hand-cache_hand.result in
     let was : l.hand ≡ Some k = search rules in (
       search rules,
       (
@@ -22,7 +22,7 @@ pub invariant_of-self : goal.invariant_of-self
 invariant_of-self g c =
     let f = c.args.f.now in
     let l = c.args.self.now in
-    let k = c.in-Some.cache_hand in
+    let k = c.take_hand-cache_hand.result in
     let was : l.hand ≡ Some k = search rules in
     record {
       here = refl;
@@ -37,7 +37,7 @@ invariant_of-self g c =
 pub returns-clause-exact : goal.returns-clause-exact
 returns-clause-exact g c plan there =
     let l = c.args.self.now in
-    let k = c.in-Some.cache_hand in
+    let k = c.take_hand-cache_hand.result in
     let was : l.hand ≡ Some k = search rules in
     subst (λ o. Sends g.T.Tagged.numbers g.row.N c.args.ring plan o (Some c.send-cache_hand.result.0) l.cache c.args.list.now c.send-cache_hand.result.1
     c.send-cache_hand.new.list) (sym was)
