@@ -50,12 +50,12 @@ module _ {R : Type 0} where
   abbrev pub resolution_of : Reader R → Resolution
   resolution_of r = r.resolution
 
-  abbrev pub stage_of : Reader R → ReaderState
-  stage_of r = r.stage
+  abbrev pub state_of : Reader R → ReaderState
+  state_of r = r.state
 
   -- the head that was told and whose bytes are still to come
   abbrev pub pending_of : Reader R → Option Head
-  pending_of r = head_of r.stage
+  pending_of r = head_of r.state
 
   -- the device that it reads
   abbrev pub source_of : Reader R → Counted R
@@ -63,7 +63,7 @@ module _ {R : Type 0} where
 
   -- neither at the end nor at a fault
   abbrev pub IsReading : Reader R → Type 0
-  IsReading r = GoesOn r.stage
+  IsReading r = GoesOn r.state
 
   -- the file is still the same one
   abbrev pub IsSameFile : Reader R → Reader R → Type 0
@@ -119,7 +119,7 @@ module _ {R : Type 0} (remaining : R → Option (List ℕ)) where
 
   -- there was no further record: the reader is at the end, and knows how the file ends
   abbrev pub FindsEnd : Reader R → Reader R → Type 0
-  FindsEnd old new = (torn : Bool) × (new.stage ≡ Ended torn) × EndsSo old.order (rest old) torn
+  FindsEnd old new = (torn : Bool) × (new.state ≡ Ended torn) × EndsSo old.order (rest old) torn
 
   -- why `head` answered a fault: 4 BadRecord, 5 Read
   abbrev pub WhyNoHead : Reader R → Reader R → CapFault → Type 0

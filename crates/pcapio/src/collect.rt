@@ -25,6 +25,7 @@ pub fn collect_records<R: Read>(
     ensures no_failure { OnOk result (HasNotFailed (source_of reader.old) (source_of reader.new)) }
     ensures cause { IfErr result (WhyNotAll R.remaining reader.old reader.new) }
 {
+    // a record a turn: no list has room for 2^64 - 1 of them, so the loop never comes to its end
     for _count in 0..u64::MAX {
         let Ok(()) = list.reserve(1) else {
             return Err(CapFault::Memory);

@@ -6,7 +6,7 @@ ghost use Rattle.pcapio.specs.Copy.{IfEnded, IfEndless, CopiesOne, BeginsOne, Co
 ghost use Rattle.pcapio.specs.Copy.{CopiesPart, CopiesOut, CopiesCapture, BeginsCapture, IsEndlessCapture};
 ghost use Rattle.pcapio.specs.Copy.{WhyOneStopped, WhyStopped, WhyNotCopied};
 ghost use Rattle.pcapio.specs.Counted.{HasNotFailed};
-ghost use Rattle.pcapio.specs.Reader.{pending_of, source_of, stage_of, IsReading, IsSameFile, EndsTorn};
+ghost use Rattle.pcapio.specs.Reader.{pending_of, source_of, state_of, IsReading, IsSameFile, EndsTorn};
 ghost use Rattle.pcapio.specs.ReaderState.{after_bytes};
 ghost use Rattle.pcapio.specs.Writer.{sink_of, IsWell};
 
@@ -91,6 +91,7 @@ pub fn copy_records<R: Read, W: Write>(
     ensures written { OnOk result (HasNotFailed (sink_of writer.old) (sink_of writer.new)) }
     ensures goes_on { OnOk result (IsWell writer.new) }
 {
+    // a record a turn: if there are 2^64 - 1 or more, the answer is `None`
     for _count in 0..u64::MAX {
         let Some(head) = reader.head()? else {
             return Ok(Some(reader.torn()));
@@ -117,7 +118,7 @@ fn copy_record<R: Read, W: Write>(
     ensures kept { OnCut result (writer.new ≡ writer.old) }
     ensures begins { OnErr result (BeginsOne R.remaining W.contents chain.old reader.old writer.old writer.new) }
     ensures file { IsSameFile reader.old reader.new }
-    ensures stage { IfOk result (λ all. stage_of reader.new ≡ after_bytes all) }
+    ensures state { IfOk result (λ all. state_of reader.new ≡ after_bytes all) }
     ensures goes_on { OnOk result (IsWell writer.new) }
     ensures space { HasSameSegments chain.new chain.old }
     ensures read { OnOk result (HasNotFailed (source_of reader.old) (source_of reader.new)) }

@@ -26,12 +26,12 @@ pub struct Reader<R> {
     ahead: ReadBuffer,
     order: ByteOrder,
     resolution: Resolution,
-    stage: ReaderState,
-    ghost pending: { ForSome (head_of stage) (λ head. IsHead order (items ahead) head) },
+    state: ReaderState,
+    ghost pending: { ForSome (head_of state) (λ head. IsHead order (items ahead) head) },
 }
 
 impl<R: Read> Reader<R> {
-    ghost use Rattle.pcapio.specs.Reader.{rest, stage_of, order_of, resolution_of, source_of, pending_of, IsReading};
+    ghost use Rattle.pcapio.specs.Reader.{rest, state_of, order_of, resolution_of, source_of, pending_of, IsReading};
     ghost use Rattle.pcapio.specs.Reader.{IsSameFile, Refuses, HasHeaderOf, IsBehindHeader, BeginsWithHead};
     ghost use Rattle.pcapio.specs.Reader.{FindsEnd};
     ghost use Rattle.pcapio.specs.Reader.{WhyNoHead};
@@ -46,7 +46,7 @@ impl<R: Read> Reader<R> {
     pub fn open(alloc: Global, mut device: Counted<R>) -> Result<Reader<R>, (Counted<R>, CapFault)>
         ensures header { IfOk result (HasHeaderOf R.remaining device) }
         ensures rest { IfOk result (IsBehindHeader R.remaining device) }
-        ensures begins { IfOk result (λ opened. stage_of opened ≡ Between) }
+        ensures begins { IfOk result (λ opened. state_of opened ≡ Between) }
         ensures no_failure { IfOk result (λ opened. HasNotFailed device (source_of opened)) }
         ensures cause { IfErr result (λ back. Refuses (to_come R.remaining device) back.1 (HasFailed device back.0)) }
         ensures untouched { IfErr result (λ back. back.1 ≡ CapFault.Memory → back.0 ≡ device) }
@@ -66,7 +66,7 @@ impl<R: Read> Reader<R> {
                         ahead,
                         order,
                         resolution,
-                        stage: ReaderState::Between,
+                        state: ReaderState::Between,
                     })
                 }
             },
@@ -89,9 +89,9 @@ impl<R: Read> Reader<R> {
 
     /// Whether the file was found to end inside a record.
     pub fn torn(&self) -> bool
-        ensures { result ≡ torn_of (stage_of self.now) }
+        ensures { result ≡ torn_of (state_of self.now) }
     {
-        match self.stage {
+        match self.state {
             ReaderState::Ended(torn) => torn,
             _ => false,
         }
@@ -101,7 +101,7 @@ impl<R: Read> Reader<R> {
     pub fn pending(&self) -> Option<Head>
         ensures { result ≡ pending_of self.now }
     {
-        match self.stage {
+        match self.state {
             ReaderState::Pending(head) => Some(head),
             _ => None,
         }
@@ -123,21 +123,21 @@ impl<R: Read> Reader<R> {
         ensures rest { Keeps (rest R.remaining self.old) (rest R.remaining self.new) }
 
         // Where there is a record.
-        ensures pending { IfOk result (λ found. IfSome found (λ head. stage_of self.new ≡ Pending head)) }
+        ensures pending { IfOk result (λ found. IfSome found (λ head. state_of self.new ≡ Pending head)) }
         ensures head { IfOk result (λ found. IfSome found (BeginsWithHead R.remaining self.old)) }
         ensures small { IfOk result (λ found. IfSome found (λ head. head.captured ≤ 262144)) }
 
         // Where there is none.
         ensures end { IsReading self.old → IfOk result (λ it. IfNone it (FindsEnd R.remaining self.old self.new)) }
-        ensures ended { (torn : Bool) → stage_of self.old ≡ Ended torn → (result ≡ Ok None) × (self.new ≡ self.old) }
+        ensures ended { (torn : Bool) → state_of self.old ≡ Ended torn → (result ≡ Ok None) × (self.new ≡ self.old) }
 
         // Faults.
         ensures no_failure { OnOk result (HasNotFailed (source_of self.old) (source_of self.new)) }
-        ensures fault { IfErr result (λ fault. stage_of self.new ≡ Faulted fault) }
+        ensures fault { IfErr result (λ fault. state_of self.new ≡ Faulted fault) }
         ensures cause { IsReading self.old → IfErr result (WhyNoHead R.remaining self.old self.new) }
-        ensures stays { (f : CapFault) → stage_of self.old ≡ Faulted f → (result ≡ Err f) × (self.new ≡ self.old) }
+        ensures stays { (f : CapFault) → state_of self.old ≡ Faulted f → (result ≡ Err f) × (self.new ≡ self.old) }
     {
-        match self.stage {
+        match self.state {
             ReaderState::Pending(head) => Ok(Some(head)),
             ReaderState::Ended(_) => Ok(None),
             ReaderState::Faulted(fault) => Err(fault),
@@ -147,27 +147,27 @@ impl<R: Read> Reader<R> {
 
     /// The same, before a record.
     fn read_head(&mut self) -> Result<Option<Head>, CapFault>
-        requires between { stage_of self.old ≡ Between }
+        requires between { state_of self.old ≡ Between }
         ensures file { IsSameFile self.old self.new }
         ensures rest { Keeps (rest R.remaining self.old) (rest R.remaining self.new) }
-        ensures pending { IfOk result (λ found. IfSome found (λ head. stage_of self.new ≡ Pending head)) }
+        ensures pending { IfOk result (λ found. IfSome found (λ head. state_of self.new ≡ Pending head)) }
         ensures head { IfOk result (λ found. IfSome found (BeginsWithHead R.remaining self.old)) }
         ensures small { IfOk result (λ found. IfSome found (λ head. head.captured ≤ 262144)) }
         ensures end { IfOk result (λ it. IfNone it (FindsEnd R.remaining self.old self.new)) }
         ensures no_failure { OnOk result (HasNotFailed (source_of self.old) (source_of self.new)) }
-        ensures fault { IfErr result (λ fault. stage_of self.new ≡ Faulted fault) }
+        ensures fault { IfErr result (λ fault. state_of self.new ≡ Faulted fault) }
         ensures cause { IfErr result (WhyNoHead R.remaining self.old self.new) }
     {
         match self.ahead.gather(&mut self.device, HEAD) {
             Err(Failed) => Err(self.give_up(CapFault::Read)),
             Ok(false) => {
-                self.stage = ReaderState::Ended(self.ahead.len() > 0);
+                self.state = ReaderState::Ended(self.ahead.len() > 0);
                 Ok(None)
             }
             Ok(true) => match head_in(self.order, self.ahead.as_slice()) {
                 None => Err(self.give_up(CapFault::BadRecord)),
                 Some(head) => {
-                    self.stage = ReaderState::Pending(head);
+                    self.state = ReaderState::Pending(head);
                     Ok(Some(head))
                 }
             },
@@ -176,12 +176,12 @@ impl<R: Read> Reader<R> {
 
     fn give_up(&mut self, fault: CapFault) -> CapFault
         ensures fault { result ≡ fault }
-        ensures stage { stage_of self.new ≡ Faulted fault }
+        ensures state { state_of self.new ≡ Faulted fault }
         ensures file { IsSameFile self.old self.new }
         ensures device { source_of self.new ≡ source_of self.old }
         ensures rest { rest R.remaining self.new ≡ rest R.remaining self.old }
     {
-        self.stage = ReaderState::Faulted(fault);
+        self.state = ReaderState::Faulted(fault);
         fault
     }
 }

@@ -1,7 +1,7 @@
 -- What the parts of a run ask at its beginning: of the reader, of the settings, and of the writers
 use Rattle.std.specs.Prelude.{◌≡◌, ◌≤◌, ℕ, List, [], length, map, vec_len, Option, None}
 use Rattle.pcapio.specs.Counted.{told, failures_of}
-use Rattle.pcapio.specs.Reader.{order_of, rest, source_of, stage_of}
+use Rattle.pcapio.specs.Reader.{order_of, rest, source_of, state_of}
 use Rattle.pcapio.specs.declared.counted.Counted.{Counted}
 use Rattle.pcapio.specs.declared.reader.Reader.{Reader}
 use Rattle.pcapio.specs.declared.reader_state.ReaderState.TheVariants.{Between}
@@ -17,7 +17,7 @@ use Rattle.stages.specs.declared.ports.Outputs.{Outputs}
 pub record HasInput {R : Type 0} (remaining : R → Option (List ℕ)) (reader : Reader R) (records : Option Input)
     (count : ℕ) : Type 0 where
   pub input : IsInput (order_of reader) (rest remaining reader) records
-  pub between : stage_of reader ≡ Between
+  pub between : state_of reader ≡ Between
   pub failures : failures_of (source_of reader) ≡ count
 
 -- these are the bytes of a segment, what becomes of a frame, and how many ports there are

@@ -4,7 +4,7 @@ use Rattle.std.specs.Io.KnownBytes.{Keeps}
 use Rattle.counters.specs.Counted.{counts_of}
 use Rattle.counters.specs.Tally.{records_of}
 use Rattle.pcapio.specs.Copy.{Stand}
-use Rattle.pcapio.specs.Reader.{EndsSo, Takes, order_of, rest, stage_of}
+use Rattle.pcapio.specs.Reader.{EndsSo, Takes, order_of, rest, state_of}
 use Rattle.pcapio.specs.declared.reader.Reader.{Reader}
 use Rattle.pcapio.specs.declared.reader_state.ReaderState.TheVariants.{Between, Pending}
 use Rattle.pcapio_laws.specs.Capture.{Packet}
@@ -28,10 +28,10 @@ module _ {R : Type 0} (remaining : R → Option (List ℕ)) where
   -- was passed over, or the end
   abbrev pub IsAhead : ℕ → Reader R → Reader R → NextRecord → Type 0
   IsAhead room old new (Record head) =
-      (stage_of new ≡ Pending head) × Keeps (rest remaining old) (rest remaining new) × (head.captured ≤ 64 * room)
+      (state_of new ≡ Pending head) × Keeps (rest remaining old) (rest remaining new) × (head.captured ≤ 64 * room)
       × (head.captured ≤ 262144)
   IsAhead room old new Oversize = (packet : Packet) × Takes remaining old new packet
-      × (64 * room < length packet.bytes) × (stage_of new ≡ Between)
+      × (64 * room < length packet.bytes) × (state_of new ≡ Between)
   IsAhead room old new (Ended torn) = EndsSo old.order (rest remaining old) torn
 
   module _ (input : Option Input) (room ports : ℕ) where
@@ -52,8 +52,8 @@ module _ {R : Type 0} (remaining : R → Option (List ℕ)) where
 
     -- what a look ahead tells
     abbrev pub Looks : Reader R → ReadState → ReadState → NextRecord → Type 0
-    Looks new before after (Record head) = HasRead new after × (after ≡ before) × (stage_of new ≡ Pending head)
+    Looks new before after (Record head) = HasRead new after × (after ≡ before) × (state_of new ≡ Pending head)
         × (head.captured ≤ 64 * room) × (head.captured ≤ 262144)
-    Looks new before after Oversize = HasRead new after × (stage_of new ≡ Between) × (after.count ≡ before.count)
+    Looks new before after Oversize = HasRead new after × (state_of new ≡ Between) × (after.count ≡ before.count)
         × (records_of after.share ≡ records_of before.share + 1)
     Looks new before after (Ended torn) = IsAll input room ports after torn × (after ≡ before)

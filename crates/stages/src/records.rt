@@ -3,7 +3,7 @@ ghost use Rattle.std.specs.Prelude.{◌≡◌, ◌≤◌, ◌<◌, ◌*◌, ◌+
 ghost use Rattle.counters.specs.Tally.{records_of};
 ghost use Rattle.mbuf.specs.Chain.{space_of, HasSameSegments};
 ghost use Rattle.pcapio.specs.Counted.{HasNotFailed};
-ghost use Rattle.pcapio.specs.Reader.{stage_of, source_of, Fails, IsSameFile};
+ghost use Rattle.pcapio.specs.Reader.{state_of, source_of, Fails, IsSameFile};
 ghost use Rattle.pcapio.specs.declared.reader_state.ReaderState.TheVariants.{Between, Pending};
 ghost use Rattle.stages.specs.Faults.{fault_of_input};
 ghost use Rattle.stages.specs.Reading.{WhyNone};
@@ -40,7 +40,7 @@ pub(crate) fn input_fault(fault: CapFault) -> RunFault
 
 /// What comes next: a record that has too many bytes is passed over. Asked: the reader is before a record.
 fn ahead<R: Read>(reader: &mut Reader<R>, room: usize) -> Result<NextRecord, RunFault>
-    requires between { stage_of reader.old ≡ Between }
+    requires between { state_of reader.old ≡ Between }
     requires at_most { room ≤ 65536 }
     ensures file { IsSameFile reader.old reader.new }
     ensures found { IfOk result (IsAhead R.remaining room reader.old reader.new) }
@@ -69,7 +69,7 @@ pub(crate) fn look<J: Run, R: Read>(
     progress: &mut ReadState,
     room: usize,
 ) -> Result<NextRecord, RunFault>
-    requires between { stage_of reader.old ≡ Between }
+    requires between { state_of reader.old ≡ Between }
     requires room { room ≡ J.room }
     requires at_most { room ≤ 65536 }
     requires read { HasRead R.remaining J.input J.room (length J.before) reader.old progress.old }
@@ -83,6 +83,7 @@ pub(crate) fn look<J: Run, R: Read>(
         Ok(found) => found,
         Err(fault) => return Err(fault),
     };
+    // an arm for each, so that the proof has each case by itself
     match found {
         NextRecord::Oversize => progress.share.add_oversize(),
         NextRecord::Record(_) => (),
@@ -99,7 +100,7 @@ pub(crate) fn read_record<J: Run, R: Read>(
     head: Head,
     mut chain: Chain,
 ) -> Result<Option<Unjudged<J>>, RunFault>
-    requires pending { stage_of reader.old ≡ Pending head }
+    requires pending { state_of reader.old ≡ Pending head }
     requires fits { head.captured ≤ 64 * J.room }
     requires space { head.captured ≤ space_of chain }
     requires read { HasRead R.remaining J.input J.room (length J.before) reader.old progress.old }
@@ -110,7 +111,7 @@ pub(crate) fn read_record<J: Run, R: Read>(
         × HasSameSegments packet.chain chain)) }
     ensures read { IfOk result (λ found. OnSome found
         (HasRead R.remaining J.input J.room (length J.before) reader.new progress.new)) }
-    ensures between { IfOk result (λ found. OnSome found (stage_of reader.new ≡ Between)) }
+    ensures between { IfOk result (λ found. OnSome found (state_of reader.new ≡ Between)) }
     ensures count { IfOk result (λ found. OnSome found ((progress.new.count ≡ progress.old.count + 1)
         × (progress.new.share ≡ progress.old.share))) }
     ensures no_failure { OnOk result (HasNotFailed (source_of reader.old) (source_of reader.new)) }

@@ -5,7 +5,7 @@ ghost use Rattle.std.specs.Option.{ForSome};
 ghost use Rattle.mbuf.specs.Chain.{bytes_of, fresh_of, HasSameSegments, space_of};
 ghost use Rattle.pcapio.specs.Answer.{OnAll, OnCut};
 ghost use Rattle.pcapio.specs.Counted.{HasNotFailed};
-ghost use Rattle.pcapio.specs.Reader.{rest, stage_of, source_of, pending_of, IsReading, IsSameFile, Fails};
+ghost use Rattle.pcapio.specs.Reader.{rest, state_of, source_of, pending_of, IsReading, IsSameFile, Fails};
 ghost use Rattle.pcapio.specs.Reader.{Takes, TakesBody, TakesPending, LeavesTorn, EndsTorn, FindsEnd};
 ghost use Rattle.pcapio.specs.Reader.{WhyNoRecord, WhyNoBytes};
 ghost use Rattle.pcapio.specs.Record.{view};
@@ -32,10 +32,10 @@ impl<R: Read> Reader<R> {
         ensures file { IsSameFile self.old self.new }
         ensures record { OnAll result ((bytes : List ℕ) × TakesBody R.remaining self.old self.new bytes) }
         ensures torn { OnCut result (EndsTorn R.remaining self.old) }
-        ensures stage { IfOk result (λ all. stage_of self.new ≡ after_bytes all) }
+        ensures state { IfOk result (λ all. state_of self.new ≡ after_bytes all) }
         ensures no_failure { OnOk result (HasNotFailed (source_of self.old) (source_of self.new)) }
         ensures fault { IfErr result (λ fault. fault ≡ CapFault.Read) }
-        ensures given_up { OnErr result (stage_of self.new ≡ Faulted CapFault.Read) }
+        ensures given_up { OnErr result (state_of self.new ≡ Faulted CapFault.Read) }
         ensures failed { OnErr result (Fails self.old self.new) }
     {
         let head = self.take_head();
@@ -56,10 +56,10 @@ impl<R: Read> Reader<R> {
         ensures file { IsSameFile self.old self.new }
         ensures record { OnAll result (TakesBody R.remaining self.old self.new (bytes_of chain.new)) }
         ensures torn { OnCut result (EndsTorn R.remaining self.old) }
-        ensures stage { IfOk result (λ all. stage_of self.new ≡ after_bytes all) }
+        ensures state { IfOk result (λ all. state_of self.new ≡ after_bytes all) }
         ensures no_failure { OnOk result (HasNotFailed (source_of self.old) (source_of self.new)) }
         ensures fault { IfErr result (λ fault. fault ≡ CapFault.Read) }
-        ensures given_up { OnErr result (stage_of self.new ≡ Faulted CapFault.Read) }
+        ensures given_up { OnErr result (state_of self.new ≡ Faulted CapFault.Read) }
         ensures failed { OnErr result (Fails self.old self.new) }
 
         // The chain.
@@ -82,13 +82,13 @@ impl<R: Read> Reader<R> {
     pub fn next(&mut self, alloc: Global) -> Result<Option<Record>, CapFault>
         ensures file { IsSameFile self.old self.new }
         ensures record { IfOk result (λ found. IfSome found (λ it. Takes R.remaining self.old self.new (view it))) }
-        ensures between { IfOk result (λ found. OnSome found (stage_of self.new ≡ Between)) }
+        ensures between { IfOk result (λ found. OnSome found (state_of self.new ≡ Between)) }
         ensures end { IsReading self.old → IfOk result (λ it. IfNone it (FindsEnd R.remaining self.old self.new)) }
-        ensures ended { (torn : Bool) → stage_of self.old ≡ Ended torn → (result ≡ Ok None) × (self.new ≡ self.old) }
+        ensures ended { (torn : Bool) → state_of self.old ≡ Ended torn → (result ≡ Ok None) × (self.new ≡ self.old) }
         ensures no_failure { OnOk result (HasNotFailed (source_of self.old) (source_of self.new)) }
-        ensures fault { IfErr result (λ fault. stage_of self.new ≡ Faulted fault) }
+        ensures fault { IfErr result (λ fault. state_of self.new ≡ Faulted fault) }
         ensures cause { IsReading self.old → IfErr result (WhyNoRecord R.remaining self.old self.new) }
-        ensures stays { (f : CapFault) → stage_of self.old ≡ Faulted f → (result ≡ Err f) × (self.new ≡ self.old) }
+        ensures stays { (f : CapFault) → state_of self.old ≡ Faulted f → (result ≡ Err f) × (self.new ≡ self.old) }
     {
         let Some(_) = self.head()? else {
             return Ok(None);
@@ -102,11 +102,11 @@ impl<R: Read> Reader<R> {
         requires pending { IsSome (pending_of self.old) }
         ensures file { IsSameFile self.old self.new }
         ensures record { IfOk result (λ found. IfSome found (λ it. Takes R.remaining self.old self.new (view it))) }
-        ensures between { IfOk result (λ found. OnSome found (stage_of self.new ≡ Between)) }
+        ensures between { IfOk result (λ found. OnSome found (state_of self.new ≡ Between)) }
         ensures torn { IfOk result (λ it. IfNone it (EndsTorn R.remaining self.old)) }
-        ensures ended { IfOk result (λ found. IfNone found (stage_of self.new ≡ Ended true)) }
+        ensures ended { IfOk result (λ found. IfNone found (state_of self.new ≡ Ended true)) }
         ensures no_failure { OnOk result (HasNotFailed (source_of self.old) (source_of self.new)) }
-        ensures fault { IfErr result (λ fault. stage_of self.new ≡ Faulted fault) }
+        ensures fault { IfErr result (λ fault. state_of self.new ≡ Faulted fault) }
         ensures cause { IfErr result (WhyNoBytes self.old self.new) }
     {
         let head = self.take_head();
@@ -116,7 +116,7 @@ impl<R: Read> Reader<R> {
         match self.ahead.fill(&mut self.device, bytes.as_mut_slice()) {
             Err(Failed) => Err(self.give_up(CapFault::Read)),
             Ok(false) => {
-                self.stage = ReaderState::Ended(true);
+                self.state = ReaderState::Ended(true);
                 Ok(None)
             }
             Ok(true) => Ok(Some(Record {
@@ -135,13 +135,13 @@ impl<R: Read> Reader<R> {
         ensures takes { TakesPending R.remaining self.old self.new result }
         ensures torn { LeavesTorn R.remaining self.old self.new result }
         ensures device { source_of self.new ≡ source_of self.old }
-        ensures stage { stage_of self.new ≡ Between }
+        ensures state { state_of self.new ≡ Between }
         ensures file { IsSameFile self.old self.new }
     {
-        let ReaderState::Pending(head) = self.stage else {
+        let ReaderState::Pending(head) = self.state else {
             unreachable!();
         };
-        self.stage = ReaderState::Between;
+        self.state = ReaderState::Between;
         self.ahead.consume(HEAD);
         head
     }
@@ -149,12 +149,12 @@ impl<R: Read> Reader<R> {
     /// The bytes of a record were read, all of them or those that there are.
     fn pass(&mut self, all: bool) -> bool
         ensures all { result ≡ all }
-        ensures stage { stage_of self.new ≡ after_bytes all }
+        ensures state { state_of self.new ≡ after_bytes all }
         ensures file { IsSameFile self.old self.new }
         ensures device { source_of self.new ≡ source_of self.old }
         ensures rest { rest R.remaining self.new ≡ rest R.remaining self.old }
     {
-        self.stage = if all {
+        self.state = if all {
             ReaderState::Between
         } else {
             ReaderState::Ended(true)

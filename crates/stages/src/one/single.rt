@@ -3,7 +3,7 @@ ghost use Rattle.std.specs.Prelude.{◌≡◌, ◌≤◌, ◌<◌, ◌*◌, min,
 ghost use Rattle.ipv4.specs.Forwarding.{forwarded};
 ghost use Rattle.mbuf.specs.Chain.{space_of};
 ghost use Rattle.pcapio.specs.Counted.{HasNotFailed};
-ghost use Rattle.pcapio.specs.Reader.{order_of, rest, stage_of, source_of};
+ghost use Rattle.pcapio.specs.Reader.{order_of, rest, state_of, source_of};
 ghost use Rattle.pcapio.specs.declared.reader_state.ReaderState.TheVariants.{Between};
 ghost use Rattle.stages_laws.specs.Input.{IsInput};
 ghost use Rattle.stages.specs.Turns.{IsVacant, WhyStopped};
@@ -32,7 +32,7 @@ pub(crate) fn forward_all<J: Run, R: Read, W: Write + Drop>(
     ports: &Ports,
 ) -> Result<InputTotals<J>, RunFault>
     requires input { IsInput (order_of reader.old) (rest R.remaining reader.old) J.input }
-    requires between { stage_of reader.old ≡ Between }
+    requires between { state_of reader.old ≡ Between }
     requires room { room ≡ J.room }
     requires at_most { room ≤ 65536 }
     requires space { min (64 * room) 262144 ≤ space_of chain }
@@ -49,6 +49,7 @@ pub(crate) fn forward_all<J: Run, R: Read, W: Write + Drop>(
     ensures cause { IfErr result (WhyStopped J.input reader.old reader.new sink.new.outputs.failed) }
 {
     let mut progress = ReadState::new(ports.sources.len());
+    // a record a turn: an input with 2^64 - 1 records or more is answered with `Window`
     for _turn in 0..u64::MAX {
         let head = match look::<J, R>(reader, &mut progress, room) {
             Ok(NextRecord::Record(head)) => head,

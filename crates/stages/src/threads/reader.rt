@@ -115,6 +115,7 @@ fn read_all<J: Run, R: Read, T: Wait>(
     let burst = settings.burst as usize;
     let mut got = Burst::<Packet<J>, SPAN>::new();
     let mut progress = ReadState::new(settings.ports.sources.len());
+    // a record a turn: an input with 2^64 - 1 records or more is answered with `Window`
     for _turn in 0..u64::MAX {
         let head = match look::<J, R>(reader, &mut progress, room) {
             Ok(NextRecord::Record(head)) => head,

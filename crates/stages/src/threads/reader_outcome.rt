@@ -44,20 +44,20 @@ impl<J: Run, R: Read> ReaderOutcome<J, R> {
 
     /// The same, where the sink couldn't go on.
     pub(crate) fn with(self, drained: Result<(), StageFault>) -> ReaderOutcome<J, R>
-        ensures exact { (stage : StageFault) (fault : RunFault) → drained ≡ Err stage → self.answer ≡ Err fault
-            → result.answer ≡ Err (lower_of fault (fault_of_stage stage)) }
+        ensures exact { (found : StageFault) (fault : RunFault) → drained ≡ Err found → self.answer ≡ Err fault
+            → result.answer ≡ Err (lower_of fault (fault_of_stage found)) }
     {
         let ReaderOutcome { device, answer, .. } = self;
         match drained {
             Ok(()) => ReaderOutcome { device, answer },
-            Err(stage) => match answer {
+            Err(found) => match answer {
                 Ok(_) => ReaderOutcome {
                     device,
-                    answer: Err(stage.to_run_fault()),
+                    answer: Err(found.to_run_fault()),
                 },
                 Err(fault) => ReaderOutcome {
                     device,
-                    answer: Err(lower(fault, stage.to_run_fault())),
+                    answer: Err(lower(fault, found.to_run_fault())),
                 },
             },
         }

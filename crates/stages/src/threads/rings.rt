@@ -120,6 +120,7 @@ pub(crate) fn fill<J: Run, T: Wait>(
         }
         list.push(item);
     }
+    // arm by arm, so that the proof has each answer by itself
     match free_all(rt, f, hand, &mut list) {
         Ok(hand) => Ok(hand),
         Err(fault) => Err(fault),

@@ -1,7 +1,7 @@
 use Rattle.std.proofs.Common.{◌≡◌, ◌+◌, length}
 use Rattle.counters.specs.Tally.{records_of}
 use Rattle.pcapio.specs.Counted.{HasNotFailed}
-use Rattle.pcapio.specs.Reader.{stage_of, source_of}
+use Rattle.pcapio.specs.Reader.{state_of, source_of}
 use Rattle.pcapio.specs.declared.reader_state.ReaderState.TheVariants.{Between}
 use Rattle.stages.specs.SoFar.{HasRead}
 use Rattle.stages.proofs.threads.reader.read_all.Given as goal
@@ -9,7 +9,7 @@ use Rattle.stages.proofs.threads.reader.read_all.Given as goal
 abbrev pub invariant-loop-turn : goal.invariant-loop-turn
 invariant-loop-turn g l = record {
   read : HasRead g.R.Read.remaining g.J.Run.input g.J.Run.room (length g.J.Run.before) l.reader l.progress;
-  between : stage_of l.reader ≡ Between;
+  between : state_of l.reader ≡ Between;
   no_read_failed : HasNotFailed (source_of l.fn.reader) (source_of l.reader);
   turns : l.progress.count + records_of l.progress.share ≡ l._turn;
 }
