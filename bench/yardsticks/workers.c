@@ -27,7 +27,7 @@ static inline uint32_t lookup(const void *table, uint32_t address)
 #define BUFFERS 16383
 #define WINDOW 8192
 /* Fewer than the window has places, and than the pool has buffers less those in caches. */
-#define MOST_UNDER_WAY 4096
+#define MAX_UNDER_WAY 4096
 
 static struct rte_lpm *routes;
 static struct rte_ring *to_judge, *to_send;
@@ -147,7 +147,7 @@ static void by_workers(void)
 		}
 		while (count > first && !rte_ring_enqueue_bulk(to_judge, (void **)(list + first), count - first, NULL)) rte_pause();
 		/* The driver answers an empty list at the end and where no buffer is left, and loses the record then. */
-		while (records - sent_so_far > MOST_UNDER_WAY) rte_pause();
+		while (records - sent_so_far > MAX_UNDER_WAY) rte_pause();
 	}
 	read_in_all = records;
 	rte_smp_wmb();
