@@ -83,3 +83,26 @@ fn bad_sizes(alloc: Global) -> Result<(), Fail> {
 fn a_size_has_to_fit(rt: HostRuntime) -> Result<(), Fail> {
     bad_sizes(rt.alloc())
 }
+
+/// A cache of three items, whose hand has five buffers beside them.
+fn reported(alloc: Global) -> Result<(), Fail> {
+    let Opened { fabric, hand, .. } = opened(alloc, 16, 8)?;
+    let local = begun(&fabric, hand, run_of(2, 3), 4)?;
+    if local.is_empty() || local.len() != 3 {
+        return Err("a cache of three items".into());
+    }
+    if local.size() != 4 || local.ring() != RING {
+        return Err("another cache".into());
+    }
+    for b in 0..9 {
+        if local.owns(b) != (b < 8) {
+            return Err("other buffers".into());
+        }
+    }
+    Ok(())
+}
+
+#[test]
+fn a_cache_reports_what_it_has(rt: HostRuntime) -> Result<(), Fail> {
+    reported(rt.alloc())
+}
