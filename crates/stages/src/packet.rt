@@ -1,6 +1,6 @@
 //! Packets on their way through a run. Each has, in its type, the fact that it belongs to the record of its number.
 ghost use Rattle.std.specs.Prelude.{◌≡◌, ◌≤◌, length};
-ghost use Rattle.mbuf.specs.Chain.{bytes_of, space_of};
+ghost use Rattle.mbuf.specs.Chain.{bytes_of};
 ghost use Rattle.pcapio.specs.Record.{packet_in};
 ghost use Rattle.stages.specs.Packets.{IsRecord, IsFate, HasPort};
 ghost use Rattle.stages.specs.Tallies.{fates_of};
@@ -44,13 +44,12 @@ pub struct Judged<J: Run> {
     pub ghost port: { HasPort (length J.before) verdict },
 }
 
-/// A segment that no packet uses, with the room of the run.
+/// A segment that no packet uses.
 #[derive(Drop)]
 pub struct Segment<J: Run> {
     pub(crate) chain: Chain,
     pub(crate) of: PhantomData<J>,
     pub ghost one: { length chain ≡ 1 },
-    pub ghost room: { J.room ≤ space_of chain },
 }
 
 /// What stands on the rings of a run.

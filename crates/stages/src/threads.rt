@@ -240,8 +240,8 @@ fn run_stages<
                 return (sink, ReaderOutcome::lost());
             };
             let mut ring_port = RingPort::new(f, mine, settings.cache as usize);
-            let (burst, room) = (settings.burst as usize, settings.room as usize);
-            let drained = drain(rt, &mut ring_port, &mut sink, workers, burst, room);
+            let burst = settings.burst as usize;
+            let drained = drain(rt, &mut ring_port, &mut sink, workers, burst);
             (sink, thread.join(rt).with(drained))
         },
     )
@@ -361,15 +361,13 @@ fn call_off<J: Run, W: Write + Drop, T: Wait>(
     requires hand { IsHandOf f.now hand }
     requires rings { AreRings (rings_of f.now) }
     requires at_most { started ≤ 16 }
-    requires room { settings.now.room ≡ J.room }
 {
     let mut ring_port = RingPort::new(f, hand, settings.cache as usize);
     let mut none = Burst::<Packet<J>, SPAN>::new();
     let sent = dismiss(rt, &mut ring_port, &mut none, started);
     if sent.is_ok() {
         let burst = settings.burst as usize;
-        let room = settings.room as usize;
-        let _told = drain(rt, &mut ring_port, &mut sink, started, burst, room);
+        let _told = drain(rt, &mut ring_port, &mut sink, started, burst);
     }
     sink
 }

@@ -1,6 +1,6 @@
 //! How what stands on the rings is made.
 ghost use Rattle.std.specs.Prelude.{◌≡◌, ◌≤◌, length};
-ghost use Rattle.mbuf.specs.Chain.{bytes_of, space_of};
+ghost use Rattle.mbuf.specs.Chain.{bytes_of};
 ghost use Rattle.pcapio.specs.Record.{packet_in};
 ghost use Rattle.stages.specs.Judging.{IsBefore, IsFree};
 ghost use Rattle.stages.specs.Packets.{IsRecord};
@@ -11,10 +11,9 @@ use stages_laws::Run;
 use std::marker::PhantomData;
 
 impl<J: Run> Packet<J> {
-    /// A segment that no packet uses. Asked: it is one, with the room of the run.
+    /// A segment that no packet uses. Asked: it is one.
     pub fn free(chain: Chain) -> Packet<J>
         requires one { length chain ≡ 1 }
-        requires room { J.room ≤ space_of chain }
         ensures { IsFree result chain }
     {
         Packet::Free(Segment {

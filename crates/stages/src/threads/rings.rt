@@ -6,7 +6,6 @@ ghost use Rattle.stages.specs.Passing.{AreRings, AreAsked};
 use crate::fault::StageFault;
 use crate::packet::Packet;
 use crate::threads::put_all::put_all;
-use crate::threads::segments::as_free;
 use burst::Burst;
 use fabric::{Fabric, Hand, Opened};
 use geom::{Geometry, Mode, RingPlan};
@@ -51,14 +50,15 @@ fn plans(alloc: Global, settings: &Settings) -> Option<Vec<RingPlan>>
 }
 
 /// The segments, each as it stands on the ring of free ones. None for want of memory.
-fn segments<J: Run>(alloc: Global, settings: &Settings) -> Option<Vec<Packet<J>>>
-    requires room { settings.now.room ≡ J.room }
-{
+fn segments<J: Run>(alloc: Global, settings: &Settings) -> Option<Vec<Packet<J>>> {
     let room = settings.room as usize;
     let chains = make(alloc, settings.buffers, settings.headroom as usize, room).ok()?;
     let mut list = Vec::with_capacity(alloc, chains.len()).ok()?;
     for chain in chains {
-        list.push(as_free(chain, room)?).ok()?;
+        if chain.segments() != 1 {
+            return None;
+        }
+        list.push(Packet::free(chain)).ok()?;
     }
     Some(list)
 }
@@ -68,7 +68,6 @@ pub(crate) fn open_rings<J: Run>(
     alloc: Global,
     settings: &Settings,
 ) -> Option<Opened<Packet<J>, SPAN>>
-    requires room { settings.now.room ≡ J.room }
     ensures { IfSome result (λ o. IsHandOf o.fabric o.hand × AreRings (rings_of o.fabric)) }
 {
     let plans = plans(alloc, settings)?;

@@ -36,41 +36,25 @@ pub(crate) fn link<J: Run>(got: &mut Burst<Packet<J>, SPAN>) -> Option<Chain>
     Some(whole)
 }
 
-/// A segment as it stands on the ring of free ones, where it has the room of the run.
-pub(crate) fn as_free<J: Run>(chain: Chain, room: usize) -> Option<Packet<J>>
-    requires room { room ≡ J.room }
-{
-    if chain.segments() == 1 && chain.space() >= room {
-        Some(Packet::free(chain))
-    } else {
-        None
-    }
-}
-
 /// Puts the segments of a packet behind those that are to be given back, which are given back where they are many.
 /// After a refusal the others of these are lost.
 pub(crate) fn release<J: Run, R: Wait>(
     rt: &R,
     ring_port: &mut RingPort<'_, Packet<J>>,
     chain: Chain,
-    room: usize,
     free: &mut Burst<Packet<J>, SPAN>,
 ) -> Result<(), StageFault>
-    requires room { room ≡ J.room }
     requires at_most { length free.old ≤ 64 }
     ensures at_most { length free.new ≤ 64 }
 {
     let mut rest = Some(chain);
     while let Some(chain) = rest {
-        let (first, others) = chain.take_first();
+        let (segment, others) = chain.take_first();
         rest = others;
-        let Some(segment) = as_free(first, room) else {
-            return Err(StageFault::Window);
-        };
         if free.len() == MAX_FREE {
             give_back(rt, ring_port, free)?;
         }
-        free.push(segment);
+        free.push(Packet::free(segment));
     }
     Ok(())
 }

@@ -18,10 +18,8 @@ fn let_go<J: Run, W: Write + Drop, T: Wait>(
     rt: &T,
     ring_port: &mut RingPort<'_, Packet<J>>,
     sink: &mut Sink<J, W>,
-    room: usize,
     free: &mut Burst<Packet<J>, SPAN>,
 ) -> Result<(), StageFault>
-    requires room { room ≡ J.room }
     requires at_most { length free.old ≤ 64 }
     ensures at_most { length free.new ≤ 64 }
     ensures length { vec_len sink.new.outputs.writers ≡ vec_len sink.old.outputs.writers }
@@ -30,7 +28,7 @@ fn let_go<J: Run, W: Write + Drop, T: Wait>(
         let Some(chain) = sink.give() else {
             return Ok(());
         };
-        release(rt, ring_port, chain, room, free)?;
+        release(rt, ring_port, chain, free)?;
     }
     unreachable!()
 }
@@ -41,10 +39,8 @@ fn handle<J: Run, W: Write + Drop, T: Wait>(
     ring_port: &mut RingPort<'_, Packet<J>>,
     sink: &mut Sink<J, W>,
     packet: Packet<J>,
-    room: usize,
     free: &mut Burst<Packet<J>, SPAN>,
 ) -> Result<bool, StageFault>
-    requires room { room ≡ J.room }
     requires at_most { length free.old ≤ 64 }
     ensures at_most { length free.new ≤ 64 }
     ensures length { vec_len sink.new.outputs.writers ≡ vec_len sink.old.outputs.writers }
@@ -53,20 +49,20 @@ fn handle<J: Run, W: Write + Drop, T: Wait>(
         Packet::Mark => Ok(true),
         Packet::After(packet) => match sink.accept(packet) {
             Ok(()) => {
-                let_go(rt, ring_port, sink, room, free)?;
+                let_go(rt, ring_port, sink, free)?;
                 Ok(false)
             }
             Err(packet) => {
-                release(rt, ring_port, packet.chain, room, free)?;
+                release(rt, ring_port, packet.chain, free)?;
                 Err(StageFault::Window)
             }
         },
         Packet::Free(segment) => {
-            release(rt, ring_port, segment.chain, room, free)?;
+            release(rt, ring_port, segment.chain, free)?;
             Ok(false)
         }
         Packet::Before(packet) => {
-            release(rt, ring_port, packet.chain, room, free)?;
+            release(rt, ring_port, packet.chain, free)?;
             Err(StageFault::Window)
         }
     }
@@ -78,10 +74,8 @@ fn handle_all<J: Run, W: Write + Drop, T: Wait>(
     ring_port: &mut RingPort<'_, Packet<J>>,
     sink: &mut Sink<J, W>,
     items: &mut Burst<Packet<J>, SPAN>,
-    room: usize,
     free: &mut Burst<Packet<J>, SPAN>,
 ) -> (usize, Result<(), StageFault>)
-    requires room { room ≡ J.room }
     requires at_most { length free.old ≤ 64 }
     ensures at_most { length free.new ≤ 64 }
     ensures marks { result.0 ≤ 256 }
@@ -94,7 +88,7 @@ fn handle_all<J: Run, W: Write + Drop, T: Wait>(
         let Some(packet) = items.pop() else {
             return (marks, told);
         };
-        match handle(rt, ring_port, sink, packet, room, free) {
+        match handle(rt, ring_port, sink, packet, free) {
             Ok(mark) => {
                 if mark {
                     marks += 1;
@@ -118,9 +112,7 @@ pub(crate) fn drain<J: Run, W: Write + Drop, T: Wait>(
     sink: &mut Sink<J, W>,
     workers: usize,
     burst: usize,
-    room: usize,
 ) -> Result<(), StageFault>
-    requires room { room ≡ J.room }
     requires at_most { workers ≤ 16 }
     ensures length { vec_len sink.new.outputs.writers ≡ vec_len sink.old.outputs.writers }
 {
@@ -140,7 +132,7 @@ pub(crate) fn drain<J: Run, W: Write + Drop, T: Wait>(
             continue;
         }
         backoff.reset();
-        let (marks, found) = handle_all(rt, ring_port, sink, &mut items, room, &mut free);
+        let (marks, found) = handle_all(rt, ring_port, sink, &mut items, &mut free);
         // a worker passes one mark on; that no more come than there are workers is said by no clause
         left = left.saturating_sub(marks);
         let given = give_back(rt, ring_port, &mut free);
