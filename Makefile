@@ -41,10 +41,11 @@ compare:
 	@for port in $(OUT).alone.*.pcap; do cmp $$port $(OUT)$${port#$(OUT).alone} || exit 1; done
 	@echo "compare: by one thread the same bytes at each port"
 
-# The merge gate: every proof from nothing, the must-fail edits, the tests and the programs; then that each wrong body of
-# the table has its edit or test; and, with the program that was proved there, runs that are refused memory, and the
-# commands of the documents.
+# The merge gate: the tests, built without proofs; every proof from nothing, the must-fail edits and the programs; then
+# that each wrong body of the table has its edit or test; and, with the program that was proved there, runs that are
+# refused memory, and the commands of the documents.
 test:
+	tools/try-tests
 	rt ci
 	tools/try-bodies
 	PKTKIT=$(CURDIR)/crates/pktkit/out/pktkit tools/try-memory
