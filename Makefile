@@ -42,12 +42,13 @@ compare:
 	@echo "compare: by one thread the same bytes at each port"
 
 # The merge gate: the tests, built without proofs; every proof from nothing, the must-fail edits and the programs; then
-# that each wrong body of the table has its edit or test; and, with the program that was proved there, runs that are
-# refused memory, and the commands of the documents.
+# that each wrong body of the table has its edit or test; and, with the program that was proved there, the cases of
+# tests/transcripts, runs that are refused memory, and the commands of the documents.
 test:
 	tools/try-tests
 	rt ci
 	tools/try-bodies
+	PKTKIT=$(CURDIR)/crates/pktkit/out/pktkit tools/try-transcripts
 	PKTKIT=$(CURDIR)/crates/pktkit/out/pktkit tools/try-memory
 	PKTKIT=$(CURDIR)/crates/pktkit/out/pktkit tools/try-docs
 
