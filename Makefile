@@ -41,12 +41,14 @@ compare:
 	@for port in $(OUT).alone.*.pcap; do cmp $$port $(OUT)$${port#$(OUT).alone} || exit 1; done
 	@echo "compare: by one thread the same bytes at each port"
 
-# The merge gate: every proof from nothing, the must-fail edits, the tests and the programs; then that there is what
-# refuses each wrong body of the table; and, with the program that was proved there, runs that are refused memory, and
-# the commands of the documents.
+# The merge gate: the tests, built without proofs; every proof from nothing, the must-fail edits and the programs; then
+# that there is what refuses each wrong body of the table; and, with the program that was proved there, the cases of
+# tests/transcripts, runs that are refused memory, and the commands of the documents.
 test:
+	tools/try-tests
 	rt ci
 	tools/try-bodies
+	PKTKIT=$(CURDIR)/crates/pktkit/out/pktkit tools/try-transcripts
 	PKTKIT=$(CURDIR)/crates/pktkit/out/pktkit tools/try-memory
 	PKTKIT=$(CURDIR)/crates/pktkit/out/pktkit tools/try-docs
 

@@ -1,6 +1,6 @@
-//! A caller: what a ring of a checked plan grants, concluded from contracts alone.
+//! Callers: what a ring of a checked plan grants, and where a lap ends, concluded from contracts alone.
 
-ghost use Rattle.std.specs.Prelude.{◌≡◌, ◌<◌, ◌≤◌, ◌^◌, min};
+ghost use Rattle.std.specs.Prelude.{◌≡◌, ◌+◌, ◌<◌, ◌≤◌, ◌^◌, IsTrue, min};
 
 use crate::{Geometry, How, Mode, RingPlan};
 
@@ -13,4 +13,12 @@ pub(crate) fn first_burst(capacity: u64, n: u64) -> u64
     let geometry = Geometry::exact(capacity).unwrap();
     let plan = RingPlan::same_mode(geometry, Mode::Multi, false);
     How::Burst.granted(n, plan.geometry.capacity())
+}
+
+/// The slots of a position and of the one after the next lap are the same.
+pub(crate) fn laps(geometry: Geometry, position: u64) -> bool
+    requires { position + geometry.size < 2 ^ 64 }
+    ensures { IsTrue result }
+{
+    geometry.slot(position) == geometry.slot(position + geometry.size())
 }

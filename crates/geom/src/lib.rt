@@ -15,8 +15,6 @@
 mod example;
 mod geometry;
 mod plan;
-#[cfg(test)]
-mod tests;
 mod word;
 
 pub use geometry::{GeomFault, Geometry};

@@ -1,6 +1,6 @@
 use Rattle.std.proofs.Common.{eq-eqb, sym, ◌∙◌, ◌%◌, ◌+◌, ap}
 use Rattle.std.proofs.Math.Nat.{add-mod_right}
-use Rattle.geom.proofs.tests.laps.Goals as goal
+use Rattle.geom.proofs.example.laps.Goals as goal
 
 -- a whole lap changes no rest
 pub returns : goal.returns
