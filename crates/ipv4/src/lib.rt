@@ -5,7 +5,7 @@
 //! `specs/Forwarding.antt`: a table of drops, and the frame as it leaves. `verdict` and `forward` both answer by it, so
 //! that what one tells the other does.
 //!
-//! A caller, proved in lookup_tests (`told_and_done`): the two verdicts are the same.
+//! A caller, proved in memory_tests (`told_and_done`): the two verdicts are the same.
 //!
 //! ```text
 //! let told = verdict(table, ports, chain, wire);

@@ -2,7 +2,7 @@
 //! below it, so that a lookup is one or two loads. Contracts see a table as the finite map of its members, from
 //! prefixes to next hops.
 //!
-//! A caller, proved in lookup_tests (`sole_route`): the one route of a table decides over the address that it was
+//! A caller, proved in memory_tests (`sole_route`): the one route of a table decides over the address that it was
 //! added with, so `found` is `Some(hop)`.
 //!
 //! ```text

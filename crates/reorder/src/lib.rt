@@ -5,7 +5,7 @@
 //! Contracts see a window as a finite map from numbers to items and the number whose turn is next. That number n
 //! stands at place `n mod size` is known to this crate alone.
 //!
-//! A caller, proved in lookup_tests (`in_turn`): two items that come in the wrong order leave in the right one, and
+//! A caller, proved in memory_tests (`in_turn`): two items that come in the wrong order leave in the right one, and
 //! neither `unwrap` can fail.
 //!
 //! ```text

@@ -1,5 +1,0 @@
-use Rattle.fabric.specs.Hands.{IsHandOf}
-use Rattle.fabric_tests.proofs.tests.stops.supplied.Given as goal
-
-abbrev pub invariant-loop : goal.invariant-loop
-invariant-loop l = IsHandOf l.f l.hand

@@ -1,3 +1,0 @@
-pub mod Listing
-pub mod Sole
-pub mod Joined

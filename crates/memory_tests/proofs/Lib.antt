@@ -1,0 +1,3 @@
+pub mod Sole
+pub mod Joined
+mod Sent

@@ -1,0 +1,41 @@
+//! A caller: a run, by one clause for every number of workers.
+ghost use Rattle.std.specs.Prelude.{◌≡◌, ◌≤◌, vec_len, IfOk, IfSome};
+ghost use Rattle.pcapio.specs.Counted.{to_come};
+ghost use Rattle.stages.specs.Whole.{IsRun};
+
+use pcapio::Counted;
+use settings::Settings;
+use stages::{Gate, RunFault, Summary, run_one, run_threads};
+use std::io::{Read, Write};
+use std::sync::Wait;
+use std::thread::Threads;
+
+/// A run by so many workers, or by one thread where there are none.
+pub fn forward<
+    G: Gate + Sync,
+    I: Read + Send + Drop,
+    W: Write + Drop,
+    R: AllocGlobal + Threads + Wait + Sync,
+>(
+    rt: &R,
+    gate: &G,
+    workers: usize,
+    input: Counted<I>,
+    ports: Vec<Counted<W>>,
+    settings: &Settings,
+) -> (
+    Option<Counted<I>>,
+    Vec<Counted<W>>,
+    Result<Summary, RunFault>,
+)
+    requires workers { workers ≤ 16 }
+    requires ports { vec_len ports ≡ vec_len settings.now.ports.sources }
+    ensures run { IfOk result.2 (λ summary. IfSome (to_come I.remaining input) (λ bytes.
+        IsRun W.contents settings.now bytes ports.items result.1.items summary)) }
+{
+    if workers == 0 {
+        let (input, ports, answer) = run_one(rt.alloc(), input, ports, settings);
+        return (Some(input), ports, answer);
+    }
+    run_threads(rt, rt.alloc(), gate, workers, input, ports, settings)
+}

@@ -1,0 +1,29 @@
+//! What is left where every request for memory is refused, and short callers of libraries. All of it is proved: memory
+//! can't be used up in a build without proofs, and a caller shows what contracts alone say.
+#![tactic(auto)]
+
+pub mod callers;
+#[cfg(test)]
+mod captures;
+#[cfg(test)]
+mod documents;
+#[cfg(test)]
+mod memory;
+#[cfg(test)]
+mod packets;
+#[cfg(test)]
+mod programs;
+#[cfg(test)]
+mod reports;
+#[cfg(test)]
+mod rings;
+#[cfg(test)]
+mod routes;
+#[cfg(test)]
+mod runs;
+#[cfg(test)]
+mod shared;
+#[cfg(test)]
+mod windows;
+#[cfg(test)]
+mod worlds;

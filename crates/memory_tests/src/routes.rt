@@ -1,0 +1,128 @@
+//! Route tables (lpm).
+
+use crate::callers::routes::read;
+use crate::memory::taken;
+use lpm::{NextHop, RouteFault, Table};
+use std::process::Abort;
+use std::test::Fail;
+
+/// The address that each route of these tests holds.
+const ADDR: u32 = 0x0a01_0203;
+
+/// How many addresses a burst has.
+const BURST: usize = 4;
+
+/// As the table's call, without its contract: a test sees the answer when it runs.
+fn add(table: &mut Table, addr: u32, depth: u8, hop: u32) -> Result<(), RouteFault> {
+    table.add(addr, depth, hop)
+}
+
+/// Removes a route.
+fn remove(table: &mut Table, addr: u32, depth: u8) -> Result<(), RouteFault> {
+    table.remove(addr, depth)
+}
+
+/// The next hop for an address.
+fn lookup(table: &Table, addr: u32) -> Option<u32> {
+    table.lookup(addr)
+}
+
+/// Looks an address up, alone, in a burst of its own and by the entries.
+fn look_up(rt: &impl Abort, table: &Table, addr: u32, expected: Option<u32>) {
+    let mut hops = [NextHop::none(); BURST];
+    table.lookup_bulk(&[addr; BURST], &mut hops);
+    assert_eq!(rt;
+        hops.map(NextHop::hop),
+        [expected; BURST],
+        "a burst of {addr:08x}"
+    );
+    assert_eq!(rt; lookup(table, addr), expected, "{addr:08x}");
+    assert_eq!(rt; read(table, addr), expected, "entry of {addr:08x}");
+}
+
+/// Adds a route, with one more piece of memory given back each time that it is refused: how often it was, each time
+/// with the table as it was.
+fn add_at_last(
+    rt: &impl Abort,
+    table: &mut Table,
+    (addr, depth, hop): (u32, u8, u32),
+    held: &mut Vec<Vec<u8>>,
+) -> usize {
+    let before = lookup(table, addr);
+    for refused in 0..held.len() {
+        let answer = add(table, addr, depth, hop);
+        if answer != Err(RouteFault::Memory) {
+            assert_eq!(rt; answer, Ok(()), "depth {depth}");
+            return refused;
+        }
+        assert_eq!(rt; lookup(table, addr), before, "depth {depth}");
+        assert_eq!(rt; remove(table, addr, depth), Err(RouteFault::NoRoute));
+        held.pop();
+    }
+    0
+}
+
+/// Adds routes of depths 9 to 32, of which each holds the address: how often memory was refused.
+fn add_depths(rt: &impl Abort, table: &mut Table, held: &mut Vec<Vec<u8>>) -> usize {
+    let mut all = 0usize;
+    for hop in 1..25 {
+        let refused = add_at_last(rt, table, (ADDR, 8 + hop as u8, hop), held);
+        assert_eq!(rt; lookup(table, ADDR), Some(hop), "hop {hop}");
+        // Saturating here: no clause bounds it, and it stays small.
+        all = all.saturating_add(refused);
+    }
+    all
+}
+
+#[test]
+fn is_as_it_was_without_memory(rt: HostRuntime) -> Result<(), Fail> {
+    let mut table = Table::new(rt.alloc(), 16, 8)?;
+    let mut held = taken(rt.alloc())?;
+    let refused = add_depths(&rt, &mut table, &mut held);
+    drop(held);
+    assert!(rt; refused > 0);
+    Ok(())
+}
+
+/// The greatest of the depths up to `depth` that are there, which is the hop as well.
+fn deepest(there: &[bool; 33], depth: u8) -> Option<u32> {
+    let mut found = None;
+    for (i, there) in there.iter().enumerate() {
+        if *there && i <= depth as usize {
+            found = Some(i as u32);
+        }
+    }
+    found
+}
+
+/// Adds what may be added without memory to the routes that are `there`, and removes all of them again: lookups and
+/// bursts tell the deepest that is left.
+fn take_apart(rt: &impl Abort, table: &mut Table, there: &mut [bool; 33]) {
+    for depth in 1..33 {
+        if !there[depth as usize] {
+            there[depth as usize] = add(table, ADDR, depth, u32::from(depth)).is_ok();
+        }
+    }
+    for depth in (1..33).rev() {
+        look_up(rt, table, ADDR, deepest(there, depth));
+        let answer = remove(table, ADDR, depth);
+        assert_eq!(rt; answer.is_ok(), there[depth as usize], "depth {depth}");
+    }
+    look_up(rt, table, ADDR, None);
+}
+
+/// Every request for memory is refused once each second depth has its route: lookups, bursts and removals go on, since
+/// they make none.
+#[test]
+fn goes_on_without_memory(rt: HostRuntime) -> Result<(), Fail> {
+    let mut table = Table::new(rt.alloc(), 16, 8)?;
+    let mut there = [false; 33];
+    for depth in (2..33).step_by(2) {
+        there[depth as usize] = add(&mut table, ADDR, depth, u32::from(depth)).is_ok();
+    }
+    let held = taken(rt.alloc())?;
+    take_apart(&rt, &mut table, &mut there);
+    drop(held);
+    assert!(rt; there[32]);
+    Ok(())
+}
