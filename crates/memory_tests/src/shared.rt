@@ -220,8 +220,9 @@ fn starved<R: Wait>(
     hand
 }
 
-/// Whether all hands are joined, and the free ring gives all items. All calls keep their order, but those of the cache: of
-/// 0 to 5 it gives 0, 1 and 2 and keeps 3 and 4; then 2, 1 and 5, the newest of its own first, and keeps 3 and 4 again.
+/// Whether all hands are joined, and the free ring gives all items. All calls keep their order, but those of the cache:
+/// of 0 to 5 it gives 0, 1 and 2 and keeps 3 and 4; then 2, 1 and 5, the newest of its own first, and keeps 3 and 4
+/// again.
 fn has_all<R: Wait>(rt: &R, f: &Rings, hand: Hand<Ticket>) -> Result<bool, Wrong>
     requires hand { IsHandOf f.now hand }
     requires rings { 2 < length (rings_of f.now) }
