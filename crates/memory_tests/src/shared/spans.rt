@@ -56,7 +56,7 @@ fn move_lent(
         return Err(Wrong("a lent take isn't settled"));
     };
     let n = list.len();
-    let Ok(span) = f.try_start_put(hand, to, 9, How::Burst) else {
+    let Ok(span) = f.try_start_put(hand, to, n, How::Burst) else {
         return Err(Wrong("a lent put isn't started"));
     };
     let settled = if first {
