@@ -22,7 +22,8 @@ pub fn done<'f>(
     requires { IsPutOf f.now ring answer }
     ensures { IfOk result (λ h. IsHandOf f.now h) }
 {
-    let _ = (f, ring);
+    let _ = f;
+    let _ = ring;
     match answer {
         PutAnswer::Done(hand, _) => Ok(hand),
         _ => Err(Wrong("a put isn't done")),
@@ -38,7 +39,8 @@ pub fn taken<'f>(
     requires { IsTakeOf f.now ring answer }
     ensures { IfOk result (λ h. IsHandOf f.now h) }
 {
-    let _ = (f, ring);
+    let _ = f;
+    let _ = ring;
     match answer {
         TakeAnswer::Done(hand, _) => Ok(hand),
         _ => Err(Wrong("a take isn't done")),
@@ -191,8 +193,9 @@ pub fn all<R: Wait>(rt: &R, f: &Rings, hand: Hand<Ticket>) -> Result<Hand<Ticket
     let hand = around(rt, f, hand, (false, How::Burst))?;
     let hand = around(rt, f, hand, (true, How::Bulk))?;
     let hand = around(rt, f, hand, (true, How::Burst))?;
-    match ringapi::try_take_bulk(f, hand, FIRST, 1) {
-        (TakeAnswer::Refused(hand, _), _) => Ok(hand),
+    let (answer, _none) = ringapi::try_take_bulk(f, hand, FIRST, 1);
+    match answer {
+        TakeAnswer::Refused(hand, _) => Ok(hand),
         _ => Err(Wrong("a take of nothing")),
     }
 }
