@@ -25,7 +25,7 @@ fn segment(alloc: Global, number: u32) -> Result<Chain, AllocError>
     Ok(segments.swap_remove(number as usize))
 }
 
-/// The chain of both, one behind the other.
+/// The chain of both, one after the other.
 fn both(one: Chain, other: Chain) -> Result<Chain, Fail>
     requires apart { AreDistinct (numbers_of one ++ numbers_of other) }
     ensures { IfOk result (λ whole. whole ≡ one ++ other) }

@@ -59,7 +59,7 @@ fn words_of(alloc: Global, words: &[&str]) -> Result<Vec<String>, AllocError> {
     Ok(texts)
 }
 
-/// Runs the program, whose status it tells, on sheets that were blank.
+/// Runs the program on sheets that were blank, and returns its status.
 fn go<R: Files + AllocGlobal + Threads + Wait + Sync>(
     rt: &R,
     words: &[String],

@@ -60,7 +60,7 @@ fn capture(alloc: Global, frames: &[[u8; 34]]) -> Result<Vec<u8>, AllocError> {
     Ok(file)
 }
 
-/// A capture, and what each port is to be told of it.
+/// A capture, and the bytes that each port has to get from it.
 #[derive(Drop)]
 struct Case {
     capture: Vec<u8>,
@@ -109,9 +109,9 @@ struct Left {
     answer: Result<Summary, RunFault>,
     /// How often devices failed.
     failures: u64,
-    /// Whether a port was told anything but a beginning of what it waits for.
+    /// Whether a port got anything other than a beginning of what it waits for.
     wrong: bool,
-    /// Whether each port was told all.
+    /// Whether each port got everything.
     whole: bool,
 }
 
@@ -154,7 +154,7 @@ fn run<R: Abort + AllocGlobal + Threads + Wait + Sync>(
     Ok(left)
 }
 
-/// Tests a run without a fault: each port was told all, and so many records were counted.
+/// Tests a run without a fault: each port got everything, and so many records were counted.
 fn is_whole<R: Abort>(rt: &R, left: &Left, records: u64, torn: bool) {
     assert!(rt; left.whole && !left.wrong);
     match &left.answer {

@@ -23,10 +23,10 @@ fn opened(alloc: Global) -> Result<World, Fail> {
     Ok(World::new(alloc, plan).ok().ok_or("a plan")?)
 }
 
-/// What a reply tells: its kind, and its numbers. Nothing is told of items.
+/// The kind of a reply and its numbers. Its items are left out.
 type Told = (&'static str, [u64; 3]);
 
-/// What is told of replies that no row has.
+/// What stands for replies that no row has.
 const ANOTHER: Told = ("another", [0; 3]);
 
 fn told(reply: &Reply) -> Told {
@@ -39,7 +39,7 @@ fn told(reply: &Reply) -> Told {
     }
 }
 
-/// What is told of one step.
+/// What is compared of one step.
 fn step(world: &mut World, actor: usize, step: Step) -> Result<Told, AllocError> {
     if !world.has(actor, &step) {
         return Ok(ANOTHER);
@@ -48,10 +48,10 @@ fn step(world: &mut World, actor: usize, step: Step) -> Result<Told, AllocError>
     Ok(told(&reply))
 }
 
-/// An actor, its step, and what is to be told of the reply.
+/// An actor, its step, and what its reply has to be.
 type Row = (usize, Step, Told);
 
-/// Makes the steps up to the first of which something else is told: how many went well.
+/// Makes the steps up to the first with another reply, and returns how many had the right one.
 fn go(world: &mut World, rows: &mut [Row]) -> Result<usize, AllocError> {
     let mut count = 0usize;
     for (actor, next, wanted) in rows {
@@ -121,7 +121,7 @@ fn put_twice(world: &mut World, twice: Items) -> Result<usize, AllocError> {
 }
 
 /// Lists that are known and unknown, looks, reserves, a put that is settled, one that is refused, a stash and its end,
-/// and places: whether what is told is what is due.
+/// and places: whether the replies are those of the rows.
 fn goes_on(world: &mut World, item: Items, twice: Items) -> Result<bool, AllocError> {
     let known = [(0, LOOK), (1, ROOM)];
     let unknown = [(0, LOOK), (2, LOOK)];

@@ -1,4 +1,4 @@
-//! A caller, proved like the rest: what `verdict` tells is what `forward` then answers.
+//! A caller, proved: `forward` returns the verdict that `verdict` returned before it.
 ghost use Rattle.std.specs.Prelude.{◌≡◌, ◌≤◌, length};
 ghost use Rattle.mbuf.specs.Chain.{bytes_of};
 
@@ -6,7 +6,7 @@ use ipv4::{Ports, Verdict, forward, verdict};
 use lpm::Table;
 use mbuf::Chain;
 
-/// The verdict, told beforehand and as it was carried out.
+/// The verdict before a frame is forwarded, and the one with which it is.
 pub fn told_and_done(
     chain: &mut Chain,
     table: &Table,

@@ -1,5 +1,5 @@
 //! Each request for memory refused alone. `new` makes seven requests and `split` one. All memory is taken, and pieces
-//! of exactly the sizes of these requests are set aside; the first of them are given back, so that the request behind
+//! of exactly the sizes of these requests are set aside; the first of them are given back, so that the request after
 //! these is refused.
 ghost use Rattle.std.specs.Prelude.{◌<◌};
 ghost use Rattle.fabric.specs.Hands.{IsHandOf};

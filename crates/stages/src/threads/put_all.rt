@@ -13,7 +13,7 @@ use fabric::{Fabric, Hand, StartFault};
 use ringapi::{PutAnswer, Refusal, put_own_burst_from};
 use std::sync::Wait;
 
-/// Whether a put was refused for want of room alone.
+/// Whether a put was refused only because there was no room.
 fn wants_room(refusal: Refusal) -> bool
     ensures { result ≡ false → (left : ℕ) → refusal ≡ Start (NoRoom left) → ⊥ }
 {
