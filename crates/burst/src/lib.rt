@@ -14,7 +14,9 @@ mod burst;
 mod cells;
 mod example;
 mod tagged;
+mod word;
 
 pub use burst::Burst;
 pub use cells::Cells;
 pub use tagged::Tagged;
+pub use word::Word;

@@ -15,10 +15,10 @@ use Rattle.fabric.specs.Rings.{IsSeated, slot_values, slots_of}
 use Rattle.fabric.specs.Starts.{MayAsk, Probes, Starts}
 use Rattle.fabric.specs.Views.{IsKept, span_of}
 
-module _ {T : Type 0} {N : ℕ} (tags : T → List ℕ) where
+module _ {T : Type 0} {N : ℕ} {S : Type 0} (tags : T → List ℕ) where
   -- its two steps found q of a side, by which it may reserve so many positions, and its count may be asked for; v is
   -- its view before
-  pub record Aims (most : ℕ) (how : How) (n : ℕ) (side : Side) (r : Ring T N) (v : View T)
+  pub record Aims (most : ℕ) (how : How) (n : ℕ) (side : Side) (r : Ring T N S) (v : View T)
       (s : Seat (Option T) (View T))
       (q : Probe) (count : ℕ) : Type 0 where
     pub seated : IsSeated r s
@@ -34,7 +34,7 @@ module _ {T : Type 0} {N : ℕ} (tags : T → List ℕ) where
     pub may : MayAsk tags most n side r.shape.plan v
 
   -- these positions of a side are its open span, and their slots are all that it has; v is its view before
-  pub record HasStarted (most : ℕ) (how : How) (n : ℕ) (side : Side) (r : Ring T N) (v : View T)
+  pub record HasStarted (most : ℕ) (how : How) (n : ℕ) (side : Side) (r : Ring T N S) (v : View T)
       (s : Seat (Option T) (View T))
       (range : Positions) : Type 0 where
     pub seated : IsSeated r s

@@ -21,22 +21,22 @@ module _ {T : Type 0} where
   slot_values Put count items = replicate count None
   slot_values Take count items = map Some items
 
-module _ {T : Type 0} {N : ℕ} where
+module _ {T : Type 0} {N : ℕ} {S : Type 0} where
   -- the seat is one of the ring's fabric, and its hand has a part of it
-  pub record IsSeated (r : Ring T N) (s : Seat (Option T) (View T)) : Type 0 where
+  pub record IsSeated (r : Ring T N S) (s : Seat (Option T) (View T)) : Type 0 where
     pub table : s.table_id ≡ r.fabric.now.table.shared.table_id
     pub plans : s.me.0.plans ≡ r.fabric.now.plan.rings.items
     pub pool : s.me.0.pool ≡ r.fabric.now.plan.buffers
     pub alive : 0 < s.me.0.parts
 
   -- slots of the ring's positions from p on, with these values
-  abbrev pub slots_of : Ring T N → ℕ → List (Option T) → List (ℕ × Option T)
+  abbrev pub slots_of : Ring T N S → ℕ → List (Option T) → List (ℕ × Option T)
   slots_of r p values = run (slot_at r.fabric.now.plan.rings.items r.index r.shape.plan) p values
 
-module _ {T : Type 0} {N : ℕ} (tags : T → List ℕ) where
+module _ {T : Type 0} {N : ℕ} {S : Type 0} (tags : T → List ℕ) where
   -- so many positions of a side from p on are the hand's open span, and their slots came to it. It shows the items of a
   -- take; those from a free ring carry one buffer each
-  pub record HasReserved (r : Ring T N) (side : Side) (p many : ℕ) (s t : Seat (Option T) (View T)) : Type 0 where
+  pub record HasReserved (r : Ring T N S) (side : Side) (p many : ℕ) (s t : Seat (Option T) (View T)) : Type 0 where
     pub view : t.me.0 ≡ reserved (span_of r.index side p many) t.me.0.shown s.me.0
     pub slots : t.me.1 ≡ slots_of r p (slot_values side many t.me.0.shown) ++ s.me.1
     pub empty : side ≡ Put → t.me.0.shown ≡ []

@@ -12,9 +12,11 @@ use crate::close::closed::Closed;
 use crate::fabric::Fabric;
 use crate::hand::{Hand, Share};
 use crate::plan::Shape;
+use crate::stored::{Cell, Stored};
 use crate::words::steps::{own_word, position, settled_word};
 use burst::Tagged;
 use geom::{Mode, RESERVED_RANGE, Side};
+use std::mem;
 
 /// How far a side is reserved, by its own word.
 fn reach(mode: Mode, word: u64) -> u64
@@ -47,10 +49,10 @@ pub struct Rest {
     pub(crate) end: u64,
 }
 
-impl<T: Tagged, const N: usize> Fabric<T, N> {
+impl<T: Tagged, const N: usize, S: Stored<T>> Fabric<T, N, S> {
     /// Ends the fabric, with a hand of it. No open span holds a reference to it any more, but hands and open spans that
     /// were dropped still count: the items of a take that never settled stay behind. Takes no memory.
-    pub fn close(self, hand: Hand<T>) -> Closed<T>
+    pub fn close(self, hand: Hand<T, S>) -> Closed<T, S>
         requires hand { IsHandOf self hand }
         ensures last { IsLast T.numbers (rings_of self) (pool_of self) (view hand) result }
         ensures rings { ring_count result ≡ length (rings_of self) }
@@ -72,7 +74,7 @@ impl<T: Tagged, const N: usize> Fabric<T, N> {
     }
 }
 
-impl<T: Tagged> Closed<T> {
+impl<T: Tagged, S: Stored<T>> Closed<T, S> {
     /// Where what is left of a ring lies.
     #[inline]
     fn rest(&self, ring: usize) -> Rest
@@ -107,6 +109,7 @@ impl<T: Tagged> Closed<T> {
             return None;
         }
         *self.table.words.get_mut(rest.own) = further(rest.shape.plan.take, rest.word);
-        self.table.slots.get_mut(rest.shape.slot(rest.first)).take()
+        let cell = self.table.slots.get_mut(rest.shape.slot(rest.first));
+        mem::replace(cell, Cell::of(None)).take()
     }
 }

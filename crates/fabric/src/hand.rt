@@ -12,10 +12,12 @@ mod may_put;
 mod observe;
 pub(crate) mod owned;
 mod owned_items;
+mod owned_slices;
 pub(crate) mod split;
 
 use crate::hand::owned::Owned;
 use crate::ring::{Positions, Ring};
+use crate::stored::{Cell, Stored};
 use atomic_table::Seat;
 use burst::Tagged;
 use fabric_laws::View;
@@ -27,8 +29,8 @@ pub(crate) const ALL_PARTS: u64 = 1 << 63;
 /// What a thread has of a fabric, with or without an open span: what it has seen, reserved and settled, the slots of
 /// its open span, and the buffers that are its own.
 #[derive(Drop)]
-pub struct Share<T: Tagged> {
-    pub(crate) seat: Seat<Option<T>, View<T>>,
+pub struct Share<T: Tagged, S: Stored<T> = Option<T>> {
+    pub(crate) seat: Seat<Cell<T, S>, View<T>>,
     pub(crate) owned: Owned,
     pub(crate) parts: u64,
     pub ghost counted: { parts ≡ seat.me.0.parts },
@@ -40,8 +42,8 @@ pub struct Share<T: Tagged> {
 /// A thread's hand on a fabric. It has no open span. One that is dropped keeps its buffers for ever.
 #[derive(Drop)]
 #[must_use]
-pub struct Hand<T: Tagged> {
-    pub(crate) share: Share<T>,
+pub struct Hand<T: Tagged, S: Stored<T> = Option<T>> {
+    pub(crate) share: Share<T, S>,
     pub ghost no_slots: { share.seat.me.1 ≡ [] },
     pub ghost idle: { share.seat.me.0.party.span ≡ None },
 }
@@ -49,9 +51,9 @@ pub struct Hand<T: Tagged> {
 /// A hand with a span that it will put items into. One that is dropped keeps its span for ever.
 #[derive(Drop)]
 #[must_use]
-pub struct PutOpen<'f, T: Tagged, const N: usize> {
-    pub(crate) ring: Ring<'f, T, N>,
-    pub(crate) share: Share<T>,
+pub struct PutOpen<'f, T: Tagged, const N: usize, S: Stored<T> = Option<T>> {
+    pub(crate) ring: Ring<'f, T, N, S>,
+    pub(crate) share: Share<T, S>,
     pub(crate) range: Positions,
     pub ghost table: { share.seat.table_id ≡ ring.fabric.now.table.shared.table_id },
     pub ghost plans: { (share.seat.me.0.plans ≡ ring.fabric.now.plan.rings.items)
@@ -65,9 +67,9 @@ pub struct PutOpen<'f, T: Tagged, const N: usize> {
 /// A hand with a span whose items it takes. They were moved out at the start, into a burst that the caller lent.
 #[derive(Drop)]
 #[must_use]
-pub struct TakeOpenLent<'f, T: Tagged, const N: usize> {
-    pub(crate) ring: Ring<'f, T, N>,
-    pub(crate) share: Share<T>,
+pub struct TakeOpenLent<'f, T: Tagged, const N: usize, S: Stored<T> = Option<T>> {
+    pub(crate) ring: Ring<'f, T, N, S>,
+    pub(crate) share: Share<T, S>,
     pub(crate) range: Positions,
     pub ghost table: { share.seat.table_id ≡ ring.fabric.now.table.shared.table_id },
     pub ghost plans: { (share.seat.me.0.plans ≡ ring.fabric.now.plan.rings.items)

@@ -4,7 +4,8 @@
 //! `fabric` has the rings, `open` makes them, `close` ends them. `hand` is a thread's access: it is split, joined, and
 //! made a hand that keeps buffers back for a cache. `spans` has the calls: a start reserves a span, a settle publishes
 //! or takes its items. Below them `ring` is one ring of a fabric, `words` has the atomic steps and what each of them
-//! keeps, and `slots` moves items into slots and out of them.
+//! keeps, `slots` moves items into slots and out of them, and `stored` is what a slot holds an item in: an option, or for
+//! items that are plain words the word itself.
 #![tactic(auto)]
 
 mod close;
@@ -16,6 +17,7 @@ mod plan;
 mod ring;
 mod slots;
 mod spans;
+mod stored;
 mod words;
 
 pub use close::closed::Closed;
@@ -24,4 +26,5 @@ pub use hand::cache_hand::CacheHand;
 pub use hand::split::SplitFault;
 pub use hand::{Hand, PutOpen, SettleFault, StartFault, TakeOpenLent};
 pub use open::{OpenFault, Opened};
-pub use spans::TakeOpen;
+pub use spans::{DetachedPut, DetachedTake, TakeOpen};
+pub use stored::{Cell, Stored};

@@ -1,5 +1,5 @@
 //! What the rings of a fabric are to be, and where their slots lie.
-ghost use Rattle.std.specs.Prelude.{◌≡◌, ◌<◌, ◌≤◌, ◌^◌};
+ghost use Rattle.std.specs.Prelude.{◌≡◌, ◌+◌, ◌<◌, ◌≤◌, ◌%◌, ◌^◌};
 
 use geom::RingPlan;
 
@@ -28,5 +28,21 @@ impl Shape {
         ensures { result ≡ shape_slot self.now position }
     {
         (self.base + self.plan.geometry.slot(position)) as usize
+    }
+
+    /// How many of `count` positions from `position` on have slots side by side: all, or those before the ring's end.
+    #[inline]
+    pub(crate) fn before_wrap(&self, position: u64, count: usize) -> usize
+        ensures fits { result ≤ count }
+        ensures near { position % self.now.plan.geometry.size + result ≤ self.now.plan.geometry.size }
+        ensures moves { 0 < count → 0 < result }
+        ensures wraps { result < count → position % self.now.plan.geometry.size + result ≡ self.now.plan.geometry.size }
+    {
+        let left = self.plan.geometry.size() - self.plan.geometry.slot(position);
+        if count as u64 <= left {
+            count
+        } else {
+            left as usize
+        }
     }
 }

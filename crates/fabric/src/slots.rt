@@ -1,12 +1,16 @@
 //! Items go into the slots that a hand holds and come out of them. `fill` and `drain` are the only access to a slot of
 //! a fabric that is shared.
-ghost use Rattle.std.specs.Prelude.{◌≡◌, ◌+◌, ◌<◌, ◌≤◌, ◌++◌, ◌^◌, [], ◌-◌, length, take, drop, replicate, None};
+ghost use Rattle.std.specs.Prelude.{◌≡◌, ◌+◌, ◌<◌, ◌≤◌, ◌++◌, ◌^◌, [], ◌-◌, length, map, take, drop, replicate, None, Some};
+ghost use Rattle.burst.specs.Items.{somes};
 ghost use Rattle.fabric_laws.specs.Kinds.{run};
 ghost use Rattle.fabric.specs.Rings.{IsSameSeat};
 ghost use Rattle.fabric.specs.Shapes.{shape_slot};
 ghost use Rattle.fabric.specs.Slots.{rotated, values};
 
+mod slices;
+
 use crate::ring::Ring;
+use crate::stored::{Cell, Stored};
 use atomic_table::Seat;
 use burst::{Cells, Tagged};
 use fabric_laws::View;
@@ -15,7 +19,7 @@ use std::mem::ManuallyDrop;
 /// Turns the row of slots by `n`, so that its first `n` slots stand behind the others. Nothing is done as the program
 /// runs.
 #[inline]
-pub(crate) fn skip<T: Tagged>(seat: &mut Seat<Option<T>, View<T>>, n: usize)
+pub(crate) fn skip<T: Tagged, S: Stored<T>>(seat: &mut Seat<Cell<T, S>, View<T>>, n: usize)
     requires { n ≤ length seat.old.me.1 }
     ensures { (seat.new.table_id ≡ seat.old.table_id) × (seat.new.id ≡ seat.old.id)
         × (seat.new.me ≡ (seat.old.me.0, rotated n seat.old.me.1)) }
@@ -25,13 +29,13 @@ pub(crate) fn skip<T: Tagged>(seat: &mut Seat<Option<T>, View<T>>, n: usize)
     }
 }
 
-impl<T: Tagged, const N: usize> Ring<'_, T, N> {
+impl<T: Tagged, const N: usize, S: Stored<T>> Ring<'_, T, N, S> {
     /// Moves the cells behind the first `k` into as many slots from the position `start` on, which hold nothing and are
     /// the first of the row. They are then its last, and the list has its first `k` cells.
     #[inline]
     pub(crate) fn fill(
         &self,
-        seat: &mut Seat<Option<T>, View<T>>,
+        seat: &mut Seat<Cell<T, S>, View<T>>,
         start: u64,
         k: usize,
         cells: &mut Cells<T, N>,
@@ -49,7 +53,11 @@ impl<T: Tagged, const N: usize> Ring<'_, T, N> {
         for i in 0..cells.len() - k {
             let slot = self.shape.slot(start + i as u64);
             let given = cells.replace(k + i, None);
-            let found = self.fabric.table.shared.exchange(seat, slot, given);
+            let found = self
+                .fabric
+                .table
+                .shared
+                .exchange(seat, slot, Cell::of(given));
             // the slot held nothing, so that nothing is to be dropped
             let _nothing = ManuallyDrop::new(found);
             seat.turn();
@@ -61,7 +69,7 @@ impl<T: Tagged, const N: usize> Ring<'_, T, N> {
     #[inline]
     pub(crate) fn drain(
         &self,
-        seat: &mut Seat<Option<T>, View<T>>,
+        seat: &mut Seat<Cell<T, S>, View<T>>,
         start: u64,
         count: usize,
         cells: &mut Cells<T, N>,
@@ -70,6 +78,7 @@ impl<T: Tagged, const N: usize> Ring<'_, T, N> {
         requires low { start + count < 2 ^ 63 }
         requires fits { count ≤ N }
         requires blank { cells.old ≡ [] }
+        requires packed { values seat.old.me.1 ≡ map Some (somes (values seat.old.me.1)) }
         requires held { (length (values seat.old.me.1) ≡ count)
             × (seat.old.me.1 ≡ run (shape_slot self.now.shape) start (values seat.old.me.1)) }
         ensures seat { IsSameSeat seat.old seat.new × (seat.new.me.0 ≡ seat.old.me.0) }
@@ -79,9 +88,13 @@ impl<T: Tagged, const N: usize> Ring<'_, T, N> {
         cells.grow_empty(count);
         for i in 0..count {
             let slot = self.shape.slot(start + i as u64);
-            let found = self.fabric.table.shared.exchange(seat, slot, None);
+            let found = self
+                .fabric
+                .table
+                .shared
+                .exchange(seat, slot, Cell::of(None));
             // the cell held nothing, so that nothing is to be dropped
-            let _nothing = ManuallyDrop::new(cells.replace(i, found));
+            let _nothing = ManuallyDrop::new(cells.replace(i, found.take()));
             seat.turn();
         }
     }

@@ -1,9 +1,15 @@
-//! Spans: how one is reserved and how it is settled, with a burst that the caller lends or by value.
+//! Spans: how one is reserved and how it is settled, with a burst that the caller lends or by value, or for words with a
+//! slice.
 
 mod by_value;
+mod detached;
 mod lent;
 mod partial_put;
+mod room;
 mod settle;
+mod settle_slices;
+mod slices;
 mod start;
 
 pub use by_value::TakeOpen;
+pub use detached::{DetachedPut, DetachedTake};

@@ -4,10 +4,11 @@ ghost use Rattle.geom.specs.Plan.{mode_of};
 ghost use Rattle.fabric.specs.Hands.{OnRing, rings_of};
 
 use crate::fabric::Fabric;
+use crate::stored::Stored;
 use burst::Tagged;
 use geom::{Mode, Side};
 
-impl<T: Tagged, const N: usize> Fabric<T, N> {
+impl<T: Tagged, const N: usize, S: Stored<T>> Fabric<T, N, S> {
     /// How many rings there are.
     pub fn rings(&self) -> usize
         ensures { result ≡ length (rings_of self.now) }

@@ -4,8 +4,10 @@ ghost use Rattle.std.specs.Prelude.{◌≡◌, ◌<◌, [], length, None};
 ghost use Rattle.fabric_laws.specs.Kinds.{IsHeldOnce};
 
 mod set_aside;
+mod slices;
 
 use crate::hand::owned::Owned;
+use crate::stored::{Cell, Stored};
 use atomic_table::Seat;
 use burst::Tagged;
 use fabric_laws::View;
@@ -14,8 +16,8 @@ use fabric_laws::View;
 /// and not set aside. One that is dropped keeps all its buffers for ever.
 #[derive(Drop)]
 #[must_use]
-pub struct CacheHand<T: Tagged> {
-    pub(crate) seat: Seat<Option<T>, View<T>>,
+pub struct CacheHand<T: Tagged, S: Stored<T> = Option<T>> {
+    pub(crate) seat: Seat<Cell<T, S>, View<T>>,
     pub(crate) owned: Owned,
     pub(crate) parts: u64,
     pub ghost counted: { parts ≡ seat.me.0.parts },

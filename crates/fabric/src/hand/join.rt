@@ -8,15 +8,16 @@ ghost use Rattle.fabric.specs.Hands.{IsHandOf, rings_of, view};
 
 use crate::fabric::Fabric;
 use crate::hand::{Hand, Share};
+use crate::stored::Stored;
 use crate::words::step_kinds::{Learns, Union};
 use burst::Tagged;
 
-impl<T: Tagged> Hand<T> {
+impl<T: Tagged, S: Stored<T>> Hand<T, S> {
     /// One hand that has the spans, the buffers and the parts of both. What they hold together doesn't clash: no buffer
     /// is owned by both, no position is in settled spans of both on one side, and an item that one published and the
     /// other took is the same. The view of a hand that has all parts then is sound by itself: each buffer of the pool
     /// has its one place there. Takes no memory, and makes one load (`loaded`), which is counted apart from the steps.
-    pub fn join<const N: usize>(self, fabric: &Fabric<T, N>, other: Hand<T>) -> Hand<T>
+    pub fn join<const N: usize>(self, fabric: &Fabric<T, N, S>, other: Hand<T, S>) -> Hand<T, S>
         requires hand { IsHandOf fabric.now self }
         requires other { IsHandOf fabric.now other }
         ensures hand { IsHandOf fabric.now result × (view result ≡ loaded (both (view self) (view other))) }

@@ -70,8 +70,23 @@ impl Owned {
         self.clear_all(out.as_slice())
     }
 
-    /// Clears the buffers of the item at place `i`, where each is marked, and, on a free ring, where it carries exactly
-    /// one; else nothing changes.
+    /// Clears the buffers of an item, where each is marked, and, on a free ring, where it carries exactly one; else
+    /// nothing changes.
+    #[inline]
+    pub(crate) fn disown_one<T: Tagged>(&mut self, free: bool, item: &T) -> bool
+        ensures mine { result ≡ true → (self.new ≡ cleared self.old (T.numbers item.now))
+            × (all_there self.old (T.numbers item.now) ≡ true) × (free ≡ true → length (T.numbers item.now) ≡ 1) }
+        ensures kept { result ≡ false → self.new ≡ self.old }
+        ensures other { result ≡ false → all_there self.old (T.numbers item.now) ≡ true
+            → (free ≡ true) × (length (T.numbers item.now) ≢ 1) }
+    {
+        match item.single_tag() {
+            Some(b) => self.clear_marked(b as usize),
+            None => self.disown_several(free, item),
+        }
+    }
+
+    /// The same for the item at place `i`.
     #[inline]
     fn disown_at<T: Tagged, const N: usize>(
         &mut self,
@@ -88,10 +103,7 @@ impl Owned {
             → (free ≡ true) × (length (told T.numbers (slice_get items.now i)) ≢ 1) }
     {
         match items.get_known(i) {
-            Some(item) => match item.single_tag() {
-                Some(b) => self.clear_marked(b as usize),
-                None => self.disown_several(free, item),
-            },
+            Some(item) => self.disown_one(free, item),
             None => !free,
         }
     }

@@ -8,6 +8,7 @@ ghost use Rattle.fabric.specs.Hands.{IsHandOf, RefusesSplit, view};
 use crate::fabric::Fabric;
 use crate::hand::owned::Owned;
 use crate::hand::{ALL_PARTS, Hand, Share};
+use crate::stored::Stored;
 use crate::words::step_kinds::Halves;
 use burst::Tagged;
 use std::alloc::Global;
@@ -24,7 +25,7 @@ pub enum SplitFault {
     TooMany,
 }
 
-impl<T: Tagged> Hand<T> {
+impl<T: Tagged, S: Stored<T>> Hand<T, S> {
     /// Whether a buffer is the hand's own.
     pub fn owns(&self, b: u32) -> bool
         ensures { IsTrue result ↔ (holds T.numbers b (view self.now).party ≡ 1) }
@@ -47,8 +48,8 @@ impl<T: Tagged> Hand<T> {
     pub fn split<const N: usize>(
         self,
         alloc: Global,
-        fabric: &Fabric<T, N>,
-    ) -> Result<(Hand<T>, Hand<T>), (Hand<T>, SplitFault)>
+        fabric: &Fabric<T, N, S>,
+    ) -> Result<(Hand<T, S>, Hand<T, S>), (Hand<T, S>, SplitFault)>
         requires hand { IsHandOf fabric.now self }
         ensures split { IfOk result (λ h. IsHandOf fabric.now h.0 × (view h.0 ≡ kept (view self))
             × IsHandOf fabric.now h.1 × (view h.1 ≡ split_off (view self))) }

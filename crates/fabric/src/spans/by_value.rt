@@ -16,6 +16,7 @@ ghost use Rattle.fabric.specs.Starts.{RefusesCount, MayAsk, RefusesStart, Starts
 
 use crate::fabric::Fabric;
 use crate::hand::{Hand, PutOpen, SettleFault, StartFault, TakeOpenLent};
+use crate::stored::Stored;
 use burst::{Burst, Tagged};
 use geom::How;
 
@@ -23,21 +24,21 @@ use geom::How;
 /// for ever.
 #[derive(Drop)]
 #[must_use]
-pub struct TakeOpen<'f, T: Tagged, const N: usize> {
-    pub(crate) span: TakeOpenLent<'f, T, N>,
+pub struct TakeOpen<'f, T: Tagged, const N: usize, S: Stored<T> = Option<T>> {
+    pub(crate) span: TakeOpenLent<'f, T, N, S>,
     pub(crate) items: Burst<T, N>,
     pub ghost shows: { items ≡ (take_view span).shown },
 }
 
-impl<T: Tagged, const N: usize> Fabric<T, N> {
+impl<T: Tagged, const N: usize, S: Stored<T>> Fabric<T, N, S> {
     /// `try_start_take_into` into a burst of its own.
     pub fn try_start_take(
         &self,
-        hand: Hand<T>,
+        hand: Hand<T, S>,
         ring: usize,
         n: usize,
         how: How,
-    ) -> Result<TakeOpen<'_, T, N>, (Hand<T>, StartFault)>
+    ) -> Result<TakeOpen<'_, T, N, S>, (Hand<T, S>, StartFault)>
         requires hand { IsHandOf self.now hand }
         requires ring { ring < length (rings_of self.now) }
         ensures started { IfOk result (λ o. (take_fabric o.span ≡ self.now) × ((take_span o.span).ring ≡ ring)
@@ -62,12 +63,12 @@ impl<T: Tagged, const N: usize> Fabric<T, N> {
     }
 }
 
-impl<'f, T: Tagged, const N: usize> PutOpen<'f, T, N> {
+impl<'f, T: Tagged, const N: usize, S: Stored<T>> PutOpen<'f, T, N, S> {
     /// `try_settle_from` of a burst by value, which comes back at a refusal.
     pub fn try_settle(
         self,
         items: Burst<T, N>,
-    ) -> Result<Hand<T>, (PutOpen<'f, T, N>, Burst<T, N>, SettleFault)>
+    ) -> Result<Hand<T, S>, (PutOpen<'f, T, N, S>, Burst<T, N>, SettleFault)>
         ensures done { IfOk result (λ h. HasPut self.entry items h) }
         ensures refused { IfErr result (λ e. SamePut self.entry e.0 × (e.1 ≡ items)
             × RefusesPut T.numbers self.entry items e.0 e.2) }
@@ -84,7 +85,7 @@ impl<'f, T: Tagged, const N: usize> PutOpen<'f, T, N> {
     }
 }
 
-impl<'f, T: Tagged, const N: usize> TakeOpen<'f, T, N> {
+impl<'f, T: Tagged, const N: usize, S: Stored<T>> TakeOpen<'f, T, N, S> {
     /// The first position of the span.
     pub fn start(&self) -> u64
         ensures { result ≡ (take_span self.now.span).start }
@@ -117,7 +118,7 @@ impl<'f, T: Tagged, const N: usize> TakeOpen<'f, T, N> {
     pub fn try_settle(
         self,
         k: usize,
-    ) -> Result<(Hand<T>, Burst<T, N>), (TakeOpen<'f, T, N>, SettleFault)>
+    ) -> Result<(Hand<T, S>, Burst<T, N>), (TakeOpen<'f, T, N, S>, SettleFault)>
         ensures done { IfOk result (λ h. HasTaken self.entry.span k self.entry.items h.0
             × (h.1 ≡ take k self.entry.items)) }
         ensures refused { IfErr result (λ e. SameTake self.entry.span e.0.span × (e.0.items ≡ self.entry.items)

@@ -12,10 +12,11 @@ ghost use Rattle.geom.specs.declared.plan.Mode.TheVariants.{Hts};
 
 use crate::hand::{Hand, PutOpen, SettleFault, Share, TakeOpenLent};
 use crate::spans::settle::is_count;
+use crate::stored::Stored;
 use burst::{Burst, Tagged};
 use geom::Side;
 
-impl<'f, T: Tagged, const N: usize> PutOpen<'f, T, N> {
+impl<'f, T: Tagged, const N: usize, S: Stored<T>> PutOpen<'f, T, N, S> {
     /// The first position of the span.
     pub fn start(&self) -> u64
         ensures { result ≡ (put_span self.now).start }
@@ -46,7 +47,7 @@ impl<'f, T: Tagged, const N: usize> PutOpen<'f, T, N> {
     pub fn try_settle_from(
         self,
         items: &mut Burst<T, N>,
-    ) -> Result<Hand<T>, (PutOpen<'f, T, N>, SettleFault)>
+    ) -> Result<Hand<T, S>, (PutOpen<'f, T, N, S>, SettleFault)>
         ensures done { IfOk result (λ h. HasPut self.entry items.old h × (items.new ≡ [])) }
         ensures refused { IfErr result (λ e. SamePut self.entry e.0 × (items.new ≡ items.old)
             × RefusesPut T.numbers self.entry items.old e.0 e.1) }
@@ -80,7 +81,7 @@ impl<'f, T: Tagged, const N: usize> PutOpen<'f, T, N> {
 
     /// Gives up all positions of a span on a head/tail-sync side: `try_settle_from` with no item, without a burst.
     /// Asked: the side is one. One step on a word.
-    pub fn abort(self) -> Hand<T>
+    pub fn abort(self) -> Hand<T, S>
         requires hts { self.ring.shape.plan.put ≡ Hts }
         ensures { HasPut self.entry [] result }
     {
@@ -97,7 +98,7 @@ impl<'f, T: Tagged, const N: usize> PutOpen<'f, T, N> {
     }
 }
 
-impl<'f, T: Tagged, const N: usize> TakeOpenLent<'f, T, N> {
+impl<'f, T: Tagged, const N: usize, S: Stored<T>> TakeOpenLent<'f, T, N, S> {
     /// The first position of the span.
     pub fn start(&self) -> u64
         ensures { result ≡ (take_span self.now).start }
@@ -130,7 +131,7 @@ impl<'f, T: Tagged, const N: usize> TakeOpenLent<'f, T, N> {
         self,
         k: usize,
         items: &mut Burst<T, N>,
-    ) -> Result<Hand<T>, (TakeOpenLent<'f, T, N>, SettleFault)>
+    ) -> Result<Hand<T, S>, (TakeOpenLent<'f, T, N, S>, SettleFault)>
         requires shows { items.old ≡ (take_view self).shown }
         ensures done { IfOk result (λ h. HasTaken self.entry k items.old h × (items.new ≡ take k items.old)) }
         ensures refused { IfErr result (λ e. SameTake self.entry e.0 × (items.new ≡ items.old)

@@ -6,16 +6,17 @@ ghost use Rattle.fabric.specs.Truths.{IsTrueTooEarly};
 ghost use Rattle.fabric.specs.Views.{IsKept};
 
 use crate::hand::{Hand, PutOpen, SettleFault};
+use crate::stored::Stored;
 use burst::{Burst, Tagged};
 
-impl<'f, T: Tagged, const N: usize> PutOpen<'f, T, N> {
+impl<'f, T: Tagged, const N: usize, S: Stored<T>> PutOpen<'f, T, N, S> {
     /// `try_settle_from` with the first `k` items alone: the others stay in the burst, in order, as all do at a
     /// refusal. Asked: there are so many. Where it leaves items it costs as much as a burst of `N` places by value.
     pub fn try_settle_first_from(
         self,
         k: usize,
         items: &mut Burst<T, N>,
-    ) -> Result<Hand<T>, (PutOpen<'f, T, N>, SettleFault)>
+    ) -> Result<Hand<T, S>, (PutOpen<'f, T, N, S>, SettleFault)>
         requires fits { k ≤ length items.old }
         ensures done { IfOk result (λ h. HasPut self.entry (take k items.old) h × (items.new ≡ drop k items.old)) }
         ensures refused { IfErr result (λ e. SamePut self.entry e.0 × (items.new ≡ items.old)
@@ -37,7 +38,7 @@ impl<'f, T: Tagged, const N: usize> PutOpen<'f, T, N> {
         self,
         k: usize,
         items: &mut Burst<T, N>,
-    ) -> Result<Hand<T>, (PutOpen<'f, T, N>, SettleFault)>
+    ) -> Result<Hand<T, S>, (PutOpen<'f, T, N, S>, SettleFault)>
         requires fits { k ≤ length items.old }
         requires at_most { length items.old ≤ N }
         ensures done { IfOk result (λ h. HasPut self.entry (take k items.old) h × (items.new ≡ drop k items.old)) }

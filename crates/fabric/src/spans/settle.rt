@@ -16,6 +16,7 @@ ghost use Rattle.fabric.specs.Views.{span_of};
 
 use crate::ring::{Positions, Ring};
 use crate::slots::skip;
+use crate::stored::{Cell, Stored};
 use atomic_table::Seat;
 use burst::{Cells, Tagged};
 use fabric_laws::View;
@@ -32,9 +33,9 @@ pub(crate) fn is_count(mode: Mode, k: usize, count: usize) -> bool
     }
 }
 
-impl<T: Tagged, const N: usize> Ring<'_, T, N> {
+impl<T: Tagged, const N: usize, S: Stored<T>> Ring<'_, T, N, S> {
     /// Moves the items into the first slots of a put span.
-    fn offer(&self, seat: &mut Seat<Option<T>, View<T>>, range: Positions, cells: &mut Cells<T, N>)
+    fn offer(&self, seat: &mut Seat<Cell<T, S>, View<T>>, range: Positions, cells: &mut Cells<T, N>)
         requires table { seat.old.table_id ≡ self.now.fabric.now.table.shared.table_id }
         requires fits { length cells.old ≤ range.count }
         requires slots { seat.old.me.1 ≡ slots_of self.now range.start (replicate range.count None) }
@@ -51,13 +52,14 @@ impl<T: Tagged, const N: usize> Ring<'_, T, N> {
     /// Moves the items out of the slots of a span into an empty list: those of a take, or those of a put again.
     pub(crate) fn withdraw(
         &self,
-        seat: &mut Seat<Option<T>, View<T>>,
+        seat: &mut Seat<Cell<T, S>, View<T>>,
         range: Positions,
         cells: &mut Cells<T, N>,
     )
         requires table { seat.old.table_id ≡ self.now.fabric.now.table.shared.table_id }
         requires fits { range.count ≤ N }
         requires blank { cells.old ≡ [] }
+        requires packed { values seat.old.me.1 ≡ map Some (somes (values seat.old.me.1)) }
         requires slots { (length (values seat.old.me.1) ≡ range.count)
             × (seat.old.me.1 ≡ slots_of self.now range.start (values seat.old.me.1)) }
         ensures seat { IsSameSeat seat.old seat.new × (seat.new.me.0 ≡ seat.old.me.0) }
@@ -71,7 +73,7 @@ impl<T: Tagged, const N: usize> Ring<'_, T, N> {
     /// items come back, and the tail found is answered.
     pub(crate) fn publish(
         &self,
-        seat: &mut Seat<Option<T>, View<T>>,
+        seat: &mut Seat<Cell<T, S>, View<T>>,
         range: Positions,
         cells: &mut Cells<T, N>,
     ) -> Option<u64>
@@ -114,7 +116,7 @@ impl<T: Tagged, const N: usize> Ring<'_, T, N> {
     /// Puts the items behind the first `k` of a take back into their slots.
     fn keep(
         &self,
-        seat: &mut Seat<Option<T>, View<T>>,
+        seat: &mut Seat<Cell<T, S>, View<T>>,
         range: Positions,
         k: usize,
         cells: &mut Cells<T, N>,
@@ -135,7 +137,7 @@ impl<T: Tagged, const N: usize> Ring<'_, T, N> {
     /// settled, nothing is done, and the tail found is answered.
     pub(crate) fn dequeue(
         &self,
-        seat: &mut Seat<Option<T>, View<T>>,
+        seat: &mut Seat<Cell<T, S>, View<T>>,
         range: Positions,
         k: usize,
         cells: &mut Cells<T, N>,

@@ -26,6 +26,7 @@ use crate::hand::owned::Owned;
 use crate::hand::{Hand, PutOpen, Share, StartFault, TakeOpenLent};
 use crate::plan::Shape;
 use crate::ring::{Positions, Ring};
+use crate::stored::{Cell, Stored};
 use crate::words::steps::position;
 use atomic_table::Seat;
 use burst::{Burst, Tagged};
@@ -87,12 +88,12 @@ fn measure(how: How, n: usize, start: u64, room: u64) -> Result<usize, StartFaul
     Ok(count as usize)
 }
 
-impl<T: Tagged, const N: usize> Ring<'_, T, N> {
+impl<T: Tagged, const N: usize, S: Stored<T>> Ring<'_, T, N, S> {
     /// Looks at a side and asks for its room: two steps on words, or one where the side is busy. Answers the word found
     /// where it is.
     pub(crate) fn probe(
         &self,
-        seat: &mut Seat<Option<T>, View<T>>,
+        seat: &mut Seat<Cell<T, S>, View<T>>,
         side: Side,
     ) -> Result<Probe, u64>
         requires seat { IsSeated self.now seat.old }
@@ -130,7 +131,7 @@ impl<T: Tagged, const N: usize> Ring<'_, T, N> {
     /// What a start does before it reserves: it tells how many positions to reserve, and from where.
     fn aim(
         &self,
-        seat: &mut Seat<Option<T>, View<T>>,
+        seat: &mut Seat<Cell<T, S>, View<T>>,
         side: Side,
         n: usize,
         how: How,
@@ -160,11 +161,11 @@ impl<T: Tagged, const N: usize> Ring<'_, T, N> {
     #[inline]
     fn approach(
         &self,
-        hand: Hand<T>,
+        hand: Hand<T, S>,
         side: Side,
         n: usize,
         how: How,
-    ) -> Result<(Share<T>, Probe, usize), (Hand<T>, StartFault)>
+    ) -> Result<(Share<T, S>, Probe, usize), (Hand<T, S>, StartFault)>
         requires hand { IsHandOf self.now.fabric.now hand }
         ensures aimed { IfOk result (λ a. Aims T.numbers N how n side self.now (view hand) a.0.seat a.1 a.2) }
         ensures refused { IfErr result (λ e. IsHandOf self.now.fabric.now e.0
@@ -195,13 +196,13 @@ impl<T: Tagged, const N: usize> Ring<'_, T, N> {
     /// A start of either side, but for the items of a take: the share with its open span, and where that lies. The hand
     /// comes back where it is refused.
     #[inline]
-    fn start(
+    pub(crate) fn start(
         &self,
-        hand: Hand<T>,
+        hand: Hand<T, S>,
         side: Side,
         n: usize,
         how: How,
-    ) -> Result<(Share<T>, Positions), (Hand<T>, StartFault)>
+    ) -> Result<(Share<T, S>, Positions), (Hand<T, S>, StartFault)>
         requires hand { IsHandOf self.now.fabric.now hand }
         ensures started { IfOk result (λ a. HasStarted T.numbers N how n side self.now (view hand) a.0.seat a.1) }
         ensures refused { IfErr result (λ e. IsHandOf self.now.fabric.now e.0
@@ -239,7 +240,7 @@ impl<T: Tagged, const N: usize> Ring<'_, T, N> {
     }
 }
 
-impl<T: Tagged, const N: usize> Fabric<T, N> {
+impl<T: Tagged, const N: usize, S: Stored<T>> Fabric<T, N, S> {
     /// Tries once to reserve a span of positions for a put: by bulk `n` of them, by burst at most `n`. At most three
     /// steps on words.
     ///
@@ -248,11 +249,11 @@ impl<T: Tagged, const N: usize> Fabric<T, N> {
     /// comes back.
     pub fn try_start_put(
         &self,
-        hand: Hand<T>,
+        hand: Hand<T, S>,
         ring: usize,
         n: usize,
         how: How,
-    ) -> Result<PutOpen<'_, T, N>, (Hand<T>, StartFault)>
+    ) -> Result<PutOpen<'_, T, N, S>, (Hand<T, S>, StartFault)>
         requires hand { IsHandOf self.now hand }
         requires ring { ring < length (rings_of self.now) }
         ensures started { IfOk result (λ o. (put_fabric o ≡ self.now) × ((put_span o).ring ≡ ring)
@@ -290,12 +291,12 @@ impl<T: Tagged, const N: usize> Fabric<T, N> {
     /// `Worn`; `Contended`. The hand comes back, and the burst stays empty.
     pub fn try_start_take_into(
         &self,
-        hand: Hand<T>,
+        hand: Hand<T, S>,
         ring: usize,
         n: usize,
         how: How,
         into: &mut Burst<T, N>,
-    ) -> Result<TakeOpenLent<'_, T, N>, (Hand<T>, StartFault)>
+    ) -> Result<TakeOpenLent<'_, T, N, S>, (Hand<T, S>, StartFault)>
         requires hand { IsHandOf self.now hand }
         requires ring { ring < length (rings_of self.now) }
         requires empty { into.old ≡ [] }

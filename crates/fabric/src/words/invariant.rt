@@ -1,5 +1,6 @@
 //! The rule of a fabric's table: that it is consistent.
 use crate::plan::FabricPlan;
+use crate::stored::{Cell, Stored};
 use atomic_table::TableRule;
 use burst::Tagged;
 use fabric_laws::View;
@@ -10,7 +11,7 @@ pub struct Consistent<T> {
     of: PhantomData<T>,
 }
 
-impl<T: Tagged> TableRule<Option<T>, View<T>, FabricPlan> for Consistent<T> {
+impl<T: Tagged, S: Stored<T>> TableRule<Cell<T, S>, View<T>, FabricPlan> for Consistent<T> {
     ghost use Rattle.std.specs.List.{range_with_len};
     ghost use Rattle.fabric_laws.specs.Changes.{newborn};
     ghost use Rattle.fabric_laws.specs.Rule.{IsConsistent, all_parts};

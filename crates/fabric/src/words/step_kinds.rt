@@ -1,5 +1,6 @@
 //! What each kind of step on a word tells the hand that makes it; a kind that may be refused also tells that all was
 //! consistent as it found its word (`and_was`). These types are for the proofs alone.
+use crate::stored::{Cell, Stored};
 use atomic_table::{Join, Play, Split};
 use burst::Tagged;
 use fabric_laws::View;
@@ -7,7 +8,7 @@ use fabric_laws::View;
 /// Look: a load of the own word.
 pub struct Looks;
 
-impl<T: Tagged> Play<Option<T>, View<T>> for Looks {
+impl<T: Tagged, S: Stored<T>> Play<Cell<T, S>, View<T>> for Looks {
     ghost use Rattle.fabric_laws.specs.Kinds.{look_tells};
     ghost use Rattle.fabric_laws.specs.Refusals.{and_was};
 
@@ -17,7 +18,7 @@ impl<T: Tagged> Play<Option<T>, View<T>> for Looks {
 /// Room: a load of the word that shows how far the other side is settled.
 pub struct Asks;
 
-impl<T: Tagged> Play<Option<T>, View<T>> for Asks {
+impl<T: Tagged, S: Stored<T>> Play<Cell<T, S>, View<T>> for Asks {
     ghost use Rattle.fabric_laws.specs.Kinds.{room_tells};
     ghost use Rattle.fabric_laws.specs.Refusals.{and_was};
 
@@ -27,7 +28,7 @@ impl<T: Tagged> Play<Option<T>, View<T>> for Asks {
 /// Reserve of the put side: an exchange of its own word.
 pub struct ReservesPut;
 
-impl<T: Tagged> Play<Option<T>, View<T>> for ReservesPut {
+impl<T: Tagged, S: Stored<T>> Play<Cell<T, S>, View<T>> for ReservesPut {
     ghost use Rattle.fabric_laws.specs.Kinds.{reserve_put_tells};
     ghost use Rattle.fabric_laws.specs.Refusals.{and_was};
 
@@ -37,7 +38,7 @@ impl<T: Tagged> Play<Option<T>, View<T>> for ReservesPut {
 /// Reserve of the take side: an exchange of its own word.
 pub struct ReservesTake;
 
-impl<T: Tagged> Play<Option<T>, View<T>> for ReservesTake {
+impl<T: Tagged, S: Stored<T>> Play<Cell<T, S>, View<T>> for ReservesTake {
     ghost use Rattle.fabric_laws.specs.Kinds.{reserve_take_tells};
     ghost use Rattle.fabric_laws.specs.Refusals.{and_was};
 
@@ -47,7 +48,7 @@ impl<T: Tagged> Play<Option<T>, View<T>> for ReservesTake {
 /// Settle of a multi side: an exchange of its tail.
 pub struct Settles;
 
-impl<T: Tagged> Play<Option<T>, View<T>> for Settles {
+impl<T: Tagged, S: Stored<T>> Play<Cell<T, S>, View<T>> for Settles {
     ghost use Rattle.fabric_laws.specs.Kinds.{settle_tells};
     ghost use Rattle.fabric_laws.specs.Refusals.{and_was};
 
@@ -57,7 +58,7 @@ impl<T: Tagged> Play<Option<T>, View<T>> for Settles {
 /// Settle of an HTS side: a store of its word.
 pub struct Stores;
 
-impl<T: Tagged> Play<Option<T>, View<T>> for Stores {
+impl<T: Tagged, S: Stored<T>> Play<Cell<T, S>, View<T>> for Stores {
     ghost use Rattle.fabric_laws.specs.Kinds.{store_tells};
 
     ghost then = { store_tells T.numbers };
@@ -77,7 +78,7 @@ impl<T> Split<View<T>> for Halves {
 /// Learn: a load that is no step of a start or a settle. It is counted by itself.
 pub struct Learns;
 
-impl<T: Tagged> Play<Option<T>, View<T>> for Learns {
+impl<T: Tagged, S: Stored<T>> Play<Cell<T, S>, View<T>> for Learns {
     ghost use Rattle.fabric_laws.specs.Kinds.{learn_tells};
 
     ghost then = { learn_tells T.numbers };

@@ -17,6 +17,7 @@ ghost use Rattle.fabric.specs.Views.{HasLooked, HasSeen, span_of};
 ghost use Rattle.fabric_laws.specs.Words.{own_at, settled_word_at, tail_at};
 
 use crate::ring::Ring;
+use crate::stored::{Cell, Stored};
 use crate::words::step_kinds::{Asks, Looks, ReservesPut, ReservesTake, Settles, Stores};
 use atomic_table::Seat;
 use burst::Tagged;
@@ -79,9 +80,9 @@ pub(crate) fn position(mode: Mode, word: u64) -> u64
     }
 }
 
-impl<T: Tagged, const N: usize> Ring<'_, T, N> {
+impl<T: Tagged, const N: usize, S: Stored<T>> Ring<'_, T, N, S> {
     /// Look: loads the own word of a side.
-    pub(crate) fn look(&self, seat: &mut Seat<Option<T>, View<T>>, side: Side) -> u64
+    pub(crate) fn look(&self, seat: &mut Seat<Cell<T, S>, View<T>>, side: Side) -> u64
         requires seat { IsSeated self.now seat.old }
         ensures seat { IsSameSeat seat.old seat.new }
         ensures view { (seat.new.me.0
@@ -99,7 +100,7 @@ impl<T: Tagged, const N: usize> Ring<'_, T, N> {
     }
 
     /// Room: loads the word that shows how far the other side is settled, and gives that position.
-    pub(crate) fn ask(&self, seat: &mut Seat<Option<T>, View<T>>, side: Side, word: u64) -> u64
+    pub(crate) fn ask(&self, seat: &mut Seat<Cell<T, S>, View<T>>, side: Side, word: u64) -> u64
         requires seat { IsSeated self.now seat.old }
         requires idle { seat.old.me.0.party.span ≡ None }
         requires looked { HasLooked self.now.index side word seat.old.me.0 }
@@ -127,7 +128,7 @@ impl<T: Tagged, const N: usize> Ring<'_, T, N> {
 
     /// Reserve of the put side: moves its own word from the one looked at past `count` positions, whose slots come to
     /// the hand.
-    fn reserve_put(&self, seat: &mut Seat<Option<T>, View<T>>, word: u64, count: usize) -> u64
+    fn reserve_put(&self, seat: &mut Seat<Cell<T, S>, View<T>>, word: u64, count: usize) -> u64
         requires seat { IsSeated self.now seat.old }
         requires idle { seat.old.me.0.party.span ≡ None }
         requires seen { (t : ℕ) × HasSeen self.now.index Put word t seat.old.me.0
@@ -154,7 +155,7 @@ impl<T: Tagged, const N: usize> Ring<'_, T, N> {
 
     /// Reserve of the take side: the slots come to the hand with the items that are published there. Those of a free
     /// ring carry one buffer each.
-    fn reserve_take(&self, seat: &mut Seat<Option<T>, View<T>>, word: u64, count: usize) -> u64
+    fn reserve_take(&self, seat: &mut Seat<Cell<T, S>, View<T>>, word: u64, count: usize) -> u64
         requires seat { IsSeated self.now seat.old }
         requires idle { seat.old.me.0.party.span ≡ None }
         requires seen { (t : ℕ) × HasSeen self.now.index Take word t seat.old.me.0
@@ -184,7 +185,7 @@ impl<T: Tagged, const N: usize> Ring<'_, T, N> {
     #[inline]
     pub(crate) fn reserve(
         &self,
-        seat: &mut Seat<Option<T>, View<T>>,
+        seat: &mut Seat<Cell<T, S>, View<T>>,
         side: Side,
         word: u64,
         count: usize,
@@ -213,7 +214,7 @@ impl<T: Tagged, const N: usize> Ring<'_, T, N> {
     /// Settle of a multi side: moves its tail from the start of the open span to its end, and the slots go home.
     pub(crate) fn settle(
         &self,
-        seat: &mut Seat<Option<T>, View<T>>,
+        seat: &mut Seat<Cell<T, S>, View<T>>,
         side: Side,
         start: u64,
         count: usize,
@@ -246,7 +247,7 @@ impl<T: Tagged, const N: usize> Ring<'_, T, N> {
     /// slots go home.
     pub(crate) fn store(
         &self,
-        seat: &mut Seat<Option<T>, View<T>>,
+        seat: &mut Seat<Cell<T, S>, View<T>>,
         side: Side,
         start: u64,
         k: usize,

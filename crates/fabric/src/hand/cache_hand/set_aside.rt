@@ -8,11 +8,12 @@ ghost use Rattle.fabric.specs.Owned.{one_if};
 use crate::fabric::Fabric;
 use crate::hand::cache_hand::CacheHand;
 use crate::hand::{Hand, Share};
+use crate::stored::Stored;
 use burst::{Burst, Tagged};
 
-impl<T: Tagged> Hand<T> {
+impl<T: Tagged, S: Stored<T>> Hand<T, S> {
     /// The hand as one that sets buffers aside, none so far. No step on a word.
-    pub fn into_cache_hand(self) -> CacheHand<T>
+    pub fn into_cache_hand(self) -> CacheHand<T, S>
         ensures seat { IsCacheHandFor self result }
         ensures none { Keeps T.numbers result [] }
     {
@@ -22,7 +23,7 @@ impl<T: Tagged> Hand<T> {
     }
 }
 
-impl<T: Tagged> CacheHand<T> {
+impl<T: Tagged, S: Stored<T>> CacheHand<T, S> {
     /// Whether a buffer is the hand's own and not set aside. No step on a word.
     pub fn has_spare(&self, b: u32) -> bool
         ensures { spare self.now b ≡ one_if result }
@@ -46,7 +47,7 @@ impl<T: Tagged> CacheHand<T> {
     #[inline]
     pub fn may_put<const N: usize>(
         &mut self,
-        fabric: &Fabric<T, N>,
+        fabric: &Fabric<T, N, S>,
         ring: usize,
         items: &Burst<T, N>,
     ) -> bool
@@ -86,7 +87,7 @@ impl<T: Tagged> CacheHand<T> {
     }
 
     /// The hand again. Asked: these items carry the buffers that are set aside. No step on a word.
-    pub fn into_hand<const N: usize>(self, items: &Burst<T, N>) -> Hand<T>
+    pub fn into_hand<const N: usize>(self, items: &Burst<T, N>) -> Hand<T, S>
         requires kept { Keeps T.numbers self items.now }
         ensures { IsCacheHandFor result self }
     {

@@ -8,6 +8,7 @@ use Rattle.burst.specs.Items.{somes}
 use Rattle.fabric.specs.Owned.{IsRow}
 use Rattle.fabric.specs.Starts.{RefusesStart, Starts}
 use Rattle.fabric.specs.Hands.{view}
+use Rattle.fabric.specs.Slots.{values}
 use Rattle.fabric.proofs.Settling.{packed_from, row_held, row_values, somes_of}
 use Rattle.fabric.proofs.Starting.{same_ring, shape_at}
 use Rattle.fabric.proofs.fabric.Fabric.try_start_take_into.Goals as goal
@@ -43,7 +44,13 @@ withdraw-requires g c =
           h.seated.table,
           (
             h.fits,
-            (blank, row_held slot range.start range.count s.me.0.shown (h.full refl) s.me.1 h.slots),
+            (
+              blank,
+              (
+                packed_from (values s.me.1) s.me.0.shown (row_values slot range.start range.count s.me.0.shown (h.full refl) s.me.1 h.slots),
+                row_held slot range.start range.count s.me.0.shown (h.full refl) s.me.1 h.slots,
+              ),
+            ),
           ),
         ),
       ),

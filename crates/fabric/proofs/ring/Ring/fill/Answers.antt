@@ -1,5 +1,6 @@
-use Rattle.std.proofs.Common.{◌-◌, ◌≤◌, ◌<◌, ◌+◌, ap, arith, drop, length, length-set, length-drop, sym, take, None, ◌∙◌}
+use Rattle.std.proofs.Common.{◌∷◌, ◌-◌, ◌≤◌, ◌<◌, ◌+◌, ap, arith, drop, length, length-set, length-drop, sym, take, None, ◌∙◌}
 use Rattle.std.proofs.lemmas.List.{drop-set-add, get_or-drop, take-set-le}
+use Rattle.atomic_table.specs.Table.{rest}
 use Rattle.fabric.specs.Shapes.{shape_slot}
 use Rattle.fabric.proofs.Turns.{fill_asks, fill_cells, fill_next}
 use Rattle.fabric.proofs.ring.Ring.fill.Goals as goal
@@ -35,7 +36,7 @@ loop-i-preserved g c =
           (drop k c.loop-i.cells)
           inv.held inv.behind (length-drop k c.args.cells.now) here c.slot-slot.result c.slot-slot.ensures given c.exchange-found.new.seat.me.1
           c.turn.new.self.me.1
-          (c.replace-given.ensures.value ∙ sym (get_or-drop k c.loop-i.cells i given)) (ap (λ m. m.1) x.3) (ap (λ m. m.1) t.2);
+          (c.replace-given.ensures.value ∙ sym (get_or-drop k c.loop-i.cells i given)) (ap (λ m. m.1) x.3 ∙ ap (λ v. (c.slot-slot.result, v) ∷ rest c.loop-i.seat.me.1) c.of.ensures) (ap (λ m. m.1) t.2);
       long = ap length c.replace-given.ensures.after ∙ (length-set c.loop-i.cells (k + i) None ∙ inv.long);
       front = ap (take k) c.replace-given.ensures.after ∙ (take-set-le k c.loop-i.cells (k + i) None behind ∙ inv.front);
       behind = ap (drop k) c.replace-given.ensures.after

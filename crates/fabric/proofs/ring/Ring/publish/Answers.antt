@@ -1,4 +1,5 @@
-use Rattle.std.proofs.Common.{ap, length, rules, sym, ◌∙◌}
+use Rattle.std.proofs.Common.{ap, length, map, rules, sym, Some, ◌∙◌}
+use Rattle.burst.specs.Items.{somes}
 use Rattle.fabric_laws.specs.Changes.{missed}
 use Rattle.fabric_laws.specs.Words.{slot_at}
 use Rattle.fabric.proofs.Settling.{back_held, back_is, count_whole}
@@ -17,7 +18,11 @@ withdraw-requires g c =
     let held =
     back_held (slot_at c.args.self.now.fabric.now.plan.rings.items c.args.self.now.index p) c.args.range.start c.args.range.count cells
     c.settle-found.new.seat.me.1 (lost.1 ∙ c.offer.ensures.slots) all in
-    (search rules, (search rules, (c.settle-found.ensures.seat.0 ∙ (c.offer.ensures.seat.0.0 ∙ q.seat.table), (q.fits, (c.offer.ensures.cells, held)))))
+    let back =
+    back_is (slot_at c.args.self.now.fabric.now.plan.rings.items c.args.self.now.index p) c.args.range.start c.args.range.count cells
+    c.settle-found.new.seat.me.1 (lost.1 ∙ c.offer.ensures.slots) all in
+    let packed = back ∙ (q.packed ∙ ap (λ l. map Some (somes l)) (sym back)) in
+    (search rules, (search rules, (c.settle-found.ensures.seat.0 ∙ (c.offer.ensures.seat.0.0 ∙ q.seat.table), (q.fits, (c.offer.ensures.cells, (packed, held))))))
 
 pub returns-else-found-range-clause-early : goal.returns-else-found-range-clause-early
 returns-else-found-range-clause-early g c =
