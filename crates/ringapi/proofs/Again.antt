@@ -5,6 +5,7 @@ use Rattle.geom.specs.declared.plan.RingPlan.{RingPlan}
 use Rattle.geom.specs.declared.plan.Side.{Side}
 use Rattle.geom.specs.declared.plan.Side.TheVariants.{Put}
 use Rattle.burst.specs.declared.tagged.Tagged.{Ghosts}
+use Rattle.fabric.specs.declared.stored.Stored.{Ghosts as StoredGhosts}
 use Rattle.fabric_laws.specs.declared.view.View.{View}
 use Rattle.fabric.specs.declared.hand.Hand.{Hand}
 use Rattle.fabric.specs.declared.hand.PutOpen.{PutOpen}
@@ -40,12 +41,12 @@ module _ {T : Type 0} (tags : T → List ℕ) (most : ℕ) (how : How) (n ring :
   reserved_few v u starts start count left shown tails is =
       count_few tags most how n ring side plan is.seen start count left shown is.opened is.started
 
-abbrev refused_as : {T : Type 0} {G : Ghosts T} (N : ℕ) → Hand T G → Refusal → PutAnswer T N G
+abbrev refused_as : {T : Type 0} {S : Type 0} {G : Ghosts T} {H : StoredGhosts S T} (N : ℕ) → Hand T S G H → Refusal → PutAnswer T N S G H
 refused_as N h why = Refused h why
 
-module _ {T : Type 0} {G : Ghosts T} (N : ℕ) (tags : T → List ℕ) (how : How) (ring : ℕ) (plan : RingPlan) (v : View T) (items : List T) where
+module _ {T : Type 0} {S : Type 0} {G : Ghosts T} {H : StoredGhosts S T} (N : ℕ) (tags : T → List ℕ) (how : How) (ring : ℕ) (plan : RingPlan) (v : View T) (items : List T) where
   -- a put that was refused as it started, and one more try
-  put_after : (w : View T) (starts : List (View T × StartFault)) (answer : PutAnswer T N G) (rest : List T) → AreYours tags plan v items
+  put_after : (w : View T) (starts : List (View T × StartFault)) (answer : PutAnswer T N S G H) (rest : List T) → AreYours tags plan v items
       → AreYours tags plan w items → RefusedStarts tags N how (length items) ring Put plan v starts w
       → PutTells tags how ring plan w items [] [] answer rest → PutTells tags how ring plan v items starts [] answer rest
   put_after w starts (Done h moved) rest yours now before is = (
@@ -72,7 +73,7 @@ module _ {T : Type 0} {G : Ghosts T} (N : ℕ) (tags : T → List ℕ) (how : Ho
   )
 
   -- what was the hand's to put before a refused start is so after it
-  pub refused_yours : (h : Hand T G) (why : Refusal) (rest : List T) → IsUnfinishedPut (refused_as N h why)
+  pub refused_yours : (h : Hand T S G H) (why : Refusal) (rest : List T) → IsUnfinishedPut (refused_as N h why)
       → PutHasTold tags how ring plan v items (refused_as N h why) rest → AreYours tags plan (view h) items
   refused_yours h (Start e) rest open_still told =
       let is = told.2 in
@@ -80,12 +81,12 @@ module _ {T : Type 0} {G : Ghosts T} (N : ℕ) (tags : T → List ℕ) (how : Ho
       ∙ starts_kept tags N how (length items) ring Put plan v told.0 is.2 is.3) is.0
   refused_yours h NotYours rest open_still told = absurd open_still
 
-  pub had_is : (h : Hand T G) (why : Refusal) (had : List T) → IsUnfinishedPut (refused_as N h why)
+  pub had_is : (h : Hand T S G H) (why : Refusal) (had : List T) → IsUnfinishedPut (refused_as N h why)
       → PutHasTold tags how ring plan v items (refused_as N h why) had → had ≡ items
   had_is h (Start e) had open_still told = told.2.1
   had_is h NotYours had open_still told = told.2.1
 
-  pub put_again : (h : Hand T G) (why : Refusal) (had rest : List T) (answer : PutAnswer T N G) → IsUnfinishedPut (refused_as N h why)
+  pub put_again : (h : Hand T S G H) (why : Refusal) (had rest : List T) (answer : PutAnswer T N S G H) → IsUnfinishedPut (refused_as N h why)
       → PutHasTold tags how ring plan v items (refused_as N h why) had → PutTells tags how ring plan (view h) had [] [] answer rest
       → PutHasTold tags how ring plan v items answer rest
   put_again h NotYours had rest answer open_still told is = absurd open_still
@@ -98,7 +99,7 @@ module _ {T : Type 0} {G : Ghosts T} (N : ℕ) (tags : T → List ℕ) (how : Ho
       )
 
   -- a put whose span is open, and one more settle
-  pub open_first : (o : PutOpen T N G) (tail : ℕ) (had : List T) → PutHasTold tags how ring plan v items (Open o tail) had → (put_span o).ring ≡ ring
+  pub open_first : (o : PutOpen T N S G H) (tail : ℕ) (had : List T) → PutHasTold tags how ring plan v items (Open o tail) had → (put_span o).ring ≡ ring
       → ((put_span o).count ≤ length had) × AreYours tags plan (put_view o) (take (put_span o).count had)
   open_first o tail had told at =
       let is = told.2 in
@@ -115,7 +116,7 @@ module _ {T : Type 0} {G : Ghosts T} (N : ℕ) (tags : T → List ℕ) (how : Ho
             (subst (AreYours tags plan (put_view o)) (sym is.1) (opened_yours tags plan v (put_view o) items _ party is.0)),
       )
 
-  pub settle_more : (o : PutOpen T N G) (tail : ℕ) (had rest : List T) (answer : PutAnswer T N G) → (put_span o).ring ≡ ring → o.ring.shape.plan ≡ plan
+  pub settle_more : (o : PutOpen T N S G H) (tail : ℕ) (had rest : List T) (answer : PutAnswer T N S G H) → (put_span o).ring ≡ ring → o.ring.shape.plan ≡ plan
       → PutHasTold tags how ring plan v items (Open o tail) had → SettlesPut o had answer rest → PutHasTold tags how ring plan v items answer rest
   settle_more o tail had rest answer at same told is =
       let before = told.2 in (

@@ -7,6 +7,7 @@ use Rattle.geom.specs.declared.plan.RingPlan.{RingPlan}
 use Rattle.geom.specs.declared.plan.Side.TheVariants.{Put}
 use Rattle.ringcore_laws.specs.declared.protocol.Span.{Span}
 use Rattle.burst.specs.declared.tagged.Tagged.{Ghosts}
+use Rattle.fabric.specs.declared.stored.Stored.{Ghosts as StoredGhosts}
 use Rattle.fabric_laws.specs.declared.view.View.{View}
 use Rattle.fabric_laws.specs.Changes.{settled}
 use Rattle.fabric.specs.declared.fabric.Fabric.{Fabric}
@@ -46,23 +47,23 @@ abbrev fault_of : Refusal → StartFault
 fault_of (Start e) = e
 fault_of NotYours = Worn
 
-module _ {T : Type 0} {G : Ghosts T} {N : ℕ} where
+module _ {T : Type 0} {S : Type 0} {G : Ghosts T} {H : StoredGhosts S T} {N : ℕ} where
   -- the plan of an open span's ring
-  pub plan_of : (o : PutOpen T N G) (f : Fabric T N) (ring : ℕ) → put_fabric o ≡ f → (put_span o).ring ≡ ring
+  pub plan_of : (o : PutOpen T N S G H) (f : Fabric T N S) (ring : ℕ) → put_fabric o ≡ f → (put_span o).ring ≡ ring
       → slice_get (rings_of f) ring ≡ Some o.ring.shape.plan
   plan_of o f ring same at = (λ i. slice_get (rings_of (sym same i)) (sym at i)) ∙ o.ring.in_plan.0
 
   -- a settle keeps the fabric
-  pub settled_of : (f : Fabric T N) (ring : ℕ) (o : PutOpen T N G) (items : List T) (answer : PutAnswer T N G) (rest : List T) → put_fabric o ≡ f
+  pub settled_of : (f : Fabric T N S) (ring : ℕ) (o : PutOpen T N S G H) (items : List T) (answer : PutAnswer T N S G H) (rest : List T) → put_fabric o ≡ f
       → (put_span o).ring ≡ ring → SettlesPut o items answer rest → IsPutOf f ring answer
-  settled_of f ring o items (Done h moved) rest same at is = subst (λ (z : Fabric T N). IsHandOf z h) same is.0.0
+  settled_of f ring o items (Done h moved) rest same at is = subst (λ (z : Fabric T N S). IsHandOf z h) same is.0.0
   settled_of f ring o items (Refused h why) rest same at is = absurd is
   settled_of f ring o items (Open q tail) rest same at is = (is.0.0 ∙ same, ap (λ s. s.ring) is.0.1 ∙ at)
 
   module _ (tags : T → List ℕ) (how : How) (ring : ℕ) (plan : RingPlan) (v : View T) (items : List T) (starts : List (View T × StartFault)) (tails : List ℕ)
     where
       -- a settle of a span that was reserved
-      pub settled_tells : (o : PutOpen T N G) (answer : PutAnswer T N G) (rest : List T) → (put_span o).ring ≡ ring → o.ring.shape.plan ≡ plan
+      pub settled_tells : (o : PutOpen T N S G H) (answer : PutAnswer T N S G H) (rest : List T) → (put_span o).ring ≡ ring → o.ring.shape.plan ≡ plan
           → AreYours tags plan v items
           → IsReserved tags N how (length items) ring Put plan v starts (put_span o).start (put_span o).count (put_left o) [] tails (put_view o)
           → SettlesPut o items answer rest → PutTells tags how ring plan v items starts tails answer rest
@@ -90,7 +91,7 @@ module _ {T : Type 0} {G : Ghosts T} {N : ℕ} where
       )
 
       -- in short
-      pub tells_settles : (f : Fabric T N) (answer : PutAnswer T N G) (rest : List T) → slice_get (rings_of f) ring ≡ Some plan → IsPutOf f ring answer
+      pub tells_settles : (f : Fabric T N S) (answer : PutAnswer T N S G H) (rest : List T) → slice_get (rings_of f) ring ≡ Some plan → IsPutOf f ring answer
           → PutTells tags how ring plan v items starts tails answer rest → PutSettles ring v items answer
       tells_settles f (Done h moved) rest at made is =
           moved_settles tags N how (length items) ring Put plan v starts moved.count moved.left [] tails (take moved.count items) (view h) is.2

@@ -7,6 +7,7 @@ use Rattle.geom.specs.declared.plan.RingPlan.{RingPlan}
 use Rattle.geom.specs.declared.plan.Side.TheVariants.{Take}
 use Rattle.ringcore_laws.specs.declared.protocol.Span.{Span}
 use Rattle.burst.specs.declared.tagged.Tagged.{Ghosts}
+use Rattle.fabric.specs.declared.stored.Stored.{Ghosts as StoredGhosts}
 use Rattle.fabric_laws.specs.declared.view.View.{View}
 use Rattle.fabric_laws.specs.Changes.{settled}
 use Rattle.fabric.specs.declared.fabric.Fabric.{Fabric}
@@ -34,30 +35,30 @@ only_early tags mode plan k count start items v w BadCount all r other early = r
 only_early tags mode plan k count start items v w NotYours all r other early = other refl
 only_early tags mode plan k count start items v w (NotYet x) all r other early = early x refl
 
-module _ {T : Type 0} {G : Ghosts T} {N : ℕ} where
+module _ {T : Type 0} {S : Type 0} {G : Ghosts T} {H : StoredGhosts S T} {N : ℕ} where
   -- the plan of an open span's ring
-  pub plan_of : (o : TakeOpenLent T N G) (f : Fabric T N) (ring : ℕ) → take_fabric o ≡ f → (take_span o).ring ≡ ring
+  pub plan_of : (o : TakeOpenLent T N S G H) (f : Fabric T N S) (ring : ℕ) → take_fabric o ≡ f → (take_span o).ring ≡ ring
       → slice_get (rings_of f) ring ≡ Some o.ring.shape.plan
   plan_of o f ring same at = (λ i. slice_get (rings_of (sym same i)) (sym at i)) ∙ o.ring.in_plan.0
 
   -- all items of a span
-  pub all_of : (o : TakeOpenLent T N G) (items : List T) (k : ℕ) → items ≡ (take_view o).shown → k ≡ (take_span o).count
+  pub all_of : (o : TakeOpenLent T N S G H) (items : List T) (k : ℕ) → items ≡ (take_view o).shown → k ≡ (take_span o).count
       → (length items ≡ k) × (take k items ≡ items)
   all_of o items k shows all =
       let long : length items ≡ k = ap length shows ∙ (o.many ∙ sym all) in
       (long, ap (λ n. take n items) (sym long) ∙ take-length items)
 
   -- a settle keeps the fabric
-  pub settled_of : (tags : T → List ℕ) (f : Fabric T N) (ring : ℕ) (o : TakeOpenLent T N G) (items : List T) (answer : TakeAnswer T N G) (rest : List T)
+  pub settled_of : (tags : T → List ℕ) (f : Fabric T N S) (ring : ℕ) (o : TakeOpenLent T N S G H) (items : List T) (answer : TakeAnswer T N S G H) (rest : List T)
       → take_fabric o ≡ f → (take_span o).ring ≡ ring → SettlesTake tags o items answer rest → IsTakeOf f ring answer
-  settled_of tags f ring o items (Done h moved) rest same at is = subst (λ (z : Fabric T N). IsHandOf z h) same is.0
+  settled_of tags f ring o items (Done h moved) rest same at is = subst (λ (z : Fabric T N S). IsHandOf z h) same is.0
   settled_of tags f ring o items (Refused h e) rest same at is = absurd is
   settled_of tags f ring o items (Open q tail) rest same at is = (is.0.0 ∙ same, ap (λ s. s.ring) is.0.1 ∙ at)
 
-module _ {T : Type 0} {G : Ghosts T} (N : ℕ) (tags : T → List ℕ) (how : How) (n ring : ℕ) (plan : RingPlan) (v : View T) where
+module _ {T : Type 0} {S : Type 0} {G : Ghosts T} {H : StoredGhosts S T} (N : ℕ) (tags : T → List ℕ) (how : How) (n ring : ℕ) (plan : RingPlan) (v : View T) where
   module _ (starts : List (View T × StartFault)) (tails : List ℕ) where
     -- a settle of a span that was reserved
-    pub settled_tells : (o : TakeOpenLent T N G) (items : List T) (answer : TakeAnswer T N G) (rest : List T) → (take_span o).ring ≡ ring
+    pub settled_tells : (o : TakeOpenLent T N S G H) (items : List T) (answer : TakeAnswer T N S G H) (rest : List T) → (take_span o).ring ≡ ring
         → o.ring.shape.plan ≡ plan → items ≡ (take_view o).shown
         → IsReserved tags N how n ring Take plan v starts (take_span o).start (take_span o).count (take_left o) items tails (take_view o)
         → SettlesTake tags o items answer rest → TakeTells tags how n ring plan v starts tails answer rest
@@ -84,7 +85,7 @@ module _ {T : Type 0} {G : Ghosts T} (N : ℕ) (tags : T → List ℕ) (how : Ho
     )
 
     -- in short
-    pub tells_settles : (f : Fabric T N) (answer : TakeAnswer T N G) (items : List T) → slice_get (rings_of f) ring ≡ Some plan → IsTakeOf f ring answer
+    pub tells_settles : (f : Fabric T N S) (answer : TakeAnswer T N S G H) (items : List T) → slice_get (rings_of f) ring ≡ Some plan → IsTakeOf f ring answer
         → TakeTells tags how n ring plan v starts tails answer items → TakeSettles ring v answer items
     tells_settles f (Done h moved) items at made is =
         moved_settles tags N how n ring Take plan v starts moved.count moved.left items tails items (view h) is.2
@@ -96,7 +97,7 @@ module _ {T : Type 0} {G : Ghosts T} (N : ℕ) (tags : T → List ℕ) (how : Ho
         reserved_settles tags N how n ring Take plan v starts (take_span o).start (take_span o).count (take_left o) items (tail ∷ tails) (take_view o) is.3
 
   -- a take that was refused as it started, and one more try
-  take_after : (w : View T) (starts : List (View T × StartFault)) (answer : TakeAnswer T N G) (items : List T)
+  take_after : (w : View T) (starts : List (View T × StartFault)) (answer : TakeAnswer T N S G H) (items : List T)
       → RefusedStarts tags N how n ring Take plan v starts w → TakeTells tags how n ring plan w [] [] answer items
       → TakeTells tags how n ring plan v starts [] answer items
   take_after w starts (Done h moved) items before is = (
@@ -118,19 +119,27 @@ module _ {T : Type 0} {G : Ghosts T} (N : ℕ) (tags : T → List ℕ) (how : Ho
     reserved_after tags N how n ring Take plan v w (take_view o) starts (take_span o).start (take_span o).count (take_left o) items (tail ∷ []) before is.3,
   )
 
-  abbrev pub refused_take : Hand T G → StartFault → TakeAnswer T N G
+  abbrev pub refused_take : Hand T S G H → StartFault → TakeAnswer T N S G H
   refused_take h e = Refused h e
 
-  pub take_again : (h : Hand T G) (e : StartFault) (had items : List T) (answer : TakeAnswer T N G) → IsTransient e
+  pub take_again : (h : Hand T S G H) (e : StartFault) (had items : List T) (answer : TakeAnswer T N S G H) → IsTransient e
       → TakeHasTold tags how n ring plan v (refused_take h e) had → TakeTells tags how n ring plan (view h) [] [] answer items
       → TakeHasTold tags how n ring plan v answer items
   take_again h e had items answer open_still told is =
       let before = told.2 in
       ((before.1, e) ∷ told.0, [], take_after (view h) ((before.1, e) ∷ told.0) answer items (before.3, open_still, before.2) is)
 
-  pub settle_more : (o : TakeOpenLent T N G) (tail : ℕ) (had items : List T) (answer : TakeAnswer T N G) → (take_span o).ring ≡ ring
+  pub settle_more : (o : TakeOpenLent T N S G H) (tail : ℕ) (had items : List T) (answer : TakeAnswer T N S G H) → (take_span o).ring ≡ ring
       → o.ring.shape.plan ≡ plan → TakeHasTold tags how n ring plan v (Open o tail) had → SettlesTake tags o had answer items
       → TakeHasTold tags how n ring plan v answer items
   settle_more o tail had items answer at same told is =
       let before = told.2 in
       (told.0, tail ∷ told.1, settled_tells told.0 (tail ∷ told.1) o had answer items at same before.0 before.3 is)
+
+  -- a take that was refused moved nothing
+  pub none_shown : (h : Hand T S G H) (e : StartFault) (had : List T) → TakeHasTold tags how n ring plan v (refused_take h e) had → had ≡ []
+  none_shown h e had told = told.2.0
+
+  -- an open span shows its items
+  pub span_shown : (o : TakeOpenLent T N S G H) (tail : ℕ) (had : List T) → TakeHasTold tags how n ring plan v (Open o tail) had → had ≡ (take_view o).shown
+  span_shown o tail had told = told.2.0

@@ -7,6 +7,7 @@ use Rattle.geom.specs.declared.plan.RingPlan.{RingPlan}
 use Rattle.geom.specs.declared.plan.Side.TheVariants.{Take}
 use Rattle.burst.specs.Numbers.{AreDistinct}
 use Rattle.burst.specs.declared.tagged.Tagged.{Ghosts}
+use Rattle.fabric.specs.declared.stored.Stored.{Ghosts as StoredGhosts}
 use Rattle.fabric_laws.specs.declared.view.View.{View}
 use Rattle.fabric_laws.specs.Changes.{missed, settled}
 use Rattle.fabric.specs.declared.fabric.Fabric.{Fabric}
@@ -21,9 +22,9 @@ use Rattle.ringapi.specs.declared.answers.TakeAnswer.TheVariants.{Done, Refused,
 use Rattle.ringapi.specs.Views.{HasSettled, IsMoved, IsReserved, IsTransient, RefusedStarts}
 use Rattle.ringapi.specs.Views.{SettledNothing}
 
-module _ {T : Type 0} {G : Ghosts T} {N : ℕ} where
+module _ {T : Type 0} {S : Type 0} {G : Ghosts T} {H : StoredGhosts S T} {N : ℕ} where
   -- the hand, or the open span, is of this fabric, and of this ring
-  abbrev pub IsTakeOf : Fabric T N → ℕ → TakeAnswer T N G → Type 0
+  abbrev pub IsTakeOf : Fabric T N S → ℕ → TakeAnswer T N S G H → Type 0
   IsTakeOf f ring (Done h moved) = IsHandOf f h
   IsTakeOf f ring (Refused h why) = IsHandOf f h
   IsTakeOf f ring (Open o tail) = (take_fabric o ≡ f) × ((take_span o).ring ≡ ring)
@@ -31,7 +32,7 @@ module _ {T : Type 0} {G : Ghosts T} {N : ℕ} where
   -- What a take of n items answers, after starts and settles that were refused before its last. The items are those
   -- that it took, or those that its open span shows
   abbrev pub TakeTells : (T → List ℕ) → How → ℕ → ℕ → RingPlan → View T → List (View T × StartFault) → List ℕ
-      → TakeAnswer T N G → List T → Type 0
+      → TakeAnswer T N S G H → List T → Type 0
   TakeTells tags how n ring plan v starts tails (Done h moved) items =
       (length items ≡ moved.count) × AreDistinct (flat_map tags items)
       × IsMoved tags N how n ring Take plan v starts moved.count moved.left items tails items (view h)
@@ -44,24 +45,24 @@ module _ {T : Type 0} {G : Ghosts T} {N : ℕ} where
       (tail ∷ tails) (take_view o)
 
   -- the same in short: one span was settled with these items, or nothing was
-  abbrev pub TakeSettles : ℕ → View T → TakeAnswer T N G → List T → Type 0
+  abbrev pub TakeSettles : ℕ → View T → TakeAnswer T N S G H → List T → Type 0
   TakeSettles ring v (Done h moved) items = HasSettled ring Take items v (view h)
   TakeSettles ring v (Refused h e) items = SettledNothing v (view h) × (e ≡ Worn → IsWornAt N (view h))
   TakeSettles ring v (Open o tail) items = SettledNothing v (take_view o)
 
   -- the same after some starts and settles that were refused
-  abbrev pub TakeHasTold : (T → List ℕ) → How → ℕ → ℕ → RingPlan → View T → TakeAnswer T N G → List T → Type 0
+  abbrev pub TakeHasTold : (T → List ℕ) → How → ℕ → ℕ → RingPlan → View T → TakeAnswer T N S G H → List T → Type 0
   TakeHasTold tags how n ring plan v answer items = (starts : List (View T × StartFault)) × (tails : List ℕ)
       × TakeTells tags how n ring plan v starts tails answer items
 
   -- what a waiting take doesn't answer, but tries again
-  abbrev pub IsUnfinishedTake : TakeAnswer T N G → Type 0
+  abbrev pub IsUnfinishedTake : TakeAnswer T N S G H → Type 0
   IsUnfinishedTake (Done h moved) = ⊥
   IsUnfinishedTake (Refused h e) = IsTransient e
   IsUnfinishedTake (Open o tail) = ⊤
 
   -- what the settle of a take's span with all its items answers
-  abbrev pub SettlesTake : (T → List ℕ) → TakeOpenLent T N G → List T → TakeAnswer T N G → List T → Type 0
+  abbrev pub SettlesTake : (T → List ℕ) → TakeOpenLent T N S G H → List T → TakeAnswer T N S G H → List T → Type 0
   SettlesTake tags o items (Done h moved) rest =
       IsHandOf (take_fabric o) h × (view h ≡ settled (take_span o) items (take_view o))
       × (length items ≡ moved.count) × (moved.count ≡ (take_span o).count) × (moved.left ≡ take_left o)

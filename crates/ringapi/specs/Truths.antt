@@ -3,6 +3,7 @@ use Rattle.std.specs.Prelude.{◌≡◌, ⊤, ℕ, List}
 use Rattle.geom.specs.declared.plan.RingPlan.{RingPlan}
 use Rattle.geom.specs.declared.plan.Side.TheVariants.{Put, Take}
 use Rattle.burst.specs.declared.tagged.Tagged.{Ghosts}
+use Rattle.fabric.specs.declared.stored.Stored.{Ghosts as StoredGhosts}
 use Rattle.fabric_laws.specs.declared.view.View.{View}
 use Rattle.fabric_laws.specs.Changes.{missed}
 use Rattle.fabric.specs.declared.hand.SettleFault.TheVariants.{NotYet}
@@ -15,10 +16,10 @@ use Rattle.ringapi.specs.declared.answers.Refusal.TheVariants.{Start, NotYours}
 use Rattle.ringapi.specs.declared.answers.TakeAnswer.{TakeAnswer}
 use Rattle.ringapi.specs.declared.answers.TakeAnswer.TheVariants as taken
 
-module _ {T : Type 0} {G : Ghosts T} {N : ℕ} (tags : T → List ℕ) (ring : ℕ) (plan : RingPlan) where
+module _ {T : Type 0} {S : Type 0} {G : Ghosts T} {H : StoredGhosts S T} {N : ℕ} (tags : T → List ℕ) (ring : ℕ) (plan : RingPlan) where
   -- The last attempt of a put, which is the one that is answered. Its start had the view v before it, with the spans
   -- and buffers that the hand has still; an open span had the view v before the settle that came too early
-  abbrev pub IsTruePut : PutAnswer T N G → Type 0
+  abbrev pub IsTruePut : PutAnswer T N S G H → Type 0
   IsTruePut (put.Done h moved) = ⊤
   IsTruePut (put.Refused h (Start e)) =
       (v : View T) × IsKept v (view h) × IsTrueRefusal tags ring Put plan v (view h) e
@@ -27,7 +28,7 @@ module _ {T : Type 0} {G : Ghosts T} {N : ℕ} (tags : T → List ℕ) (ring : �
       (v : View T) × (put_view o ≡ missed tail v) × IsTrueTooEarly tags (put_span o) v (NotYet tail)
 
   -- the same of a take
-  abbrev pub IsTrueTake : TakeAnswer T N G → Type 0
+  abbrev pub IsTrueTake : TakeAnswer T N S G H → Type 0
   IsTrueTake (taken.Done h moved) = ⊤
   IsTrueTake (taken.Refused h e) =
       (v : View T) × IsKept v (view h) × IsTrueRefusal tags ring Take plan v (view h) e

@@ -3,7 +3,7 @@ ghost use Rattle.std.specs.Prelude.{◌≡◌};
 ghost use Rattle.ringapi.specs.Faults.{number_of};
 
 use burst::Tagged;
-use fabric::{Hand, PutOpen, SettleFault, StartFault, TakeOpenLent};
+use fabric::{Hand, PutOpen, SettleFault, StartFault, Stored, TakeOpenLent};
 use thiserror::Error;
 
 /// How many items moved, and how many positions more were free, or items queued, as the span was reserved.
@@ -37,25 +37,29 @@ impl Refusal {
     }
 }
 
-/// What a whole put answers. What it didn't move is in the burst still, in order.
+/// What a whole put answers. What it didn't move is in the burst still, in order. A slice stays as it is: of its words
+/// all but the first `count` weren't moved.
 #[derive(Drop)]
-pub enum PutAnswer<'f, T: Tagged, const N: usize> {
+pub enum PutAnswer<'f, T: Tagged, const N: usize, S: Stored<T> = Option<T>> {
     /// The first so many items were put.
-    Done(Hand<T>, Moved),
+    Done(Hand<T, S>, Moved),
     /// Nothing was moved.
-    Refused(Hand<T>, Refusal),
-    /// A span is reserved, and an earlier one isn't settled yet: the tail found. The first items of the burst, as many
-    /// as it has positions, are to be settled there.
-    Open(PutOpen<'f, T, N>, u64),
+    Refused(Hand<T, S>, Refusal),
+    /// A span is reserved, and an earlier one isn't settled yet: the tail found. The first items of the burst or the
+    /// slice, as many as it has positions, are to be settled there: by `PutOpen::try_settle_first_from`, or of a slice
+    /// by `PutOpen::try_settle_slice`.
+    Open(PutOpen<'f, T, N, S>, u64),
 }
 
 /// What a whole take answers.
 #[derive(Drop)]
-pub enum TakeAnswer<'f, T: Tagged, const N: usize> {
-    /// So many items were taken: the burst has them.
-    Done(Hand<T>, Moved),
-    /// Nothing was moved, and the burst is empty.
-    Refused(Hand<T>, StartFault),
-    /// A span is reserved, and an earlier one isn't settled yet: the tail found. The burst shows the items.
-    Open(TakeOpenLent<'f, T, N>, u64),
+pub enum TakeAnswer<'f, T: Tagged, const N: usize, S: Stored<T> = Option<T>> {
+    /// So many items were taken: the burst, or the front of the slice, has them.
+    Done(Hand<T, S>, Moved),
+    /// Nothing was moved, and the burst is empty, or the slice as it was.
+    Refused(Hand<T, S>, StartFault),
+    /// A span is reserved, and an earlier one isn't settled yet: the tail found. The burst, or the front of the slice,
+    /// shows its items. It is settled by `TakeOpenLent::try_settle_into`, or of a slice by
+    /// `TakeOpenLent::try_settle_slice` with as many words from its front as the span has positions.
+    Open(TakeOpenLent<'f, T, N, S>, u64),
 }

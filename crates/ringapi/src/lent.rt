@@ -10,7 +10,7 @@ use crate::answers::{PutAnswer, TakeAnswer};
 use crate::put::{put, put_own, try_put};
 use crate::take::{take, try_take};
 use burst::{Burst, Tagged};
-use fabric::{Fabric, Hand};
+use fabric::{Fabric, Hand, Stored};
 use geom::How;
 use std::sync::Wait;
 
@@ -18,12 +18,12 @@ use std::sync::Wait;
 ///
 /// Refused, in the order of the tests: `NotYours`, before any step; `BadCount` where the list is empty; `Busy`;
 /// `NoRoom`; `Worn`; `Contended`. `Open` on a multi side alone. No memory, no waiting; at most four steps on words.
-pub fn try_put_bulk_from<'f, T: Tagged, const N: usize>(
-    f: &'f Fabric<T, N>,
-    hand: Hand<T>,
+pub fn try_put_bulk_from<'f, T: Tagged, const N: usize, S: Stored<T>>(
+    f: &'f Fabric<T, N, S>,
+    hand: Hand<T, S>,
     ring: usize,
     list: &mut Burst<T, N>,
-) -> PutAnswer<'f, T, N>
+) -> PutAnswer<'f, T, N, S>
     requires hand { IsHandOf f.now hand }
     requires ring { ring < length (rings_of f.now) }
     ensures { TriesPut T.numbers by_bulk f.now ring hand list.old result list.new }
@@ -36,12 +36,12 @@ pub fn try_put_bulk_from<'f, T: Tagged, const N: usize>(
 ///
 /// Refused, in the order of the tests: `NotYours`, before any step; `BadCount` where the list is empty; `Busy`;
 /// `NoRoom`; `Worn`; `Contended`. `Open` on a multi side alone. No memory, no waiting; at most four steps on words.
-pub fn try_put_burst_from<'f, T: Tagged, const N: usize>(
-    f: &'f Fabric<T, N>,
-    hand: Hand<T>,
+pub fn try_put_burst_from<'f, T: Tagged, const N: usize, S: Stored<T>>(
+    f: &'f Fabric<T, N, S>,
+    hand: Hand<T, S>,
     ring: usize,
     list: &mut Burst<T, N>,
-) -> PutAnswer<'f, T, N>
+) -> PutAnswer<'f, T, N, S>
     requires hand { IsHandOf f.now hand }
     requires ring { ring < length (rings_of f.now) }
     ensures { TriesPut T.numbers by_burst f.now ring hand list.old result list.new }
@@ -53,13 +53,13 @@ pub fn try_put_burst_from<'f, T: Tagged, const N: usize>(
 /// with a backoff in between. It doesn't wait for room. What was not moved stays in the list, in order.
 ///
 /// Never answered: `Open`, `Busy`, `Contended`. No memory; any number of steps on words.
-pub fn put_bulk_from<'f, T: Tagged, const N: usize, R: Wait>(
+pub fn put_bulk_from<'f, T: Tagged, const N: usize, S: Stored<T>, R: Wait>(
     rt: &R,
-    f: &'f Fabric<T, N>,
-    hand: Hand<T>,
+    f: &'f Fabric<T, N, S>,
+    hand: Hand<T, S>,
     ring: usize,
     list: &mut Burst<T, N>,
-) -> PutAnswer<'f, T, N>
+) -> PutAnswer<'f, T, N, S>
     requires hand { IsHandOf f.now hand }
     requires ring { ring < length (rings_of f.now) }
     ensures { MakesPut T.numbers by_bulk f.now ring hand list.old result list.new }
@@ -72,13 +72,13 @@ pub fn put_bulk_from<'f, T: Tagged, const N: usize, R: Wait>(
 /// the list, in order.
 ///
 /// Never answered: `Open`, `Busy`, `Contended`. No memory; any number of steps on words.
-pub fn put_burst_from<'f, T: Tagged, const N: usize, R: Wait>(
+pub fn put_burst_from<'f, T: Tagged, const N: usize, S: Stored<T>, R: Wait>(
     rt: &R,
-    f: &'f Fabric<T, N>,
-    hand: Hand<T>,
+    f: &'f Fabric<T, N, S>,
+    hand: Hand<T, S>,
     ring: usize,
     list: &mut Burst<T, N>,
-) -> PutAnswer<'f, T, N>
+) -> PutAnswer<'f, T, N, S>
     requires hand { IsHandOf f.now hand }
     requires ring { ring < length (rings_of f.now) }
     ensures { MakesPut T.numbers by_burst f.now ring hand list.old result list.new }
@@ -90,13 +90,13 @@ pub fn put_burst_from<'f, T: Tagged, const N: usize, R: Wait>(
 /// start. Asked: they are.
 ///
 /// Never answered: `NotYours`, `Open`, `Busy`, `Contended`. No memory; any number of steps on words.
-pub fn put_own_bulk_from<'f, T: Tagged, const N: usize, R: Wait>(
+pub fn put_own_bulk_from<'f, T: Tagged, const N: usize, S: Stored<T>, R: Wait>(
     rt: &R,
-    f: &'f Fabric<T, N>,
-    hand: Hand<T>,
+    f: &'f Fabric<T, N, S>,
+    hand: Hand<T, S>,
     ring: usize,
     list: &mut Burst<T, N>,
-) -> PutAnswer<'f, T, N>
+) -> PutAnswer<'f, T, N, S>
     requires hand { IsHandOf f.now hand }
     requires ring { ring < length (rings_of f.now) }
     requires yours { OnRing f.now ring (λ plan. AreYours T.numbers plan (view hand) list.old) }
@@ -109,13 +109,13 @@ pub fn put_own_bulk_from<'f, T: Tagged, const N: usize, R: Wait>(
 /// the start. Asked: they are.
 ///
 /// Never answered: `NotYours`, `Open`, `Busy`, `Contended`. No memory; any number of steps on words.
-pub fn put_own_burst_from<'f, T: Tagged, const N: usize, R: Wait>(
+pub fn put_own_burst_from<'f, T: Tagged, const N: usize, S: Stored<T>, R: Wait>(
     rt: &R,
-    f: &'f Fabric<T, N>,
-    hand: Hand<T>,
+    f: &'f Fabric<T, N, S>,
+    hand: Hand<T, S>,
     ring: usize,
     list: &mut Burst<T, N>,
-) -> PutAnswer<'f, T, N>
+) -> PutAnswer<'f, T, N, S>
     requires hand { IsHandOf f.now hand }
     requires ring { ring < length (rings_of f.now) }
     requires yours { OnRing f.now ring (λ plan. AreYours T.numbers plan (view hand) list.old) }
@@ -128,13 +128,13 @@ pub fn put_own_burst_from<'f, T: Tagged, const N: usize, R: Wait>(
 ///
 /// Refused, in the order of the tests: `BadCount` where `n` is 0 or above `N`, before any step; `Busy`; `NoRoom`;
 /// `Worn`; `Contended`. `Open` on a multi side alone. No memory, no waiting; at most four steps on words.
-pub fn try_take_bulk_into<'f, T: Tagged, const N: usize>(
-    f: &'f Fabric<T, N>,
-    hand: Hand<T>,
+pub fn try_take_bulk_into<'f, T: Tagged, const N: usize, S: Stored<T>>(
+    f: &'f Fabric<T, N, S>,
+    hand: Hand<T, S>,
     ring: usize,
     n: usize,
     into: &mut Burst<T, N>,
-) -> TakeAnswer<'f, T, N>
+) -> TakeAnswer<'f, T, N, S>
     requires hand { IsHandOf f.now hand }
     requires ring { ring < length (rings_of f.now) }
     requires empty { into.old ≡ [] }
@@ -147,13 +147,13 @@ pub fn try_take_bulk_into<'f, T: Tagged, const N: usize>(
 ///
 /// Refused, in the order of the tests: `BadCount` where `n` is 0 or above `N`, before any step; `Busy`; `NoRoom`;
 /// `Worn`; `Contended`. `Open` on a multi side alone. No memory, no waiting; at most four steps on words.
-pub fn try_take_burst_into<'f, T: Tagged, const N: usize>(
-    f: &'f Fabric<T, N>,
-    hand: Hand<T>,
+pub fn try_take_burst_into<'f, T: Tagged, const N: usize, S: Stored<T>>(
+    f: &'f Fabric<T, N, S>,
+    hand: Hand<T, S>,
     ring: usize,
     n: usize,
     into: &mut Burst<T, N>,
-) -> TakeAnswer<'f, T, N>
+) -> TakeAnswer<'f, T, N, S>
     requires hand { IsHandOf f.now hand }
     requires ring { ring < length (rings_of f.now) }
     requires empty { into.old ≡ [] }
@@ -166,14 +166,14 @@ pub fn try_take_burst_into<'f, T: Tagged, const N: usize>(
 /// too early, with a backoff in between. It doesn't wait for items. Asked: the list is empty.
 ///
 /// Never answered: `Open`, `Busy`, `Contended`. No memory; any number of steps on words.
-pub fn take_bulk_into<'f, T: Tagged, const N: usize, R: Wait>(
+pub fn take_bulk_into<'f, T: Tagged, const N: usize, S: Stored<T>, R: Wait>(
     rt: &R,
-    f: &'f Fabric<T, N>,
-    hand: Hand<T>,
+    f: &'f Fabric<T, N, S>,
+    hand: Hand<T, S>,
     ring: usize,
     n: usize,
     into: &mut Burst<T, N>,
-) -> TakeAnswer<'f, T, N>
+) -> TakeAnswer<'f, T, N, S>
     requires hand { IsHandOf f.now hand }
     requires ring { ring < length (rings_of f.now) }
     requires empty { into.old ≡ [] }
@@ -187,14 +187,14 @@ pub fn take_bulk_into<'f, T: Tagged, const N: usize, R: Wait>(
 /// empty.
 ///
 /// Never answered: `Open`, `Busy`, `Contended`. No memory; any number of steps on words.
-pub fn take_burst_into<'f, T: Tagged, const N: usize, R: Wait>(
+pub fn take_burst_into<'f, T: Tagged, const N: usize, S: Stored<T>, R: Wait>(
     rt: &R,
-    f: &'f Fabric<T, N>,
-    hand: Hand<T>,
+    f: &'f Fabric<T, N, S>,
+    hand: Hand<T, S>,
     ring: usize,
     n: usize,
     into: &mut Burst<T, N>,
-) -> TakeAnswer<'f, T, N>
+) -> TakeAnswer<'f, T, N, S>
     requires hand { IsHandOf f.now hand }
     requires ring { ring < length (rings_of f.now) }
     requires empty { into.old ≡ [] }

@@ -1,12 +1,17 @@
 //! Whole calls on the rings of a fabric: a start and a settle in one, tried once, or again until they come through; and
-//! peeks, which look at items before they are taken.
+//! peeks, which look at items before they are taken. Each is there for lists, and for slices of items that are plain
+//! words.
 #![tactic(auto)]
 
 mod answers;
 mod lent;
 mod peek;
+mod peek_slices;
 mod put;
+mod put_slices;
+mod slices;
 mod take;
+mod take_slices;
 mod unfinished;
 mod values;
 
@@ -17,6 +22,12 @@ pub use lent::{
     try_take_burst_into,
 };
 pub use peek::{PeekPut, PeekTake, PeekTakeLent, peek_put, peek_take, peek_take_into};
+pub use peek_slices::peek_take_slice;
+pub use slices::{
+    put_bulk_slice, put_burst_slice, put_own_bulk_slice, put_own_burst_slice, take_bulk_slice,
+    take_burst_slice, try_put_bulk_slice, try_put_burst_slice, try_take_bulk_slice,
+    try_take_burst_slice,
+};
 pub use values::{
     put_bulk, put_burst, take_bulk, take_burst, try_put_bulk, try_put_burst, try_take_bulk,
     try_take_burst,

@@ -12,31 +12,31 @@ ghost use Rattle.fabric.specs.Truths.{IsTrueRefusal};
 ghost use Rattle.fabric.specs.declared.hand.SettleFault.TheVariants.{BadCount, NotYet};
 
 use burst::{Burst, Tagged};
-use fabric::{Fabric, Hand, PutOpen, SettleFault, StartFault, TakeOpenLent};
+use fabric::{Fabric, Hand, PutOpen, SettleFault, StartFault, Stored, TakeOpenLent};
 use geom::How;
 
 /// A hand with a span of a head/tail-sync put side. One that is dropped keeps its span for ever.
 #[derive(Drop)]
 #[must_use]
-pub struct PeekPut<'f, T: Tagged, const N: usize> {
-    pub(crate) span: PutOpen<'f, T, N>,
+pub struct PeekPut<'f, T: Tagged, const N: usize, S: Stored<T> = Option<T>> {
+    pub(crate) span: PutOpen<'f, T, N, S>,
     pub ghost hts: { span.ring.shape.plan.put ≡ Hts },
 }
 
-/// A hand with a span of a head/tail-sync take side, whose items are in a list that the caller lends. One that is
-/// dropped keeps its span for ever.
+/// A hand with a span of a head/tail-sync take side, whose items are in a list or a slice that the caller lends. One
+/// that is dropped keeps its span for ever.
 #[derive(Drop)]
 #[must_use]
-pub struct PeekTakeLent<'f, T: Tagged, const N: usize> {
-    pub(crate) span: TakeOpenLent<'f, T, N>,
+pub struct PeekTakeLent<'f, T: Tagged, const N: usize, S: Stored<T> = Option<T>> {
+    pub(crate) span: TakeOpenLent<'f, T, N, S>,
     pub ghost hts: { span.ring.shape.plan.take ≡ Hts },
 }
 
 /// A hand with a span of a head/tail-sync take side, and its items. One that is dropped keeps its span for ever.
 #[derive(Drop)]
 #[must_use]
-pub struct PeekTake<'f, T: Tagged, const N: usize> {
-    pub(crate) peek: PeekTakeLent<'f, T, N>,
+pub struct PeekTake<'f, T: Tagged, const N: usize, S: Stored<T> = Option<T>> {
+    pub(crate) peek: PeekTakeLent<'f, T, N, S>,
     pub(crate) items: Burst<T, N>,
     pub ghost shows: { items ≡ (take_view peek.span).shown },
 }
@@ -44,13 +44,13 @@ pub struct PeekTake<'f, T: Tagged, const N: usize> {
 /// Tries once to reserve positions for a put: by bulk `n` of them, by burst at most `n`. Asked: the put side is
 /// head/tail-sync. Refused as `Fabric::try_start_put`; the hand comes back. No memory; at most three steps on
 /// words.
-pub fn peek_put<'f, T: Tagged, const N: usize>(
-    f: &'f Fabric<T, N>,
-    hand: Hand<T>,
+pub fn peek_put<'f, T: Tagged, const N: usize, S: Stored<T>>(
+    f: &'f Fabric<T, N, S>,
+    hand: Hand<T, S>,
     ring: usize,
     n: usize,
     how: How,
-) -> Result<PeekPut<'f, T, N>, (Hand<T>, StartFault)>
+) -> Result<PeekPut<'f, T, N, S>, (Hand<T, S>, StartFault)>
     requires hand { IsHandOf f.now hand }
     requires ring { ring < length (rings_of f.now) }
     requires hts { OnRing f.now ring (λ plan. plan.put ≡ Hts) }
@@ -72,14 +72,14 @@ pub fn peek_put<'f, T: Tagged, const N: usize>(
 /// Tries once to reserve items: by bulk `n` of them, by burst at most `n`. They go into an empty list, and stay
 /// queued. Asked: the list is empty, and the take side is head/tail-sync. Refused as `Fabric::try_start_take_into`;
 /// the hand comes back. No memory; at most three steps on words.
-pub fn peek_take_into<'f, T: Tagged, const N: usize>(
-    f: &'f Fabric<T, N>,
-    hand: Hand<T>,
+pub fn peek_take_into<'f, T: Tagged, const N: usize, S: Stored<T>>(
+    f: &'f Fabric<T, N, S>,
+    hand: Hand<T, S>,
     ring: usize,
     n: usize,
     how: How,
     into: &mut Burst<T, N>,
-) -> Result<PeekTakeLent<'f, T, N>, (Hand<T>, StartFault)>
+) -> Result<PeekTakeLent<'f, T, N, S>, (Hand<T, S>, StartFault)>
     requires hand { IsHandOf f.now hand }
     requires ring { ring < length (rings_of f.now) }
     requires hts { OnRing f.now ring (λ plan. plan.take ≡ Hts) }
@@ -101,13 +101,13 @@ pub fn peek_take_into<'f, T: Tagged, const N: usize>(
 }
 
 /// `peek_take_into` a list of its own.
-pub fn peek_take<'f, T: Tagged, const N: usize>(
-    f: &'f Fabric<T, N>,
-    hand: Hand<T>,
+pub fn peek_take<'f, T: Tagged, const N: usize, S: Stored<T>>(
+    f: &'f Fabric<T, N, S>,
+    hand: Hand<T, S>,
     ring: usize,
     n: usize,
     how: How,
-) -> Result<PeekTake<'f, T, N>, (Hand<T>, StartFault)>
+) -> Result<PeekTake<'f, T, N, S>, (Hand<T, S>, StartFault)>
     requires hand { IsHandOf f.now hand }
     requires ring { ring < length (rings_of f.now) }
     requires hts { OnRing f.now ring (λ plan. plan.take ≡ Hts) }
@@ -128,7 +128,7 @@ pub fn peek_take<'f, T: Tagged, const N: usize>(
     }
 }
 
-impl<'f, T: Tagged, const N: usize> PeekPut<'f, T, N> {
+impl<'f, T: Tagged, const N: usize, S: Stored<T>> PeekPut<'f, T, N, S> {
     /// The first position of the span.
     pub fn start(&self) -> u64
         ensures { result ≡ (put_span self.now.span).start }
@@ -157,7 +157,7 @@ impl<'f, T: Tagged, const N: usize> PeekPut<'f, T, N> {
     pub fn finish_from(
         self,
         items: &mut Burst<T, N>,
-    ) -> Result<Hand<T>, (PeekPut<'f, T, N>, SettleFault)>
+    ) -> Result<Hand<T, S>, (PeekPut<'f, T, N, S>, SettleFault)>
         ensures done { IfOk result (λ h. HasPut self.entry.span items.old h × (items.new ≡ [])) }
         ensures refused { IfErr result (λ e. SamePut self.entry.span e.0.span × (items.new ≡ items.old)
             × RefusesPut T.numbers self.entry.span items.old e.0.span e.1) }
@@ -173,7 +173,7 @@ impl<'f, T: Tagged, const N: usize> PeekPut<'f, T, N> {
     pub fn finish(
         self,
         items: Burst<T, N>,
-    ) -> Result<Hand<T>, (PeekPut<'f, T, N>, Burst<T, N>, SettleFault)>
+    ) -> Result<Hand<T, S>, (PeekPut<'f, T, N, S>, Burst<T, N>, SettleFault)>
         ensures done { IfOk result (λ h. HasPut self.entry.span items h) }
         ensures refused { IfErr result (λ e. SamePut self.entry.span e.0.span × (e.1 ≡ items)
             × RefusesPut T.numbers self.entry.span items e.0.span e.2) }
@@ -187,14 +187,14 @@ impl<'f, T: Tagged, const N: usize> PeekPut<'f, T, N> {
     }
 
     /// Gives up all positions. No memory; one step on a word.
-    pub fn abort(self) -> Hand<T>
+    pub fn abort(self) -> Hand<T, S>
         ensures { HasPut self.entry.span [] result }
     {
         self.span.abort()
     }
 }
 
-impl<'f, T: Tagged, const N: usize> PeekTakeLent<'f, T, N> {
+impl<'f, T: Tagged, const N: usize, S: Stored<T>> PeekTakeLent<'f, T, N, S> {
     /// The first position of the span.
     pub fn start(&self) -> u64
         ensures { result ≡ (take_span self.now.span).start }
@@ -225,7 +225,7 @@ impl<'f, T: Tagged, const N: usize> PeekTakeLent<'f, T, N> {
         self,
         k: usize,
         items: &mut Burst<T, N>,
-    ) -> Result<Hand<T>, (PeekTakeLent<'f, T, N>, SettleFault)>
+    ) -> Result<Hand<T, S>, (PeekTakeLent<'f, T, N, S>, SettleFault)>
         requires shows { items.old ≡ (take_view self.span).shown }
         ensures done { IfOk result (λ h. HasTaken self.entry.span k items.old h × (items.new ≡ take k items.old)) }
         ensures refused { IfErr result (λ e. SameTake self.entry.span e.0.span × (items.new ≡ items.old)
@@ -240,7 +240,7 @@ impl<'f, T: Tagged, const N: usize> PeekTakeLent<'f, T, N> {
 
     /// Takes nothing: all items are queued again, and the list is empty. Asked: it has the items that the start
     /// showed. No memory; one step on a word.
-    pub fn abort(self, items: &mut Burst<T, N>) -> Hand<T>
+    pub fn abort(self, items: &mut Burst<T, N>) -> Hand<T, S>
         requires shows { items.old ≡ (take_view self.span).shown }
         ensures done { HasTaken self.entry.span 0 items.old result }
         ensures empty { items.new ≡ [] }
@@ -252,7 +252,7 @@ impl<'f, T: Tagged, const N: usize> PeekTakeLent<'f, T, N> {
     }
 }
 
-impl<'f, T: Tagged, const N: usize> PeekTake<'f, T, N> {
+impl<'f, T: Tagged, const N: usize, S: Stored<T>> PeekTake<'f, T, N, S> {
     /// The first position of the span.
     pub fn start(&self) -> u64
         ensures { result ≡ (take_span self.now.peek.span).start }
@@ -285,7 +285,7 @@ impl<'f, T: Tagged, const N: usize> PeekTake<'f, T, N> {
     pub fn finish(
         self,
         k: usize,
-    ) -> Result<(Hand<T>, Burst<T, N>), (PeekTake<'f, T, N>, SettleFault)>
+    ) -> Result<(Hand<T, S>, Burst<T, N>), (PeekTake<'f, T, N, S>, SettleFault)>
         ensures done { IfOk result (λ h. HasTaken self.entry.peek.span k self.entry.items h.0
             × (h.1 ≡ take k self.entry.items)) }
         ensures refused { IfErr result (λ e. SameTake self.entry.peek.span e.0.peek.span
@@ -301,7 +301,7 @@ impl<'f, T: Tagged, const N: usize> PeekTake<'f, T, N> {
     }
 
     /// `PeekTakeLent::abort` with its own list.
-    pub fn abort(self) -> Hand<T>
+    pub fn abort(self) -> Hand<T, S>
         ensures { HasTaken self.entry.peek.span 0 self.entry.items result }
     {
         let PeekTake { peek, mut items } = self;

@@ -12,15 +12,15 @@ ghost use Rattle.ringapi.specs.Whole.{MakesPut, TriesPut};
 use crate::answers::{Moved, PutAnswer, Refusal};
 use burst::{Burst, Tagged};
 use crossbeam_utils::Backoff;
-use fabric::{Fabric, Hand, PutOpen, SettleFault};
+use fabric::{Fabric, Hand, PutOpen, SettleFault, Stored};
 use geom::How;
 use std::sync::Wait;
 
 /// Tries once to settle a span with the first items of a list.
-fn settle<'f, T: Tagged, const N: usize>(
-    span: PutOpen<'f, T, N>,
+fn settle<'f, T: Tagged, const N: usize, S: Stored<T>>(
+    span: PutOpen<'f, T, N, S>,
     list: &mut Burst<T, N>,
-) -> PutAnswer<'f, T, N>
+) -> PutAnswer<'f, T, N, S>
     requires fits { (put_span span).count ≤ length list.old }
     requires yours { AreYours T.numbers span.ring.shape.plan (put_view span) (take (put_span span).count list.old) }
     ensures settled { SettlesPut span.entry list.old result list.new }
@@ -40,13 +40,13 @@ fn settle<'f, T: Tagged, const N: usize>(
 }
 
 /// Tries once to reserve a span, and to settle it with the first items of a list.
-fn attempt<'f, T: Tagged, const N: usize>(
-    f: &'f Fabric<T, N>,
-    hand: Hand<T>,
+fn attempt<'f, T: Tagged, const N: usize, S: Stored<T>>(
+    f: &'f Fabric<T, N, S>,
+    hand: Hand<T, S>,
     ring: usize,
     how: How,
     list: &mut Burst<T, N>,
-) -> PutAnswer<'f, T, N>
+) -> PutAnswer<'f, T, N, S>
     requires hand { IsHandOf f.now hand }
     requires ring { ring < length (rings_of f.now) }
     requires yours { OnRing f.now ring (λ plan. AreYours T.numbers plan (view hand) list.old) }
@@ -62,13 +62,13 @@ fn attempt<'f, T: Tagged, const N: usize>(
 }
 
 /// A whole put, tried once.
-pub(crate) fn try_put<'f, T: Tagged, const N: usize>(
-    f: &'f Fabric<T, N>,
-    hand: Hand<T>,
+pub(crate) fn try_put<'f, T: Tagged, const N: usize, S: Stored<T>>(
+    f: &'f Fabric<T, N, S>,
+    hand: Hand<T, S>,
     ring: usize,
     how: How,
     list: &mut Burst<T, N>,
-) -> PutAnswer<'f, T, N>
+) -> PutAnswer<'f, T, N, S>
     requires hand { IsHandOf f.now hand }
     requires ring { ring < length (rings_of f.now) }
     ensures { TriesPut T.numbers how f.now ring hand list.old result list.new }
@@ -81,13 +81,13 @@ pub(crate) fn try_put<'f, T: Tagged, const N: usize>(
 }
 
 /// The next try of a put that isn't finished.
-fn again<'f, T: Tagged, const N: usize>(
-    f: &'f Fabric<T, N>,
-    answer: PutAnswer<'f, T, N>,
+fn again<'f, T: Tagged, const N: usize, S: Stored<T>>(
+    f: &'f Fabric<T, N, S>,
+    answer: PutAnswer<'f, T, N, S>,
     ring: usize,
     how: How,
     list: &mut Burst<T, N>,
-) -> PutAnswer<'f, T, N>
+) -> PutAnswer<'f, T, N, S>
     requires made { IsPutOf f.now ring answer }
     requires ring { ring < length (rings_of f.now) }
     requires unfinished { IsUnfinishedPut answer }
@@ -107,14 +107,14 @@ fn again<'f, T: Tagged, const N: usize>(
 }
 
 /// A whole put of items that are the hand's to put, tried until it is finished.
-pub(crate) fn put_own<'f, T: Tagged, const N: usize, R: Wait>(
+pub(crate) fn put_own<'f, T: Tagged, const N: usize, S: Stored<T>, R: Wait>(
     rt: &R,
-    f: &'f Fabric<T, N>,
-    hand: Hand<T>,
+    f: &'f Fabric<T, N, S>,
+    hand: Hand<T, S>,
     ring: usize,
     how: How,
     list: &mut Burst<T, N>,
-) -> PutAnswer<'f, T, N>
+) -> PutAnswer<'f, T, N, S>
     requires hand { IsHandOf f.now hand }
     requires ring { ring < length (rings_of f.now) }
     requires yours { OnRing f.now ring (λ plan. AreYours T.numbers plan (view hand) list.old) }
@@ -133,14 +133,14 @@ pub(crate) fn put_own<'f, T: Tagged, const N: usize, R: Wait>(
 }
 
 /// A whole put, tried until it is finished.
-pub(crate) fn put<'f, T: Tagged, const N: usize, R: Wait>(
+pub(crate) fn put<'f, T: Tagged, const N: usize, S: Stored<T>, R: Wait>(
     rt: &R,
-    f: &'f Fabric<T, N>,
-    hand: Hand<T>,
+    f: &'f Fabric<T, N, S>,
+    hand: Hand<T, S>,
     ring: usize,
     how: How,
     list: &mut Burst<T, N>,
-) -> PutAnswer<'f, T, N>
+) -> PutAnswer<'f, T, N, S>
     requires hand { IsHandOf f.now hand }
     requires ring { ring < length (rings_of f.now) }
     ensures { MakesPut T.numbers how f.now ring hand list.old result list.new }

@@ -10,15 +10,15 @@ ghost use Rattle.ringapi.specs.Whole.{MakesTake, TriesTake};
 use crate::answers::{Moved, TakeAnswer};
 use burst::{Burst, Tagged};
 use crossbeam_utils::Backoff;
-use fabric::{Fabric, Hand, SettleFault, TakeOpenLent};
+use fabric::{Fabric, Hand, SettleFault, Stored, TakeOpenLent};
 use geom::How;
 use std::sync::Wait;
 
 /// Tries once to settle a span with all its items.
-fn settle<'f, T: Tagged, const N: usize>(
-    span: TakeOpenLent<'f, T, N>,
+fn settle<'f, T: Tagged, const N: usize, S: Stored<T>>(
+    span: TakeOpenLent<'f, T, N, S>,
     items: &mut Burst<T, N>,
-) -> TakeAnswer<'f, T, N>
+) -> TakeAnswer<'f, T, N, S>
     requires shows { items.old ≡ (take_view span).shown }
     ensures settled { SettlesTake T.numbers span.entry items.old result items.new }
     ensures true_refusal { (ring : ℕ) (plan : RingPlan) → IsTrueTake T.numbers ring plan result }
@@ -37,14 +37,14 @@ fn settle<'f, T: Tagged, const N: usize>(
 }
 
 /// A whole take, tried once.
-pub(crate) fn try_take<'f, T: Tagged, const N: usize>(
-    f: &'f Fabric<T, N>,
-    hand: Hand<T>,
+pub(crate) fn try_take<'f, T: Tagged, const N: usize, S: Stored<T>>(
+    f: &'f Fabric<T, N, S>,
+    hand: Hand<T, S>,
     ring: usize,
     n: usize,
     how: How,
     into: &mut Burst<T, N>,
-) -> TakeAnswer<'f, T, N>
+) -> TakeAnswer<'f, T, N, S>
     requires hand { IsHandOf f.now hand }
     requires ring { ring < length (rings_of f.now) }
     requires empty { into.old ≡ [] }
@@ -57,14 +57,14 @@ pub(crate) fn try_take<'f, T: Tagged, const N: usize>(
 }
 
 /// The next try of a take that isn't finished.
-fn again<'f, T: Tagged, const N: usize>(
-    f: &'f Fabric<T, N>,
-    answer: TakeAnswer<'f, T, N>,
+fn again<'f, T: Tagged, const N: usize, S: Stored<T>>(
+    f: &'f Fabric<T, N, S>,
+    answer: TakeAnswer<'f, T, N, S>,
     ring: usize,
     n: usize,
     how: How,
     into: &mut Burst<T, N>,
-) -> TakeAnswer<'f, T, N>
+) -> TakeAnswer<'f, T, N, S>
     requires made { IsTakeOf f.now ring answer }
     requires ring { ring < length (rings_of f.now) }
     requires unfinished { IsUnfinishedTake answer }
@@ -84,15 +84,15 @@ fn again<'f, T: Tagged, const N: usize>(
 }
 
 /// A whole take, tried until it is finished.
-pub(crate) fn take<'f, T: Tagged, const N: usize, R: Wait>(
+pub(crate) fn take<'f, T: Tagged, const N: usize, S: Stored<T>, R: Wait>(
     rt: &R,
-    f: &'f Fabric<T, N>,
-    hand: Hand<T>,
+    f: &'f Fabric<T, N, S>,
+    hand: Hand<T, S>,
     ring: usize,
     n: usize,
     how: How,
     into: &mut Burst<T, N>,
-) -> TakeAnswer<'f, T, N>
+) -> TakeAnswer<'f, T, N, S>
     requires hand { IsHandOf f.now hand }
     requires ring { ring < length (rings_of f.now) }
     requires empty { into.old ≡ [] }

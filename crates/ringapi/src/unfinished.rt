@@ -6,7 +6,7 @@ ghost use Rattle.ringapi.specs.Views.{IsTransient};
 
 use crate::answers::{PutAnswer, Refusal, TakeAnswer};
 use burst::Tagged;
-use fabric::StartFault;
+use fabric::{StartFault, Stored};
 
 /// Whether the next start may not find this refusal, with nothing done by the caller in between.
 fn is_transient(fault: StartFault) -> bool
@@ -20,7 +20,7 @@ fn is_transient(fault: StartFault) -> bool
     }
 }
 
-impl<T: Tagged, const N: usize> PutAnswer<'_, T, N> {
+impl<T: Tagged, const N: usize, S: Stored<T>> PutAnswer<'_, T, N, S> {
     /// Whether a waiting put tries again: after `Busy` and `Contended`, and where its span is open.
     pub fn should_retry(&self) -> bool
         ensures sound { result ≡ true → IsUnfinishedPut self.now }
@@ -37,7 +37,7 @@ impl<T: Tagged, const N: usize> PutAnswer<'_, T, N> {
     }
 }
 
-impl<T: Tagged, const N: usize> TakeAnswer<'_, T, N> {
+impl<T: Tagged, const N: usize, S: Stored<T>> TakeAnswer<'_, T, N, S> {
     /// Whether a waiting take tries again: after `Busy` and `Contended`, and where its span is open.
     pub fn should_retry(&self) -> bool
         ensures sound { result ≡ true → IsUnfinishedTake self.now }

@@ -10,16 +10,16 @@ use crate::lent::{
     try_put_burst_from, try_take_bulk_into, try_take_burst_into,
 };
 use burst::{Burst, Tagged};
-use fabric::{Fabric, Hand};
+use fabric::{Fabric, Hand, Stored};
 use std::sync::Wait;
 
 /// `try_put_bulk_from` of a list by value; what was not moved comes back with the answer.
-pub fn try_put_bulk<'f, T: Tagged, const N: usize>(
-    f: &'f Fabric<T, N>,
-    hand: Hand<T>,
+pub fn try_put_bulk<'f, T: Tagged, const N: usize, S: Stored<T>>(
+    f: &'f Fabric<T, N, S>,
+    hand: Hand<T, S>,
     ring: usize,
     items: Burst<T, N>,
-) -> (PutAnswer<'f, T, N>, Burst<T, N>)
+) -> (PutAnswer<'f, T, N, S>, Burst<T, N>)
     requires hand { IsHandOf f.now hand }
     requires ring { ring < length (rings_of f.now) }
     ensures { TriesPut T.numbers by_bulk f.now ring hand items result.0 result.1 }
@@ -30,12 +30,12 @@ pub fn try_put_bulk<'f, T: Tagged, const N: usize>(
 }
 
 /// `try_put_burst_from` of a list by value; what was not moved comes back with the answer.
-pub fn try_put_burst<'f, T: Tagged, const N: usize>(
-    f: &'f Fabric<T, N>,
-    hand: Hand<T>,
+pub fn try_put_burst<'f, T: Tagged, const N: usize, S: Stored<T>>(
+    f: &'f Fabric<T, N, S>,
+    hand: Hand<T, S>,
     ring: usize,
     items: Burst<T, N>,
-) -> (PutAnswer<'f, T, N>, Burst<T, N>)
+) -> (PutAnswer<'f, T, N, S>, Burst<T, N>)
     requires hand { IsHandOf f.now hand }
     requires ring { ring < length (rings_of f.now) }
     ensures { TriesPut T.numbers by_burst f.now ring hand items result.0 result.1 }
@@ -46,13 +46,13 @@ pub fn try_put_burst<'f, T: Tagged, const N: usize>(
 }
 
 /// `put_bulk_from` of a list by value; what was not moved comes back with the answer.
-pub fn put_bulk<'f, T: Tagged, const N: usize, R: Wait>(
+pub fn put_bulk<'f, T: Tagged, const N: usize, S: Stored<T>, R: Wait>(
     rt: &R,
-    f: &'f Fabric<T, N>,
-    hand: Hand<T>,
+    f: &'f Fabric<T, N, S>,
+    hand: Hand<T, S>,
     ring: usize,
     items: Burst<T, N>,
-) -> (PutAnswer<'f, T, N>, Burst<T, N>)
+) -> (PutAnswer<'f, T, N, S>, Burst<T, N>)
     requires hand { IsHandOf f.now hand }
     requires ring { ring < length (rings_of f.now) }
     ensures { MakesPut T.numbers by_bulk f.now ring hand items result.0 result.1 }
@@ -63,13 +63,13 @@ pub fn put_bulk<'f, T: Tagged, const N: usize, R: Wait>(
 }
 
 /// `put_burst_from` of a list by value; what was not moved comes back with the answer.
-pub fn put_burst<'f, T: Tagged, const N: usize, R: Wait>(
+pub fn put_burst<'f, T: Tagged, const N: usize, S: Stored<T>, R: Wait>(
     rt: &R,
-    f: &'f Fabric<T, N>,
-    hand: Hand<T>,
+    f: &'f Fabric<T, N, S>,
+    hand: Hand<T, S>,
     ring: usize,
     items: Burst<T, N>,
-) -> (PutAnswer<'f, T, N>, Burst<T, N>)
+) -> (PutAnswer<'f, T, N, S>, Burst<T, N>)
     requires hand { IsHandOf f.now hand }
     requires ring { ring < length (rings_of f.now) }
     ensures { MakesPut T.numbers by_burst f.now ring hand items result.0 result.1 }
@@ -80,12 +80,12 @@ pub fn put_burst<'f, T: Tagged, const N: usize, R: Wait>(
 }
 
 /// `try_take_bulk_into` a list of its own, which comes with the answer.
-pub fn try_take_bulk<'f, T: Tagged, const N: usize>(
-    f: &'f Fabric<T, N>,
-    hand: Hand<T>,
+pub fn try_take_bulk<'f, T: Tagged, const N: usize, S: Stored<T>>(
+    f: &'f Fabric<T, N, S>,
+    hand: Hand<T, S>,
     ring: usize,
     n: usize,
-) -> (TakeAnswer<'f, T, N>, Burst<T, N>)
+) -> (TakeAnswer<'f, T, N, S>, Burst<T, N>)
     requires hand { IsHandOf f.now hand }
     requires ring { ring < length (rings_of f.now) }
     ensures { TriesTake T.numbers by_bulk n f.now ring hand result.0 result.1 }
@@ -96,12 +96,12 @@ pub fn try_take_bulk<'f, T: Tagged, const N: usize>(
 }
 
 /// `try_take_burst_into` a list of its own, which comes with the answer.
-pub fn try_take_burst<'f, T: Tagged, const N: usize>(
-    f: &'f Fabric<T, N>,
-    hand: Hand<T>,
+pub fn try_take_burst<'f, T: Tagged, const N: usize, S: Stored<T>>(
+    f: &'f Fabric<T, N, S>,
+    hand: Hand<T, S>,
     ring: usize,
     n: usize,
-) -> (TakeAnswer<'f, T, N>, Burst<T, N>)
+) -> (TakeAnswer<'f, T, N, S>, Burst<T, N>)
     requires hand { IsHandOf f.now hand }
     requires ring { ring < length (rings_of f.now) }
     ensures { TriesTake T.numbers by_burst n f.now ring hand result.0 result.1 }
@@ -112,13 +112,13 @@ pub fn try_take_burst<'f, T: Tagged, const N: usize>(
 }
 
 /// `take_bulk_into` a list of its own, which comes with the answer.
-pub fn take_bulk<'f, T: Tagged, const N: usize, R: Wait>(
+pub fn take_bulk<'f, T: Tagged, const N: usize, S: Stored<T>, R: Wait>(
     rt: &R,
-    f: &'f Fabric<T, N>,
-    hand: Hand<T>,
+    f: &'f Fabric<T, N, S>,
+    hand: Hand<T, S>,
     ring: usize,
     n: usize,
-) -> (TakeAnswer<'f, T, N>, Burst<T, N>)
+) -> (TakeAnswer<'f, T, N, S>, Burst<T, N>)
     requires hand { IsHandOf f.now hand }
     requires ring { ring < length (rings_of f.now) }
     ensures { MakesTake T.numbers by_bulk n f.now ring hand result.0 result.1 }
@@ -129,13 +129,13 @@ pub fn take_bulk<'f, T: Tagged, const N: usize, R: Wait>(
 }
 
 /// `take_burst_into` a list of its own, which comes with the answer.
-pub fn take_burst<'f, T: Tagged, const N: usize, R: Wait>(
+pub fn take_burst<'f, T: Tagged, const N: usize, S: Stored<T>, R: Wait>(
     rt: &R,
-    f: &'f Fabric<T, N>,
-    hand: Hand<T>,
+    f: &'f Fabric<T, N, S>,
+    hand: Hand<T, S>,
     ring: usize,
     n: usize,
-) -> (TakeAnswer<'f, T, N>, Burst<T, N>)
+) -> (TakeAnswer<'f, T, N, S>, Burst<T, N>)
     requires hand { IsHandOf f.now hand }
     requires ring { ring < length (rings_of f.now) }
     ensures { MakesTake T.numbers by_burst n f.now ring hand result.0 result.1 }
