@@ -4,6 +4,7 @@ use Rattle.std.specs.Prelude.{Option}
 use Rattle.std.specs.Option.{is_some}
 use Rattle.std.specs.List.{flat_map}
 use Rattle.burst.specs.declared.tagged.Tagged.{Ghosts}
+use Rattle.fabric.specs.declared.stored.Stored.{Ghosts as StoredGhosts}
 use Rattle.burst.specs.Numbers.{AreDistinct}
 use Rattle.ringcore_laws.specs.Sound.{holds}
 use Rattle.ringcore_laws.proofs.Laws.{times_in_is}
@@ -15,24 +16,24 @@ use Rattle.pool.specs.Hands.{IsIn, IsSameIn, view_in}
 use Rattle.pool.specs.Locals.{HasSameHand, IsLocalOf, cache_of, view_of}
 use Rattle.pool.proofs.Wholes.{same_mine}
 
-module _ {T : Type 0} {G : Ghosts T} {N : ℕ} (l : Local T N G) where
+module _ {T : Type 0} {S : Type 0} {G : Ghosts T} {H : StoredGhosts S T} {N : ℕ} (l : Local T N S G H) where
   pub cache_own : AreOwnBuffers G.numbers (view_of l) (cache_of l)
   cache_own = ((λ b. omega (arith, l.kept b)), l.single)
 
   -- a hand that is there has no buffer twice
-  held_once : (o : Option (CacheHand T G)) → is_some o ≡ true → (b : ℕ) → holds G.numbers b (view_in o).party ≤ 1
+  held_once : (o : Option (CacheHand T S G H)) → is_some o ≡ true → (b : ℕ) → holds G.numbers b (view_in o).party ≤ 1
   held_once None here b = absurd (let z : false ≡ true = here in cc)
   held_once (Some k) here b = (k.well b).0
 
   pub cache_apart : AreDistinct (flat_map G.numbers (cache_of l))
   cache_apart b = omega (arith, cache_own.0 b, held_once l.hand l.here b, times_in_is G.numbers b (cache_of l))
 
-module _ {T : Type 0} {G : Ghosts T} {N : ℕ} (f : Fabric T N) where
-  kept_in : (o later : Option (CacheHand T G)) → IsSameIn o later → IsIn f o → IsIn f later
+module _ {T : Type 0} {S : Type 0} {G : Ghosts T} {H : StoredGhosts S T} {N : ℕ} (f : Fabric T N S) where
+  kept_in : (o later : Option (CacheHand T S G H)) → IsSameIn o later → IsIn f o → IsIn f later
   kept_in None later same mine = absurd same
   kept_in (Some k) None same mine = absurd same
   kept_in (Some k) (Some m) same mine = same_mine f k m same mine
 
   -- a call of the cache alone leaves it a cache of the same fabric
-  pub local_kept : (l m : Local T N G) → HasSameHand l m → IsLocalOf f l → IsLocalOf f m
+  pub local_kept : (l m : Local T N S G H) → HasSameHand l m → IsLocalOf f l → IsLocalOf f m
   local_kept l m same mine = kept_in l.hand m.hand same mine

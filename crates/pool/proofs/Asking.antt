@@ -10,6 +10,7 @@ use Rattle.geom.specs.declared.plan.Side.TheVariants.{Put, Take}
 use Rattle.ringcore_laws.specs.Party.{with_settled}
 use Rattle.ringcore_laws.specs.Sound.{holds, occurrences_in}
 use Rattle.burst.specs.declared.tagged.Tagged.{Ghosts}
+use Rattle.fabric.specs.declared.stored.Stored.{Ghosts as StoredGhosts}
 use Rattle.fabric_laws.specs.declared.view.View.{View}
 use Rattle.fabric_laws.specs.Kinds.{IsHeldOnce}
 use Rattle.fabric.specs.declared.hand.Hand.{Hand}
@@ -70,16 +71,16 @@ module _ {T : Type 0} (tags : T → List ℕ) (most n ring : ℕ) (side : Side) 
       → IsMoved tags most by_bulk n ring side plan v starts count left shown tails items w → count ≡ n
   bulk_all v w starts count left shown items tails is = all_granted n _ count is.2.started.granted is.2.started.positive
 
-module _ {T : Type 0} {G : Ghosts T} (tags : T → List ℕ) (most ring : ℕ) (plan : RingPlan) where
+module _ {T : Type 0} {S : Type 0} {G : Ghosts T} {H : StoredGhosts S T} (tags : T → List ℕ) (most ring : ℕ) (plan : RingPlan) where
   -- a bulk take that came through
-  pub took : (v : View T) (n : ℕ) (h : Hand T G) (m : Moved) (items : List T)
+  pub took : (v : View T) (n : ℕ) (h : Hand T S G H) (m : Moved) (items : List T)
       → TakeHasTold {N = most} tags by_bulk n ring plan v (taken.Done h m) items → Takes tags most ring plan v n (Ok h) items
   took v n h m items told =
       let is = told.2 in
       (is.0 ∙ bulk_all tags most n ring Take plan v (view h) told.0 m.count m.left items items told.1 is.2, m, told)
 
   -- one that was refused
-  pub took_none : (v : View T) (n : ℕ) (h : Hand T G) (e : StartFault) (items : List T) → 0 < n → n ≤ most
+  pub took_none : (v : View T) (n : ℕ) (h : Hand T S G H) (e : StartFault) (items : List T) → 0 < n → n ≤ most
       → (IsUnfinishedTake {N = most} (taken.Refused h e) → ⊥)
       → TakeHasTold {N = most} tags by_bulk n ring plan v (taken.Refused h e) items
       → (items ≡ []) × Takes tags most ring plan v n (Err (h, refusal_of e)) items
@@ -91,7 +92,7 @@ module _ {T : Type 0} {G : Ghosts T} (tags : T → List ℕ) (most ring : ℕ) (
       absurd (told.2.4 (some, few, λ put free. absurd (let z : Take ≡ Put = put in cc)))
 
   -- what it took is the hand's own, beside what was
-  pub took_holds : (v : View T) (n : ℕ) (h : Hand T G) (items : List T) (pool : ℕ) → IsHeldOnce tags pool v.party
+  pub took_holds : (v : View T) (n : ℕ) (h : Hand T S G H) (items : List T) (pool : ℕ) → IsHeldOnce tags pool v.party
       → Takes tags most ring plan v n (Ok h) items → (b : ℕ) → holds tags b (view h).party ≡ holds tags b v.party + occurrences_in tags b items
   took_holds v n h items pool once takes b =
       let told = takes.2 in
@@ -100,12 +101,12 @@ module _ {T : Type 0} {G : Ghosts T} (tags : T → List ℕ) (most ring : ℕ) (
       ∙ holds_take tags b ring is.0 takes.1.count v.party items (once b).2
 
   -- from a free ring, it is of one buffer each
-  pub took_single : (v : View T) (n : ℕ) (h : Hand T G) (items : List T) → Takes tags most ring plan v n (Ok h) items → plan.free ≡ true
+  pub took_single : (v : View T) (n : ℕ) (h : Hand T S G H) (items : List T) → Takes tags most ring plan v n (Ok h) items → plan.free ≡ true
       → AreSingle tags items
   took_single v n h items takes free = takes.2.2.2.2.started.single refl free
 
   -- a bulk put that came through
-  pub put_all : (v : View T) (h : Hand T G) (m : Moved) (items rest : List T)
+  pub put_all : (v : View T) (h : Hand T S G H) (m : Moved) (items rest : List T)
       → PutHasTold {N = most} tags by_bulk ring plan v items (put.Done h m) rest → (rest ≡ []) × Spills tags most ring plan v items (Ok h)
   put_all v h m items rest told =
       let is = told.2 in
@@ -115,7 +116,7 @@ module _ {T : Type 0} {G : Ghosts T} (tags : T → List ℕ) (most ring : ℕ) (
       (gone, (m, subst (λ l. PutHasTold {N = most} tags by_bulk ring plan v items (put.Done h m) l) gone told))
 
   -- one that was refused, of items that are the hand's to put on a free ring: the ring is worn
-  pub put_none : (v : View T) (h : Hand T G) (e : Refusal) (items rest : List T) → AreYours tags plan v items → plan.free ≡ true
+  pub put_none : (v : View T) (h : Hand T S G H) (e : Refusal) (items rest : List T) → AreYours tags plan v items → plan.free ≡ true
       → (length items ≤ buffers_had tags v.pool v.party) → 0 < length items → length items ≤ most
       → (IsUnfinishedPut {N = most} (put.Refused h e) → ⊥)
       → PutHasTold {N = most} tags by_bulk ring plan v items (put.Refused h e) rest → (rest ≡ items) × Spills tags most ring plan v items (Err h)
@@ -129,7 +130,7 @@ module _ {T : Type 0} {G : Ghosts T} (tags : T → List ℕ) (most ring : ℕ) (
       absurd (told.2.5 (some, fit, λ side free_too. omega (arith, few, had_before tags most by_bulk (length items) ring Put plan v told.0 told.2.2 told.2.3)))
 
   -- what it leaves is no longer than what it had
-  pub put_rest : (v : View T) (answer : PutAnswer T most G) (items rest : List T)
+  pub put_rest : (v : View T) (answer : PutAnswer T most S G H) (items rest : List T)
       → PutHasTold {N = most} tags by_bulk ring plan v items answer rest → length rest ≤ length items
   put_rest v (put.Done h m) items rest told = omega (arith, ap length told.2.1, length-drop m.count items)
   put_rest v (put.Refused h (Start e)) items rest told = omega (arith, ap length told.2.1)
@@ -137,7 +138,7 @@ module _ {T : Type 0} {G : Ghosts T} (tags : T → List ℕ) (most ring : ℕ) (
   put_rest v (put.Open o tail) items rest told = omega (arith, ap length told.2.1)
 
   -- what was put is the hand's own no more
-  pub put_holds : (v : View T) (h : Hand T G) (items : List T) → Spills tags most ring plan v items (Ok h)
+  pub put_holds : (v : View T) (h : Hand T S G H) (items : List T) → Spills tags most ring plan v items (Ok h)
       → (b : ℕ) → holds tags b (view h).party ≡ holds tags b v.party - occurrences_in tags b items
   put_holds v h items spills b =
       let m = spills.0 in
@@ -149,13 +150,13 @@ module _ {T : Type 0} {G : Ghosts T} (tags : T → List ℕ) (most ring : ℕ) (
       (all_first m.count items all))
 
   -- a refused request leaves the hand what it had
-  pub none_party : (v : View T) (n : ℕ) (h : Hand T G) (e : StartFault) (items : List T)
+  pub none_party : (v : View T) (n : ℕ) (h : Hand T S G H) (e : StartFault) (items : List T)
       → TakeHasTold {N = most} tags by_bulk n ring plan v (taken.Refused h e) items → (view h).party ≡ v.party
   none_party v n h e items told =
       (refused_kept tags most by_bulk n ring Take plan told.2.1 (view h) e told.2.3).party
       ∙ starts_kept tags most by_bulk n ring Take plan v told.0 told.2.1 told.2.2
 
-  pub kept_party : (v : View T) (h : Hand T G) (items : List T) → Spills tags most ring plan v items (Err h) → (view h).party ≡ v.party
+  pub kept_party : (v : View T) (h : Hand T S G H) (items : List T) → Spills tags most ring plan v items (Err h) → (view h).party ≡ v.party
   kept_party v h items told =
       (refused_kept tags most by_bulk (length items) ring Put plan told.2.2 (view h) Worn told.2.4).party
       ∙ starts_kept tags most by_bulk (length items) ring Put plan v told.0 told.2.2 told.2.3

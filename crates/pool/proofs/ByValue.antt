@@ -3,21 +3,22 @@ use Rattle.std.proofs.Common.{◌≡◌, ℕ, List, [], inl, inr, subst, Ok, Err
 use Rattle.std.specs.Prelude.{Result}
 use Rattle.geom.specs.declared.plan.RingPlan.{RingPlan}
 use Rattle.burst.specs.declared.tagged.Tagged.{Ghosts}
+use Rattle.fabric.specs.declared.stored.Stored.{Ghosts as StoredGhosts}
 use Rattle.fabric.specs.declared.hand.Hand.{Hand}
 use Rattle.pool.specs.Asks.{Fetches}
 use Rattle.pool.specs.Calls.{GetTells, SameAnswer}
-use Rattle.pool.specs.Locals.{cache_of, ring_of, cache_size, view_of}
+use Rattle.pool.specs.Locals.{cache_of, cache_size, hand_of, ring_of, view_of}
 use Rattle.pool.specs.declared.local.Local.{Local}
 use Rattle.pool.specs.declared.faults.PoolFault.{PoolFault}
 
-module _ {T : Type 0} {G : Ghosts T} {N : ℕ} (tags : T → List ℕ) (plan : RingPlan) (l m : Local T N G) where
-  same_ok : {X Y : Type 0} (x : X) (y : Y) (answer : Result (Hand T G) (Hand T G × PoolFault)) → SameAnswer tags plan l m answer (Ok x)
-      → SameAnswer tags plan l m answer (Ok y)
+module _ {T : Type 0} {S : Type 0} {G : Ghosts T} {H : StoredGhosts S T} {N : ℕ} (tags : T → List ℕ) (plan : RingPlan) (l m : Local T N S G H) where
+  same_ok : {X Y : Type 0} (x : X) (y : Y) (answer : Result (Hand T S G H) (Hand T S G H × PoolFault)) → SameAnswer (hand_of m) answer (Ok x)
+      → SameAnswer (hand_of m) answer (Ok y)
   same_ok x y (Ok h) same = same
   same_ok x y (Err h) same = same
 
-  same_err : (X Y : Type 0) (e : PoolFault) (answer : Result (Hand T G) (Hand T G × PoolFault)) → SameAnswer tags plan l m {X = X} answer (Err e)
-      → SameAnswer tags plan l m {X = Y} answer (Err e)
+  same_err : (X Y : Type 0) (e : PoolFault) (answer : Result (Hand T S G H) (Hand T S G H × PoolFault)) → SameAnswer (hand_of m) {X = X} answer (Err e)
+      → SameAnswer (hand_of m) {X = Y} answer (Err e)
   same_err X Y e (Ok h) same = same
   same_err X Y e (Err h) same = same
 
@@ -27,8 +28,8 @@ module _ {T : Type 0} {G : Ghosts T} {N : ℕ} (tags : T → List ℕ) (plan : R
     | inr miss ↦ inr (miss.0, miss.1, miss.2, same_ok x y miss.1 miss.3)
   ]
 
-  none_given : (X : Type 0) (e : PoolFault) (n : ℕ) (items : List T) (answer : Result (Hand T G) (Hand T G × PoolFault))
-      → Fetches tags N (ring_of l) plan (cache_size l) (view_of l) n (cache_of l) answer items (cache_of m) → SameAnswer tags plan l m {X = X} answer (Err e)
+  none_given : (X : Type 0) (e : PoolFault) (n : ℕ) (items : List T) (answer : Result (Hand T S G H) (Hand T S G H × PoolFault))
+      → Fetches tags N (ring_of l) plan (cache_size l) (view_of l) n (cache_of l) answer items (cache_of m) → SameAnswer (hand_of m) {X = X} answer (Err e)
       → items ≡ []
   none_given X e n items (Ok h) fetches same = absurd same
   none_given X e n items (Err h) fetches same = fetches.2.0

@@ -1,6 +1,7 @@
 -- What the calls of a pool keep: its ring is free, and its cache the hand's own
 use Rattle.std.proofs.Common.{◌≡◌, ℕ, ◌++◌, inl, inr, List, take, drop, reverse, sym, ap, ◌∙◌, subst, arith}
 use Rattle.burst.specs.declared.tagged.Tagged.{Ghosts}
+use Rattle.fabric.specs.declared.stored.Stored.{Ghosts as StoredGhosts}
 use Rattle.geom.specs.declared.plan.RingPlan.{RingPlan}
 use Rattle.ringcore_laws.specs.FreeRings.{AreSingle}
 use Rattle.ringcore_laws.specs.Sound.{holds, occurrences_in}
@@ -15,34 +16,34 @@ use Rattle.pool.proofs.Singles.{single_both, single_later, single_poured}
 pub free_kept : (before after rings : List RingPlan) (ring : ℕ) → before ≡ rings → after ≡ rings → IsFreeRing before ring → IsFreeRing after ring
 free_kept before after rings ring was is free = subst (λ p. IsFreeRing p ring) (was ∙ sym is) free
 
-module _ {T : Type 0} {G : Ghosts T} (tags : T → List ℕ) where
+module _ {T : Type 0} {S : Type 0} {G : Ghosts T} {H : StoredGhosts S T} (tags : T → List ℕ) where
   -- what a cache_hand keeps back is the hand's own
-  pub own_kept : (k : CacheHand T G) (cache : List T) → Keeps tags k cache → AreSingle tags cache → AreOwnBuffers tags (view_of_cache_hand k) cache
+  pub own_kept : (k : CacheHand T S G H) (cache : List T) → Keeps tags k cache → AreSingle tags cache → AreOwnBuffers tags (view_of_cache_hand k) cache
   own_kept k cache keeps single = ((λ b. omega (arith, keeps b)), single)
 
-  pub same_view : (k l : CacheHand T G) → SameCacheHand k l → view_of_cache_hand l ≡ view_of_cache_hand k
+  pub same_view : (k l : CacheHand T S G H) → SameCacheHand k l → view_of_cache_hand l ≡ view_of_cache_hand k
   same_view k l same = ap (λ s. s.me.0) same
 
   -- it keeps a list back beside the cache
-  pub more_kept : (k l : CacheHand T G) (cache list : List T) → SameCacheHand k l → Keeps tags k cache → KeepsMore tags k list l → Keeps tags l (cache ++ list)
+  pub more_kept : (k l : CacheHand T S G H) (cache list : List T) → SameCacheHand k l → Keeps tags k cache → KeepsMore tags k list l → Keeps tags l (cache ++ list)
   more_kept k l cache list same keeps more b =
       omega (arith, keeps b, more.1 b, count_both tags b cache list, ap (λ (v : View T). holds tags b v.party) (same_view k l same))
 
-  pub more_own : (k l : CacheHand T G) (cache list : List T) → Keeps tags k cache → AreSingle tags cache → KeepsMore tags k list l
+  pub more_own : (k l : CacheHand T S G H) (cache list : List T) → Keeps tags k cache → AreSingle tags cache → KeepsMore tags k list l
       → AreOwnBuffers tags (view_of_cache_hand k) (cache ++ list)
   more_own k l cache list keeps single more =
       ((λ b. omega (arith, keeps b, more.1 b, count_both tags b cache list)), single_both tags cache list single more.0)
 
-  pub added_kept : (k l : CacheHand T G) (cache list : List T) → SameCacheHand k l → Keeps tags k cache → KeepsMore tags k list l → AreKept tags l list
+  pub added_kept : (k l : CacheHand T S G H) (cache list : List T) → SameCacheHand k l → Keeps tags k cache → KeepsMore tags k list l → AreKept tags l list
   added_kept k l cache list same keeps more b =
       omega (arith, keeps b, more.1 b, ap (λ (v : View T). holds tags b v.party) (same_view k l same))
 
   -- it doesn't
-  pub none_kept : (k l : CacheHand T G) (cache list : List T) → SameCacheHand k l → Keeps tags k cache → KeepsNoMore tags k list l → Keeps tags l cache
+  pub none_kept : (k l : CacheHand T S G H) (cache list : List T) → SameCacheHand k l → Keeps tags k cache → KeepsNoMore tags k list l → Keeps tags l cache
   none_kept k l cache list same keeps none b =
       omega (arith, keeps b, none.0 b, ap (λ (v : View T). holds tags b v.party) (same_view k l same))
 
-  pub none_own : (k l : CacheHand T G) (cache list : List T) → Keeps tags k cache → KeepsNoMore tags k list l
+  pub none_own : (k l : CacheHand T S G H) (cache list : List T) → Keeps tags k cache → KeepsNoMore tags k list l
       → AreNotOwnBuffers tags (view_of_cache_hand k) (cache ++ list)
   none_own k l cache list keeps none = elim none.1 [
     | inl more ↦ inl (more.0, omega (arith, keeps more.0, more.1, count_both tags more.0 cache list))
@@ -50,7 +51,7 @@ module _ {T : Type 0} {G : Ghosts T} (tags : T → List ℕ) where
   ]
 
   -- it keeps back the newest of a cache no more
-  pub are_kept : (k : CacheHand T G) (n : ℕ) (cache items : List T) → Keeps tags k cache → items ≡ reverse (drop n cache) → AreKept tags k items
+  pub are_kept : (k : CacheHand T S G H) (n : ℕ) (cache items : List T) → Keeps tags k cache → items ≡ reverse (drop n cache) → AreKept tags k items
   are_kept k n cache items keeps is b =
       omega (
         arith,
@@ -60,7 +61,7 @@ module _ {T : Type 0} {G : Ghosts T} (tags : T → List ℕ) where
         count_parts tags b n cache,
       )
 
-  pub less_kept : (k l : CacheHand T G) (n : ℕ) (cache items later : List T) → SameCacheHand k l → Keeps tags k cache → items ≡ reverse (drop n cache)
+  pub less_kept : (k l : CacheHand T S G H) (n : ℕ) (cache items later : List T) → SameCacheHand k l → Keeps tags k cache → items ≡ reverse (drop n cache)
       → later ≡ take n cache → KeepsLess tags k items l → Keeps tags l later
   less_kept k l n cache items later same keeps is left less b =
       omega (
@@ -75,7 +76,7 @@ module _ {T : Type 0} {G : Ghosts T} (tags : T → List ℕ) where
       )
 
   -- it kept a list back, and has it free again
-  pub back_kept : (k l m : CacheHand T G) (cache list : List T) → SameCacheHand k l → SameCacheHand l m → Keeps tags k cache → KeepsMore tags k list l
+  pub back_kept : (k l m : CacheHand T S G H) (cache list : List T) → SameCacheHand k l → SameCacheHand l m → Keeps tags k cache → KeepsMore tags k list l
       → KeepsLess tags l list m → Keeps tags m cache
   back_kept k l m cache list same again keeps more less b =
       omega (

@@ -9,3 +9,5 @@ pub mod ByValue
 pub mod Apart
 pub mod Others
 mod Rows
+pub mod Stacks
+pub mod Slices

@@ -4,6 +4,7 @@ use Rattle.geom.specs.declared.plan.RingPlan.{RingPlan}
 use Rattle.ringcore_laws.specs.declared.party.Party.{Party}
 use Rattle.ringcore_laws.specs.Sound.{holds, occurrences_in}
 use Rattle.burst.specs.declared.tagged.Tagged.{Ghosts}
+use Rattle.fabric.specs.declared.stored.Stored.{Ghosts as StoredGhosts}
 use Rattle.fabric_laws.specs.declared.view.View.{View}
 use Rattle.fabric.specs.declared.hand.Hand.{Hand}
 use Rattle.fabric.specs.declared.hand.cache_hand.CacheHand.{CacheHand}
@@ -39,10 +40,10 @@ HasMore tags before items after = (b : ℕ) → holds tags b after ≡ holds tag
 abbrev pub HasLess : {T : Type 0} → (T → List ℕ) → Party T → List T → Party T → Type 0
 HasLess tags before items after = (b : ℕ) → holds tags b after ≡ holds tags b before - occurrences_in tags b items
 
-module _ {T : Type 0} {G : Ghosts T} (tags : T → List ℕ) (most ring : ℕ) (plan : RingPlan) where
+module _ {T : Type 0} {S : Type 0} {G : Ghosts T} {H : StoredGhosts S T} (tags : T → List ℕ) (most ring : ℕ) (plan : RingPlan) where
   -- What one bulk take of n items answers, tried until it came through or was refused: n items, or none. Short is
   -- answered only where it was NoRoom, Worn only where it was Worn
-  abbrev pub Takes : View T → ℕ → Result (Hand T G) (Hand T G × PoolFault) → List T → Type 0
+  abbrev pub Takes : View T → ℕ → Result (Hand T S G H) (Hand T S G H × PoolFault) → List T → Type 0
   Takes v n (Ok h) items = (length items ≡ n) × (moved : Moved)
       × TakeHasTold {N = most} tags by_bulk n ring plan v (taken.Done h moved) items
   Takes v n (Err (h, Short)) items = (left : ℕ)
@@ -54,41 +55,41 @@ module _ {T : Type 0} {G : Ghosts T} (tags : T → List ℕ) (most ring : ℕ) (
 
   -- What a get asks of the ring where the cache has too few, by `missing` items: a bulk take of so many and `size`
   -- more; if that is refused, and it was of more, one of `missing` alone
-  abbrev pub Refills : ℕ → View T → ℕ → Result (Hand T G) (Hand T G × PoolFault) → List T → Type 0
+  abbrev pub Refills : ℕ → View T → ℕ → Result (Hand T S G H) (Hand T S G H × PoolFault) → List T → Type 0
   Refills size v missing result items =
       (((size ≡ 0) ⊎ IsOk result) × Takes v (missing + size) result items)
-      ⊎ ((0 < size) × (h : Hand T G) × (e : PoolFault) × Takes v (missing + size) (Err (h, e)) []
+      ⊎ ((0 < size) × (h : Hand T S G H) × (e : PoolFault) × Takes v (missing + size) (Err (h, e)) []
       × Takes (view h) missing result items)
 
   -- What a bulk put of these items answers, tried until it came through or was refused: all of them are put, or the
   -- ring is worn
-  abbrev pub Spills : View T → List T → Result (Hand T G) (Hand T G) → Type 0
+  abbrev pub Spills : View T → List T → Result (Hand T S G H) (Hand T S G H) → Type 0
   Spills v items (Ok h) = (moved : Moved)
       × PutHasTold {N = most} tags by_bulk ring plan v items (put.Done h moved) []
   Spills v items (Err h) = PutHasTold {N = most} tags by_bulk ring plan v items (put.Refused h (Start start.Worn)) items
 
   -- What a get of n items answers where the cache has fewer, with the items that it gives and the cache after it. The
   -- items that the last request took are `taken`
-  abbrev pub Deals : ℕ → List T → Result (Hand T G) (Hand T G × PoolFault) → List T → List T → List T → Type 0
+  abbrev pub Deals : ℕ → List T → Result (Hand T S G H) (Hand T S G H × PoolFault) → List T → List T → List T → Type 0
   Deals n cache (Ok h) taken items later =
       (items ≡ taken_by_get n cache taken) × (later ≡ cached_after_get n cache taken)
   Deals n cache (Err e) taken items later = (items ≡ []) × (later ≡ cache)
 
-  abbrev pub Fetches : ℕ → View T → ℕ → List T → Result (Hand T G) (Hand T G × PoolFault) → List T → List T → Type 0
+  abbrev pub Fetches : ℕ → View T → ℕ → List T → Result (Hand T S G H) (Hand T S G H × PoolFault) → List T → List T → Type 0
   Fetches size v n cache result items later =
       (taken : List T) × Refills size v (n - length cache) result taken × Deals n cache result taken items later
 
   -- What a flush answers, with the cache after it. An empty cache asks nothing of the ring
-  abbrev pub Flushes : View T → List T → Result (Hand T G) (Hand T G) → List T → Type 0
+  abbrev pub Flushes : View T → List T → Result (Hand T S G H) (Hand T S G H) → List T → Type 0
   Flushes v cache (Ok h) later = (later ≡ []) × (((cache ≡ []) × (view h ≡ v)) ⊎ Spills v cache (Ok h))
   Flushes v cache (Err h) later = (later ≡ cache) × Spills v cache (Err h)
 
   -- What it answers to put the oldest of a cache on the ring until `size` are left, with what is handed back and the
   -- cache after it. Where it is refused, the items behind the first `before` are handed back
-  abbrev pub Sheds : ℕ → ℕ → View T → List T → Result (CacheHand T G) (CacheHand T G) → List T → List T → Type 0
+  abbrev pub Sheds : ℕ → ℕ → View T → List T → Result (CacheHand T S G H) (CacheHand T S G H) → List T → List T → Type 0
   Sheds size before v cache (Ok k) rest later =
-      (rest ≡ []) × (later ≡ drop (length cache - size) cache) × (h : Hand T G)
+      (rest ≡ []) × (later ≡ drop (length cache - size) cache) × (h : Hand T S G H)
       × Spills v (take (length cache - size) cache) (Ok h) × IsCacheHandFor h k
   Sheds size before v cache (Err k) rest later =
-      (rest ≡ drop before cache) × (later ≡ take before cache) × (h : Hand T G)
+      (rest ≡ drop before cache) × (later ≡ take before cache) × (h : Hand T S G H)
       × Spills v (take (length cache - size) cache) (Err h) × IsCacheHandFor h k

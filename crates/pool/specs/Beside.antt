@@ -2,6 +2,7 @@
 use Rattle.std.specs.Prelude.{◌≡◌, ◌++◌, ℕ, List, Option, Result, Ok, Err}
 use Rattle.geom.specs.declared.plan.RingPlan.{RingPlan}
 use Rattle.burst.specs.declared.tagged.Tagged.{Ghosts}
+use Rattle.fabric.specs.declared.stored.Stored.{Ghosts as StoredGhosts}
 use Rattle.fabric.specs.declared.hand.Hand.{Hand}
 use Rattle.fabric.specs.declared.hand.StartFault.{StartFault}
 use Rattle.fabric.specs.declared.hand.cache_hand.CacheHand.{CacheHand}
@@ -17,14 +18,14 @@ use Rattle.ringapi.specs.Takes.{TakeHasTold}
 use Rattle.ringapi.specs.Views.{by_burst}
 use Rattle.pool.specs.Hands.{view_in}
 
-module _ {T : Type 0} {G : Ghosts T} (tags : T → List ℕ) (most ring : ℕ) (plan : RingPlan)
-    (k l : Option (CacheHand T G)) where
+module _ {T : Type 0} {S : Type 0} {G : Ghosts T} {H : StoredGhosts S T} (tags : T → List ℕ) (most ring : ℕ) (plan : RingPlan)
+    (k l : Option (CacheHand T S G H)) where
   -- What a put by burst answers, by the hand k, which is l then: items that aren't the hand's to put beside
   -- what is cached are refused before anything else, and the rest is the put's own answer
   abbrev pub Sends : List T → List T → Result Moved Refusal → List T → Type 0
-  Sends cache list (Ok moved) rest = (h : Hand T G)
+  Sends cache list (Ok moved) rest = (h : Hand T S G H)
       × PutHasTold {N = most} tags by_burst ring plan (view_in k) list (put.Done h moved) rest × (view_in l ≡ view h)
-  Sends cache list (Err (Start fault)) rest = (h : Hand T G)
+  Sends cache list (Err (Start fault)) rest = (h : Hand T S G H)
       × PutHasTold {N = most} tags by_burst ring plan (view_in k) list (put.Refused h (Start fault)) rest ×
       (view_in l ≡ view h)
   Sends cache list (Err NotYours) rest = AreNotYours tags plan (view_in k) (cache ++ list) × (rest ≡ list) ×
@@ -32,8 +33,8 @@ module _ {T : Type 0} {G : Ghosts T} (tags : T → List ℕ) (most ring : ℕ) (
 
   -- what a take by burst of n items answers
   abbrev pub Receives : ℕ → Result Moved StartFault → List T → Type 0
-  Receives n (Ok moved) items = (h : Hand T G)
+  Receives n (Ok moved) items = (h : Hand T S G H)
       × TakeHasTold {N = most} tags by_burst n ring plan (view_in k) (taken.Done h moved) items × (view_in l ≡ view h)
-  Receives n (Err fault) items = (h : Hand T G)
+  Receives n (Err fault) items = (h : Hand T S G H)
       × TakeHasTold {N = most} tags by_burst n ring plan (view_in k) (taken.Refused h fault) items ×
       (view_in l ≡ view h)

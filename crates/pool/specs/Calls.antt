@@ -1,13 +1,16 @@
 -- What the calls of a pool answer
-use Rattle.std.specs.Prelude.{◌≡◌, ◌+◌, ◌<◌, ◌≤◌, ◌++◌, ◌⊎◌, ℕ, List, [], length, Result, Ok, Err, IsOk}
+use Rattle.std.specs.Prelude.{◌≡◌, ◌+◌, ◌<◌, ◌≤◌, ◌++◌, ◌⊎◌, ℕ, List, [], length, Option, Result, Ok, Err, IsOk}
 use Rattle.geom.specs.declared.plan.RingPlan.{RingPlan}
 use Rattle.burst.specs.declared.tagged.Tagged.{Ghosts}
+use Rattle.fabric.specs.declared.stored.Stored.{Ghosts as StoredGhosts}
 use Rattle.fabric_laws.specs.declared.view.View.{View}
 use Rattle.fabric.specs.declared.hand.Hand.{Hand}
+use Rattle.fabric.specs.declared.hand.cache_hand.CacheHand.{CacheHand}
 use Rattle.fabric.specs.Settles.{AreNotOwnBuffers, AreOwnBuffers}
 use Rattle.fabric.specs.Hands.{view}
 use Rattle.pool.specs.Asks.{Fetches, Flushes, Spills}
-use Rattle.pool.specs.Locals.{cache_of, ring_of, cache_size, view_of}
+use Rattle.pool.specs.Hands.{view_in}
+use Rattle.pool.specs.Locals.{cache_of, cache_size, hand_of, ring_of}
 use Rattle.pool.specs.declared.local.Local.{Local}
 use Rattle.pool.specs.Caches.{cached_after_get, cached_after_put, put_on_ring, taken_by_get, threshold}
 use Rattle.pool.specs.declared.faults.PoolFault.{PoolFault}
@@ -32,6 +35,16 @@ module _ {T : Type 0} where
   abbrev pub answer_of : {X : Type 0} → Result X (List T × PoolFault) → Result X PoolFault
   answer_of (Ok x) = Ok x
   answer_of (Err e) = Err e.1
+
+  -- what a get into a slice gave: all that the slice has then, or nothing; and what a put from a slice left: nothing,
+  -- or all of it
+  abbrev pub filled : {X E : Type 0} → Result X E → List T → List T
+  filled (Ok x) items = items
+  filled (Err e) items = []
+
+  abbrev pub undone : {X E : Type 0} → Result X E → List T → List T
+  undone (Ok x) items = []
+  undone (Err e) items = items
 
 module _ {T : Type 0} (tags : T → List ℕ) (v : View T) (size : ℕ) where
   -- A put into the cache alone, with what is left of the list. Items that aren't the hand's to put beside what is
@@ -59,48 +72,63 @@ module _ {T : Type 0} (tags : T → List ℕ) (v : View T) (size : ℕ) where
   RefusesCache most items Short = ⊥
   RefusesCache most items Worn = ⊥
 
-module _ {T : Type 0} {G : Ghosts T} {N : ℕ} (tags : T → List ℕ) (plan : RingPlan) (l m : Local T N G) where
-  -- what the ring answered is what the call answers
-  abbrev pub SameAnswer : {X : Type 0} → Result (Hand T G) (Hand T G × PoolFault) → Result X PoolFault → Type 0
-  SameAnswer (Ok h) (Ok x) = view_of m ≡ view h
+module _ {T : Type 0} {S : Type 0} {G : Ghosts T} {H : StoredGhosts S T} (l : Option (CacheHand T S G H)) where
+  -- what the ring answered is what the call answers, with its hand as the cache's
+  abbrev pub SameAnswer : {X : Type 0} → Result (Hand T S G H) (Hand T S G H × PoolFault) → Result X PoolFault → Type 0
+  SameAnswer (Ok h) (Ok x) = view_in l ≡ view h
   SameAnswer (Ok h) (Err e) = ⊥
   SameAnswer (Err h) (Ok x) = ⊥
-  SameAnswer (Err h) (Err e) = (e ≡ h.1) × (view_of m ≡ view h.0)
+  SameAnswer (Err h) (Err e) = (e ≡ h.1) × (view_in l ≡ view h.0)
 
-  -- What a get answers. Where the cache has n items, it asks nothing of the ring and isn't refused
+-- What a cache's calls answer, whatever holds its items. Its hand is k before a call, and l after it
+module _ {T : Type 0} {S : Type 0} {G : Ghosts T} {H : StoredGhosts S T} (tags : T → List ℕ) (most ring size : ℕ)
+    (plan : RingPlan) (k l : Option (CacheHand T S G H)) where
+  -- What a get of n items answers, with the items that it gives and the cache after it. Where the cache has n items, it
+  -- asks nothing of the ring and isn't refused
+  abbrev pub AnswersGet : {X : Type 0} → ℕ → List T → Result X PoolFault → List T → List T → Type 0
+  AnswersGet n cache result items later =
+      ((n ≤ length cache) × IsOk result × (view_in l ≡ view_in k)
+      × (items ≡ taken_by_get n cache []) × (later ≡ cached_after_get n cache []))
+      ⊎ ((length cache < n) × (answer : Result (Hand T S G H) (Hand T S G H × PoolFault))
+      × Fetches tags most ring plan size (view_in k) n cache answer items later × SameAnswer l answer result)
+
+  -- What a put of a list answers, with what is left of the list and the cache after it. Items that aren't the hand's to
+  -- put beside what is cached are refused before anything else; where the threshold isn't passed, nothing is asked of
+  -- the ring
+  abbrev pub AnswersPut : {X : Type 0} → List T → List T → Result X PoolFault → List T → List T → Type 0
+  AnswersPut cache list (Ok x) rest later =
+      AreOwnBuffers tags (view_in k) (cache ++ list) × (rest ≡ [])
+      × (later ≡ cached_after_put size cache list)
+      × (((length (cache ++ list) ≤ threshold size) × (view_in l ≡ view_in k))
+      ⊎ ((threshold size < length (cache ++ list)) × (h : Hand T S G H)
+      × Spills tags most ring plan (view_in k) (put_on_ring size cache list) (Ok h) × (view_in l ≡ view h)))
+  AnswersPut cache list (Err NotYours) rest later =
+      AreNotOwnBuffers tags (view_in k) (cache ++ list) × (rest ≡ list) × (later ≡ cache) × (view_in l ≡ view_in k)
+  AnswersPut cache list (Err Worn) rest later =
+      AreOwnBuffers tags (view_in k) (cache ++ list) × (rest ≡ list) × (later ≡ cache)
+      × (threshold size < length (cache ++ list)) × (h : Hand T S G H)
+      × Spills tags most ring plan (view_in k) (put_on_ring size cache list) (Err h) × (view_in l ≡ view h)
+  AnswersPut cache list (Err Short) rest later = ⊥
+  AnswersPut cache list (Err CacheFull) rest later = ⊥
+  AnswersPut cache list (Err BadSize) rest later = ⊥
+
+  -- what a flush answers, with the cache after it
+  abbrev pub AnswersFlush : {X : Type 0} → List T → Result X PoolFault → List T → Type 0
+  AnswersFlush cache (Ok x) later =
+      (h : Hand T S G H) × Flushes tags most ring plan (view_in k) cache (Ok h) later × (view_in l ≡ view h)
+  AnswersFlush cache (Err e) later = (e ≡ Worn)
+      × (h : Hand T S G H) × Flushes tags most ring plan (view_in k) cache (Err h) later × (view_in l ≡ view h)
+
+module _ {T : Type 0} {S : Type 0} {G : Ghosts T} {H : StoredGhosts S T} {N : ℕ} (tags : T → List ℕ) (plan : RingPlan) (l m : Local T N S G H) where
+  -- what the calls of a cache of any items answer: a get, a put with what is left of its list, a flush
   abbrev pub GetTells : {X : Type 0} → ℕ → Result X PoolFault → List T → Type 0
   GetTells n result items =
-      ((n ≤ length (cache_of l)) × IsOk result × (view_of m ≡ view_of l)
-      × (items ≡ taken_by_get n (cache_of l) []) × (cache_of m ≡ cached_after_get n (cache_of l) []))
-      ⊎ ((length (cache_of l) < n) × (answer : Result (Hand T G) (Hand T G × PoolFault))
-      × Fetches tags N (ring_of l) plan (cache_size l) (view_of l) n (cache_of l) answer items (cache_of m)
-      × SameAnswer answer result)
+      AnswersGet tags N (ring_of l) (cache_size l) plan (hand_of l) (hand_of m) n (cache_of l) result items (cache_of m)
 
-  -- What a put of a list answers, with what is left of the list. Items that aren't the hand's to put beside what is
-  -- cached are refused before anything else; where the threshold isn't passed, nothing is asked of the ring
   abbrev pub PutBackTells : {X : Type 0} → List T → Result X PoolFault → List T → Type 0
-  PutBackTells list (Ok x) rest =
-      AreOwnBuffers tags (view_of l) (cache_of l ++ list) × (rest ≡ [])
-      × (cache_of m ≡ cached_after_put (cache_size l) (cache_of l) list)
-      × (((length (cache_of l ++ list) ≤ threshold (cache_size l)) × (view_of m ≡ view_of l))
-      ⊎ ((threshold (cache_size l) < length (cache_of l ++ list)) × (h : Hand T G)
-      × Spills tags N (ring_of l) plan (view_of l) (put_on_ring (cache_size l) (cache_of l) list) (Ok h)
-      × (view_of m ≡ view h)))
-  PutBackTells list (Err NotYours) rest =
-      AreNotOwnBuffers tags (view_of l) (cache_of l ++ list) × (rest ≡ list) × (cache_of m ≡ cache_of l)
-      × (view_of m ≡ view_of l)
-  PutBackTells list (Err Worn) rest =
-      AreOwnBuffers tags (view_of l) (cache_of l ++ list) × (rest ≡ list) × (cache_of m ≡ cache_of l)
-      × (threshold (cache_size l) < length (cache_of l ++ list)) × (h : Hand T G)
-      × Spills tags N (ring_of l) plan (view_of l) (put_on_ring (cache_size l) (cache_of l) list) (Err h)
-      × (view_of m ≡ view h)
-  PutBackTells list (Err Short) rest = ⊥
-  PutBackTells list (Err CacheFull) rest = ⊥
-  PutBackTells list (Err BadSize) rest = ⊥
+  PutBackTells list result rest =
+      AnswersPut tags N (ring_of l) (cache_size l) plan (hand_of l) (hand_of m) (cache_of l) list result rest (cache_of m)
 
-  -- what a flush answers
   abbrev pub FlushTells : {X : Type 0} → Result X PoolFault → Type 0
-  FlushTells (Ok x) = (h : Hand T G) × Flushes tags N (ring_of l) plan (view_of l) (cache_of l) (Ok h) (cache_of m)
-      × (view_of m ≡ view h)
-  FlushTells (Err e) = (e ≡ Worn) × (h : Hand T G)
-      × Flushes tags N (ring_of l) plan (view_of l) (cache_of l) (Err h) (cache_of m) × (view_of m ≡ view h)
+  FlushTells result =
+      AnswersFlush tags N (ring_of l) (cache_size l) plan (hand_of l) (hand_of m) (cache_of l) result (cache_of m)

@@ -5,3 +5,6 @@ pub mod Beside
 pub mod Calls
 pub mod Locals
 pub mod Faults
+pub mod Stacks
+pub mod Words
+pub mod WordCalls

@@ -1,6 +1,7 @@
 -- What a contract sees of a pool's cache
 use Rattle.std.specs.Prelude.{◌≡◌, ℕ, List, Option}
 use Rattle.burst.specs.declared.tagged.Tagged.{Ghosts}
+use Rattle.fabric.specs.declared.stored.Stored.{Ghosts as StoredGhosts}
 use Rattle.fabric_laws.specs.declared.view.View.{View}
 use Rattle.fabric.specs.declared.fabric.Fabric.{Fabric}
 use Rattle.fabric.specs.declared.hand.Hand.{Hand}
@@ -8,41 +9,41 @@ use Rattle.fabric.specs.declared.hand.cache_hand.CacheHand.{CacheHand}
 use Rattle.pool.specs.declared.local.Local.{Local}
 use Rattle.pool.specs.Hands.{IsHandIn, IsIn, IsSameIn, view_in}
 
-module _ {T : Type 0} {G : Ghosts T} {N : ℕ} where
+module _ {T : Type 0} {S : Type 0} {G : Ghosts T} {H : StoredGhosts S T} {N : ℕ} where
   -- the items in the cache, the oldest first
-  abbrev pub cache_of : Local T N G → List T
+  abbrev pub cache_of : Local T N S G H → List T
   cache_of l = l.cache
 
-  abbrev pub cache_size : Local T N G → ℕ
+  abbrev pub cache_size : Local T N S G H → ℕ
   cache_size l = l.size
 
   -- the free ring
-  abbrev pub ring_of : Local T N G → ℕ
+  abbrev pub ring_of : Local T N S G H → ℕ
   ring_of l = l.ring
 
-  abbrev pub hand_of : Local T N G → Option (CacheHand T G)
+  abbrev pub hand_of : Local T N S G H → Option (CacheHand T S G H)
   hand_of l = l.hand
 
   -- the view of its hand
-  abbrev pub view_of : Local T N G → View T
+  abbrev pub view_of : Local T N S G H → View T
   view_of l = view_in l.hand
 
   -- its hand comes from this fabric
-  abbrev pub IsLocalOf : Fabric T N → Local T N G → Type 0
+  abbrev pub IsLocalOf : Fabric T N S → Local T N S G H → Type 0
   IsLocalOf f l = IsIn f l.hand
 
   -- its hand is this one
-  abbrev pub HasHand : Hand T G → Local T N G → Type 0
+  abbrev pub HasHand : Hand T S G H → Local T N S G H → Type 0
   HasHand h l = IsHandIn h l.hand
 
   -- the same hand still: it comes from the same fabric, and its view is the same
-  abbrev pub HasSameHand : Local T N G → Local T N G → Type 0
+  abbrev pub HasSameHand : Local T N S G H → Local T N S G H → Type 0
   HasSameHand l m = IsSameIn l.hand m.hand
 
   -- the same ring and size
-  abbrev pub SameRing : Local T N G → Local T N G → Type 0
+  abbrev pub SameRing : Local T N S G H → Local T N S G H → Type 0
   SameRing l m = (m.ring ≡ l.ring) × (m.size ≡ l.size)
 
   -- the same items in the cache
-  abbrev pub SameCache : Local T N G → Local T N G → Type 0
+  abbrev pub SameCache : Local T N S G H → Local T N S G H → Type 0
   SameCache l m = m.cache ≡ l.cache

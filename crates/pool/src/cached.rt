@@ -9,8 +9,9 @@ use crate::list_moves::push_all;
 use crate::local::Local;
 use crate::set_aside::give;
 use burst::{Burst, Tagged};
+use fabric::Stored;
 
-impl<T: Tagged, const N: usize> Local<T, N> {
+impl<T: Tagged, const N: usize, S: Stored<T>> Local<T, N, S> {
     /// Gets `n` items from the cache alone, the newest first, into an empty list. Refused as `Short` where it has
     /// fewer; nothing moves then. No step on a word, no memory, no waiting.
     #[inline]

@@ -10,10 +10,10 @@ use crate::local::Local;
 use crate::ring_requests::{empty, fetch};
 use crate::set_aside::{admit, keep_back, shed, take_hand};
 use burst::{Burst, Tagged};
-use fabric::Fabric;
+use fabric::{Fabric, Stored};
 use std::sync::Wait;
 
-impl<T: Tagged, const N: usize> Local<T, N> {
+impl<T: Tagged, const N: usize, S: Stored<T>> Local<T, N, S> {
     /// Gets `n` items into an empty list, 1 to 64: the newest of the cache, the newest first. Where it has too few, all
     /// of them, and behind them the first that one bulk take of the missing and `size` more gave; the others of these
     /// are the cache then, in the ring's order. Where that take is refused, one of the missing alone.
@@ -23,7 +23,7 @@ impl<T: Tagged, const N: usize> Local<T, N> {
     pub fn get_into<R: Wait>(
         &mut self,
         rt: &R,
-        f: &Fabric<T, N>,
+        f: &Fabric<T, N, S>,
         n: usize,
         into: &mut Burst<T, N>,
     ) -> Result<(), PoolFault>
@@ -63,7 +63,7 @@ impl<T: Tagged, const N: usize> Local<T, N> {
     pub fn put_from<R: Wait>(
         &mut self,
         rt: &R,
-        f: &Fabric<T, N>,
+        f: &Fabric<T, N, S>,
         list: &mut Burst<T, N>,
     ) -> Result<(), PoolFault>
         requires local { IsLocalOf f.now self.old }
@@ -109,7 +109,7 @@ impl<T: Tagged, const N: usize> Local<T, N> {
     /// Puts all of the cache on the ring in one bulk put, the oldest first, where it isn't empty.
     ///
     /// Refused: `Worn`. The cache stays as it is then. No memory; it waits while the ring is busy.
-    pub fn flush<R: Wait>(&mut self, rt: &R, f: &Fabric<T, N>) -> Result<(), PoolFault>
+    pub fn flush<R: Wait>(&mut self, rt: &R, f: &Fabric<T, N, S>) -> Result<(), PoolFault>
         requires local { IsLocalOf f.now self.old }
         ensures local { IsLocalOf f.now self.new }
         ensures same { SameRing self.old self.new }

@@ -6,7 +6,7 @@ ghost use Rattle.pool.specs.Caches.{threshold};
 ghost use Rattle.pool.specs.Hands.{IsFreeRing, KeepsIn, view_in};
 
 use burst::{Burst, Tagged};
-use fabric::CacheHand;
+use fabric::{CacheHand, Stored};
 
 /// The largest size of a cache.
 pub(crate) const MAX_CACHE: usize = 512;
@@ -19,8 +19,8 @@ pub(crate) const BATCH: usize = 64;
 ///
 /// The hand is in a place of its own since calls on rings take it whole; between calls it is always there.
 #[derive(Drop)]
-pub struct Local<T: Tagged, const N: usize> {
-    pub(crate) hand: Option<CacheHand<T>>,
+pub struct Local<T: Tagged, const N: usize, S: Stored<T> = Option<T>> {
+    pub(crate) hand: Option<CacheHand<T, S>>,
     pub(crate) ring: usize,
     pub(crate) size: usize,
     pub(crate) cache: Burst<T, N>,

@@ -10,11 +10,11 @@ ghost use Rattle.pool.specs.declared.faults.PoolFault.TheVariants.{BadSize};
 use crate::faults::PoolFault;
 use crate::local::{BATCH, Local, MAX_CACHE};
 use burst::{Burst, Tagged};
-use fabric::Hand;
+use fabric::{Hand, Stored};
 
 /// Whether a cache may have this size in bursts of `most` items: it is at most 512, and its threshold and 64 items more
 /// fit.
-fn may_be(size: usize, most: usize) -> bool
+pub(crate) fn may_be(size: usize, most: usize) -> bool
     ensures fits { result ≡ true → (size ≤ 512) × (threshold size + 64 ≤ most) }
     ensures other { result ≡ false → (512 < size) ⊎ (most < threshold size + 64) }
 {
@@ -24,11 +24,15 @@ fn may_be(size: usize, most: usize) -> bool
     3 * size / 2 + BATCH <= most
 }
 
-impl<T: Tagged, const N: usize> Local<T, N> {
+impl<T: Tagged, const N: usize, S: Stored<T>> Local<T, N, S> {
     /// An empty cache of this size, 0 to 512, in front of a free ring. Asked: the ring is one of the hand's fabric, and
     /// free. Refused as `BadSize` where the size is above 512, or `floor(3 * size / 2) + 64` above `N`; the hand comes
     /// back.
-    pub fn new(hand: Hand<T>, ring: usize, size: usize) -> Result<Local<T, N>, (Hand<T>, PoolFault)>
+    pub fn new(
+        hand: Hand<T, S>,
+        ring: usize,
+        size: usize,
+    ) -> Result<Local<T, N, S>, (Hand<T, S>, PoolFault)>
         requires free { IsFreeRing (view hand).plans ring }
         ensures made { IfOk result (λ l. HasHand hand l × (ring_of l ≡ ring) × (cache_size l ≡ size)) }
         ensures empty { IfOk result (λ l. cache_of l ≡ []) }
@@ -52,11 +56,11 @@ impl<T: Tagged, const N: usize> Local<T, N> {
     /// Refused, in the order of the tests: `BadSize`, as of `new`; `NotYours`; `CacheFull` where there are more than
     /// `floor(3 * size / 2)`. The hand and the items come back. No step on a word, no memory.
     pub fn resume(
-        hand: Hand<T>,
+        hand: Hand<T, S>,
         items: Burst<T, N>,
         ring: usize,
         size: usize,
-    ) -> Result<Local<T, N>, (Hand<T>, Burst<T, N>, PoolFault)>
+    ) -> Result<Local<T, N, S>, (Hand<T, S>, Burst<T, N>, PoolFault)>
         requires free { IsFreeRing (view hand).plans ring }
         ensures made { IfOk result (λ l. HasHand hand l × (ring_of l ≡ ring) × (cache_size l ≡ size)) }
         ensures cached { IfOk result (λ l. cache_of l ≡ items) }
@@ -84,7 +88,7 @@ impl<T: Tagged, const N: usize> Local<T, N> {
     }
 
     /// The hand, and the items of the cache, the oldest first.
-    pub fn into_hand(self) -> (Hand<T>, Burst<T, N>)
+    pub fn into_hand(self) -> (Hand<T, S>, Burst<T, N>)
         ensures hand { HasHand result.0 self }
         ensures cache { cache_of self ≡ result.1 }
     {

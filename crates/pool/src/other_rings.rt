@@ -9,19 +9,19 @@ ghost use Rattle.pool.specs.Locals.{IsLocalOf, SameCache, SameRing, cache_of, ha
 use crate::local::Local;
 use crate::set_aside::{keep_back, take_hand};
 use burst::{Burst, Tagged};
-use fabric::{CacheHand, Fabric, StartFault};
+use fabric::{CacheHand, Fabric, StartFault, Stored};
 use ringapi::{Moved, PutAnswer, Refusal, TakeAnswer, put_own_burst_from, take_burst_into};
 use std::sync::Wait;
 
 /// Puts as many items of a list as there is room for, from its front.
-fn send<T: Tagged, const N: usize, R: Wait>(
+fn send<T: Tagged, const N: usize, S: Stored<T>, R: Wait>(
     rt: &R,
-    f: &Fabric<T, N>,
-    cache_hand: CacheHand<T>,
+    f: &Fabric<T, N, S>,
+    cache_hand: CacheHand<T, S>,
     ring: usize,
     cache: &Burst<T, N>,
     list: &mut Burst<T, N>,
-) -> (CacheHand<T>, Result<Moved, Refusal>)
+) -> (CacheHand<T, S>, Result<Moved, Refusal>)
     requires cache_hand { IsCacheHandOf f.now cache_hand }
     requires ring { ring < length (rings_of f.now) }
     requires kept { Keeps T.numbers cache_hand cache.now }
@@ -43,15 +43,15 @@ fn send<T: Tagged, const N: usize, R: Wait>(
 }
 
 /// Takes at most `n` items, as many as are queued, into an empty list.
-fn receive<T: Tagged, const N: usize, R: Wait>(
+fn receive<T: Tagged, const N: usize, S: Stored<T>, R: Wait>(
     rt: &R,
-    f: &Fabric<T, N>,
-    cache_hand: CacheHand<T>,
+    f: &Fabric<T, N, S>,
+    cache_hand: CacheHand<T, S>,
     ring: usize,
     n: usize,
     cache: &Burst<T, N>,
     into: &mut Burst<T, N>,
-) -> (CacheHand<T>, Result<Moved, StartFault>)
+) -> (CacheHand<T, S>, Result<Moved, StartFault>)
     requires cache_hand { IsCacheHandOf f.now cache_hand }
     requires ring { ring < length (rings_of f.now) }
     requires kept { Keeps T.numbers cache_hand cache.now }
@@ -69,7 +69,7 @@ fn receive<T: Tagged, const N: usize, R: Wait>(
     }
 }
 
-impl<T: Tagged, const N: usize> Local<T, N> {
+impl<T: Tagged, const N: usize, S: Stored<T>> Local<T, N, S> {
     /// Puts as many items of a list as there is room for on a ring of the fabric, from its front, and tries again while
     /// the ring is busy. What was not moved stays in the list, in order; the cache stays as it is.
     ///
@@ -79,7 +79,7 @@ impl<T: Tagged, const N: usize> Local<T, N> {
     pub fn send_from<R: Wait>(
         &mut self,
         rt: &R,
-        f: &Fabric<T, N>,
+        f: &Fabric<T, N, S>,
         ring: usize,
         list: &mut Burst<T, N>,
     ) -> Result<Moved, Refusal>
@@ -104,7 +104,7 @@ impl<T: Tagged, const N: usize> Local<T, N> {
     pub fn receive_into<R: Wait>(
         &mut self,
         rt: &R,
-        f: &Fabric<T, N>,
+        f: &Fabric<T, N, S>,
         ring: usize,
         n: usize,
         into: &mut Burst<T, N>,

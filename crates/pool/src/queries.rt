@@ -7,9 +7,10 @@ ghost use Rattle.pool.specs.Locals.{cache_of, cache_size, ring_of, view_of};
 
 use crate::local::Local;
 use burst::{Burst, Tagged};
+use fabric::Stored;
 
 /// Whether an item, which carries one buffer, carries this one.
-fn carries<T: Tagged>(item: &T, b: u32) -> bool
+pub(crate) fn carries<T: Tagged>(item: &T, b: u32) -> bool
     requires single { (length (T.numbers item.now) == 1) ≡ true }
     ensures { occurrences b (T.numbers item.now) ≡ one_if result }
 {
@@ -38,7 +39,7 @@ fn one_carries<T: Tagged, const N: usize>(items: &Burst<T, N>, b: u32) -> bool
     false
 }
 
-impl<T: Tagged, const N: usize> Local<T, N> {
+impl<T: Tagged, const N: usize, S: Stored<T>> Local<T, N, S> {
     /// How many items the cache has.
     pub fn len(&self) -> usize
         ensures { result ≡ length (cache_of self.now) }

@@ -9,12 +9,12 @@ ghost use Rattle.pool.specs.Hands.{IsFreeOf};
 use crate::faults::PoolFault;
 use crate::list_moves::serve;
 use burst::{Burst, Tagged};
-use fabric::{Fabric, Hand, StartFault};
+use fabric::{Fabric, Hand, StartFault, Stored};
 use ringapi::{PutAnswer, TakeAnswer, put_own_bulk_from, take_bulk_into};
 use std::sync::Wait;
 
 /// What a refused take means to a caller that asks for buffers.
-fn refusal(fault: StartFault) -> PoolFault
+pub(crate) fn refusal(fault: StartFault) -> PoolFault
     ensures { result ≡ refusal_of fault }
 {
     match fault {
@@ -24,14 +24,14 @@ fn refusal(fault: StartFault) -> PoolFault
 }
 
 /// One bulk take of `n` items, tried until it is answered.
-fn ask<T: Tagged, const N: usize, R: Wait>(
+fn ask<T: Tagged, const N: usize, S: Stored<T>, R: Wait>(
     rt: &R,
-    f: &Fabric<T, N>,
-    hand: Hand<T>,
+    f: &Fabric<T, N, S>,
+    hand: Hand<T, S>,
     ring: usize,
     n: usize,
     into: &mut Burst<T, N>,
-) -> Result<Hand<T>, (Hand<T>, PoolFault)>
+) -> Result<Hand<T, S>, (Hand<T, S>, PoolFault)>
     requires hand { IsHandOf f.now hand }
     requires free { IsFreeOf f.now ring }
     requires nonzero { 0 < n }
@@ -53,15 +53,15 @@ fn ask<T: Tagged, const N: usize, R: Wait>(
 }
 
 /// The items that a cache is short of, by `missing`, and `size` more; if so many aren't to be had, the missing alone.
-pub(crate) fn refill<T: Tagged, const N: usize, R: Wait>(
+pub(crate) fn refill<T: Tagged, const N: usize, S: Stored<T>, R: Wait>(
     rt: &R,
-    f: &Fabric<T, N>,
-    hand: Hand<T>,
+    f: &Fabric<T, N, S>,
+    hand: Hand<T, S>,
     ring: usize,
     missing: usize,
     size: usize,
     into: &mut Burst<T, N>,
-) -> Result<Hand<T>, (Hand<T>, PoolFault)>
+) -> Result<Hand<T, S>, (Hand<T, S>, PoolFault)>
     requires hand { IsHandOf f.now hand }
     requires free { IsFreeOf f.now ring }
     requires nonzero { 0 < missing }
@@ -88,13 +88,13 @@ pub(crate) fn refill<T: Tagged, const N: usize, R: Wait>(
 
 /// One bulk put of all items of a list that are the hand's to put, tried until it is answered. Refused only where the
 /// ring is worn; nothing changes then.
-pub(crate) fn put_bulk<T: Tagged, const N: usize, R: Wait>(
+pub(crate) fn put_bulk<T: Tagged, const N: usize, S: Stored<T>, R: Wait>(
     rt: &R,
-    f: &Fabric<T, N>,
-    hand: Hand<T>,
+    f: &Fabric<T, N, S>,
+    hand: Hand<T, S>,
     ring: usize,
     list: &mut Burst<T, N>,
-) -> Result<Hand<T>, Hand<T>>
+) -> Result<Hand<T, S>, Hand<T, S>>
     requires hand { IsHandOf f.now hand }
     requires free { IsFreeOf f.now ring }
     requires own { AreOwnBuffers T.numbers (view hand) list.old }
@@ -117,15 +117,15 @@ pub(crate) fn put_bulk<T: Tagged, const N: usize, R: Wait>(
 
 /// One bulk put of the oldest `spare` items of a cache, tried until it is answered. The others wait in `others`
 /// meanwhile, which is empty before and after.
-pub(crate) fn spill<T: Tagged, const N: usize, R: Wait>(
+pub(crate) fn spill<T: Tagged, const N: usize, S: Stored<T>, R: Wait>(
     rt: &R,
-    f: &Fabric<T, N>,
-    hand: Hand<T>,
+    f: &Fabric<T, N, S>,
+    hand: Hand<T, S>,
     ring: usize,
     spare: usize,
     cache: &mut Burst<T, N>,
     others: &mut Burst<T, N>,
-) -> Result<Hand<T>, Hand<T>>
+) -> Result<Hand<T, S>, Hand<T, S>>
     requires hand { IsHandOf f.now hand }
     requires free { IsFreeOf f.now ring }
     requires own { AreOwnBuffers T.numbers (view hand) cache.old }
@@ -158,16 +158,16 @@ pub(crate) fn spill<T: Tagged, const N: usize, R: Wait>(
 
 /// Gets items where the cache has too few: all of them, the newest first, and behind them the first of those that
 /// refill the cache. At a refusal nothing moves.
-pub(crate) fn fetch<T: Tagged, const N: usize, R: Wait>(
+pub(crate) fn fetch<T: Tagged, const N: usize, S: Stored<T>, R: Wait>(
     rt: &R,
-    f: &Fabric<T, N>,
-    hand: Hand<T>,
+    f: &Fabric<T, N, S>,
+    hand: Hand<T, S>,
     ring: usize,
     size: usize,
     cache: &mut Burst<T, N>,
     n: usize,
     into: &mut Burst<T, N>,
-) -> Result<Hand<T>, (Hand<T>, PoolFault)>
+) -> Result<Hand<T, S>, (Hand<T, S>, PoolFault)>
     requires hand { IsHandOf f.now hand }
     requires free { IsFreeOf f.now ring }
     requires short { length cache.old < n }
@@ -198,13 +198,13 @@ pub(crate) fn fetch<T: Tagged, const N: usize, R: Wait>(
 }
 
 /// Puts all of a cache on the ring, the oldest first; at a refusal nothing moves.
-pub(crate) fn empty<T: Tagged, const N: usize, R: Wait>(
+pub(crate) fn empty<T: Tagged, const N: usize, S: Stored<T>, R: Wait>(
     rt: &R,
-    f: &Fabric<T, N>,
-    hand: Hand<T>,
+    f: &Fabric<T, N, S>,
+    hand: Hand<T, S>,
     ring: usize,
     cache: &mut Burst<T, N>,
-) -> Result<Hand<T>, Hand<T>>
+) -> Result<Hand<T, S>, Hand<T, S>>
     requires hand { IsHandOf f.now hand }
     requires free { IsFreeOf f.now ring }
     requires own { AreOwnBuffers T.numbers (view hand) cache.old }

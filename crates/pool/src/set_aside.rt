@@ -11,11 +11,13 @@ ghost use Rattle.pool.specs.Hands.{IsFreeOf};
 use crate::list_moves::{part, push_all};
 use crate::ring_requests::spill;
 use burst::{Burst, Tagged};
-use fabric::{CacheHand, Fabric, Hand};
+use fabric::{CacheHand, Fabric, Hand, Stored};
 use std::sync::Wait;
 
 /// Takes the hand of a cache from its place, for a call on a ring.
-pub(crate) fn take_hand<T: Tagged>(hand: &mut Option<CacheHand<T>>) -> CacheHand<T>
+pub(crate) fn take_hand<T: Tagged, S: Stored<T>>(
+    hand: &mut Option<CacheHand<T, S>>,
+) -> CacheHand<T, S>
     requires here { is_some hand.old ≡ true }
     ensures { hand.old ≡ Some result }
 {
@@ -26,10 +28,10 @@ pub(crate) fn take_hand<T: Tagged>(hand: &mut Option<CacheHand<T>>) -> CacheHand
 }
 
 /// The hand as one that keeps the buffers of a cache back. Asked: they are its own to put on a free ring.
-pub(crate) fn keep_back<T: Tagged, const N: usize>(
-    hand: Hand<T>,
+pub(crate) fn keep_back<T: Tagged, const N: usize, S: Stored<T>>(
+    hand: Hand<T, S>,
     cache: &Burst<T, N>,
-) -> CacheHand<T>
+) -> CacheHand<T, S>
     requires own { AreOwnBuffers T.numbers (view hand) cache.now }
     ensures seat { IsCacheHandFor hand result }
     ensures kept { Keeps T.numbers result cache.now }
@@ -43,8 +45,8 @@ pub(crate) fn keep_back<T: Tagged, const N: usize>(
 
 /// Appends the items of a list to a cache, where all of them together are the hand's to put on a free ring; else
 /// nothing changes.
-pub(crate) fn admit<T: Tagged, const N: usize>(
-    cache_hand: &mut CacheHand<T>,
+pub(crate) fn admit<T: Tagged, const N: usize, S: Stored<T>>(
+    cache_hand: &mut CacheHand<T, S>,
     cache: &mut Burst<T, N>,
     list: &mut Burst<T, N>,
 ) -> bool
@@ -71,8 +73,8 @@ pub(crate) fn admit<T: Tagged, const N: usize>(
 /// Moves the items behind the first `k` of a cache into an empty list, the newest first, and keeps them back no more.
 /// Never in line, so that `give` is short enough to be.
 #[inline(never)]
-fn give_behind<T: Tagged, const N: usize>(
-    cache_hand: &mut CacheHand<T>,
+fn give_behind<T: Tagged, const N: usize, S: Stored<T>>(
+    cache_hand: &mut CacheHand<T, S>,
     cache: &mut Burst<T, N>,
     k: usize,
     into: &mut Burst<T, N>,
@@ -94,8 +96,8 @@ fn give_behind<T: Tagged, const N: usize>(
 /// Moves the newest `n` items of a cache into an empty list, the newest first, and keeps them back no more. One item,
 /// as in most calls, goes without a loop.
 #[inline]
-pub(crate) fn give<T: Tagged, const N: usize>(
-    cache_hand: &mut CacheHand<T>,
+pub(crate) fn give<T: Tagged, const N: usize, S: Stored<T>>(
+    cache_hand: &mut CacheHand<T, S>,
     cache: &mut Burst<T, N>,
     n: usize,
     into: &mut Burst<T, N>,
@@ -121,16 +123,16 @@ pub(crate) fn give<T: Tagged, const N: usize>(
 
 /// Puts the oldest items of a cache on the ring until `size` are left. Where that is refused, those behind the first
 /// `before` go into an empty list, in order.
-pub(crate) fn shed<T: Tagged, const N: usize, R: Wait>(
+pub(crate) fn shed<T: Tagged, const N: usize, S: Stored<T>, R: Wait>(
     rt: &R,
-    f: &Fabric<T, N>,
-    cache_hand: CacheHand<T>,
+    f: &Fabric<T, N, S>,
+    cache_hand: CacheHand<T, S>,
     ring: usize,
     size: usize,
     before: usize,
     cache: &mut Burst<T, N>,
     list: &mut Burst<T, N>,
-) -> Result<CacheHand<T>, CacheHand<T>>
+) -> Result<CacheHand<T, S>, CacheHand<T, S>>
     requires cache_hand { IsCacheHandOf f.now cache_hand }
     requires free { IsFreeOf f.now ring }
     requires kept { Keeps T.numbers cache_hand cache.old }

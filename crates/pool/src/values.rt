@@ -8,15 +8,15 @@ ghost use Rattle.pool.specs.Locals.{HasSameHand, IsLocalOf, SameRing, cache_of, 
 use crate::faults::PoolFault;
 use crate::local::Local;
 use burst::{Burst, Tagged};
-use fabric::Fabric;
+use fabric::{Fabric, Stored};
 use std::sync::Wait;
 
-impl<T: Tagged, const N: usize> Local<T, N> {
+impl<T: Tagged, const N: usize, S: Stored<T>> Local<T, N, S> {
     /// `get_into` a list of its own.
     pub fn get<R: Wait>(
         &mut self,
         rt: &R,
-        f: &Fabric<T, N>,
+        f: &Fabric<T, N, S>,
         n: usize,
     ) -> Result<Burst<T, N>, PoolFault>
         requires local { IsLocalOf f.now self.old }
@@ -39,7 +39,7 @@ impl<T: Tagged, const N: usize> Local<T, N> {
     pub fn put<R: Wait>(
         &mut self,
         rt: &R,
-        f: &Fabric<T, N>,
+        f: &Fabric<T, N, S>,
         items: Burst<T, N>,
     ) -> Result<(), (Burst<T, N>, PoolFault)>
         requires local { IsLocalOf f.now self.old }

@@ -1,0 +1,47 @@
+-- What the calls of a pool of words answer: the same as those that are lent a list, with the slice for the list
+use Rattle.std.specs.Prelude.{◌+◌, ◌<◌, ◌≤◌, ◌⊎◌, ℕ, List, length, Result}
+use Rattle.geom.specs.declared.plan.RingPlan.{RingPlan}
+use Rattle.burst.specs.declared.tagged.Tagged.{Ghosts}
+use Rattle.fabric.specs.declared.stored.Stored.{Ghosts as StoredGhosts}
+use Rattle.fabric_laws.specs.declared.view.View.{View}
+use Rattle.pool.specs.Caches.{threshold}
+use Rattle.pool.specs.Calls.{AnswersFlush, AnswersGet, AnswersPut, RefusesCache, filled, undone}
+use Rattle.pool.specs.Words.{cache_of, cache_size, hand_of, ring_of}
+use Rattle.pool.specs.declared.faults.PoolFault.{PoolFault}
+use Rattle.pool.specs.declared.faults.PoolFault.TheVariants.{Short, Worn, CacheFull, NotYours, BadSize}
+use Rattle.pool.specs.declared.words.LocalWords.{LocalWords}
+use Rattle.pool.specs.declared.words.opening.CacheFault.{CacheFault}
+use Rattle.pool.specs.declared.words.opening.CacheFault.TheVariants.{Memory, Pool}
+
+module _ {T : Type 0} {S : Type 0} {G : Ghosts T} {H : StoredGhosts S T} {N : ℕ} (tags : T → List ℕ) (plan : RingPlan)
+    (l m : LocalWords T N S G H) where
+  -- what a get into a slice answers, by what the slice was and is then
+  abbrev pub GetTells : {X : Type 0} → Result X PoolFault → List T → List T → Type 0
+  GetTells result before after =
+      AnswersGet tags N (ring_of l) (cache_size l) plan (hand_of l) (hand_of m) (length before) (cache_of l) result
+      (filled result after) (cache_of m)
+
+  -- what a put from a slice answers: none of it is left, or all is
+  abbrev pub PutBackTells : {X : Type 0} → Result X PoolFault → List T → Type 0
+  PutBackTells result items =
+      AnswersPut tags N (ring_of l) (cache_size l) plan (hand_of l) (hand_of m) (cache_of l) items result
+      (undone result items) (cache_of m)
+
+  -- what a flush answers
+  abbrev pub FlushTells : {X : Type 0} → Result X PoolFault → Type 0
+  FlushTells result =
+      AnswersFlush tags N (ring_of l) (cache_size l) plan (hand_of l) (hand_of m) (cache_of l) result (cache_of m)
+
+-- Why no empty cache of this size is made, in bursts of `most` items. Memory is asked for a lawful size only
+abbrev pub RefusesSize : ℕ → ℕ → CacheFault → Type 0
+RefusesSize size most Memory = (size ≤ 512) × (threshold size + 64 ≤ most)
+RefusesSize size most (Pool BadSize) = (512 < size) ⊎ (most < threshold size + 64)
+RefusesSize size most (Pool Short) = ⊥
+RefusesSize size most (Pool CacheFull) = ⊥
+RefusesSize size most (Pool NotYours) = ⊥
+RefusesSize size most (Pool Worn) = ⊥
+
+-- why words are no cache of this size: in the order of the tests
+abbrev pub RefusesWords : {T : Type 0} → (T → List ℕ) → View T → ℕ → ℕ → List T → CacheFault → Type 0
+RefusesWords tags v size most items Memory = (size ≤ 512) × (threshold size + 64 ≤ most)
+RefusesWords tags v size most items (Pool e) = RefusesCache tags v size most items e

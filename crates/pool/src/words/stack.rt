@@ -1,0 +1,11 @@
+//! A stack of words over an array.
+ghost use Rattle.std.specs.Prelude.{◌≤◌, length};
+
+/// A stack of words: the first `count` places of the array have its words, the newest last. What the other places have
+/// means nothing.
+#[derive(Drop)]
+pub struct WordStack<T> {
+    pub(crate) places: Vec<T>,
+    pub(crate) count: usize,
+    pub ghost fits: { count ≤ length places.items },
+}
