@@ -40,35 +40,29 @@ impl Chain {
         ensures packet { bytes_of result.0 ++ bytes_of (rest_of result.1) ≡ bytes_of self }
         ensures more { IsSome result.1 ↔ (1 < length self) }
     {
+        if self.segments == 1 {
+            return (self, None);
+        }
         let Chain {
             mut first,
             len,
             segments,
         } = self;
         let first_len = first.first_len() as u32;
-        match first.take_next() {
-            None => {
-                let whole = Chain {
-                    first,
-                    len,
-                    segments,
-                };
-                (whole, None)
-            }
-            Some(next) => {
-                let alone = Chain {
-                    first,
-                    len: first_len,
-                    segments: 1,
-                };
-                let rest = Chain {
-                    first: next,
-                    len: len - first_len,
-                    segments: segments - 1,
-                };
-                (alone, Some(rest))
-            }
-        }
+        let Some(next) = first.take_next() else {
+            unreachable!();
+        };
+        let alone = Chain {
+            first,
+            len: first_len,
+            segments: 1,
+        };
+        let rest = Chain {
+            first: next,
+            len: len - first_len,
+            segments: segments - 1,
+        };
+        (alone, Some(rest))
     }
 
     /// Gives each segment as a chain of its own, fresh, behind those that stand in `into`, in order. Asked: there is

@@ -47,7 +47,7 @@ pub(crate) fn read_body<R: Read>(
     ensures ok { OnOk result (HasNotFailed device.old device.new) }
     ensures err { OnErr result (HasFailed device.old device.new) }
 {
-    let Ok(()) = chain.stretch(count) else {
+    let Ok(()) = chain.resize(count) else {
         unreachable!();
     };
     match fill_chain(ahead, device, chain) {

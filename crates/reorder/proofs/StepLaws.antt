@@ -184,3 +184,26 @@ module _ {T : Type 0} where
       pub slid : later ≡ slid_to (waiting_in places next) n
       slid = slides (waiting_in places next) n later first.from first.upto none_passed
           (λ short. ap is_some (held_inside places next later first.from (first.near short)) ∙ first.found short)
+
+    -- no item waits under the number whose turn it is
+    module _ (vacant : get (held_in places next) next ≡ None) where
+      passing : IsFirstHeld places next (next + 1) (next + 1)
+      passing =
+          let here : at_number places next ≡ None =
+          sym (held_inside places next next (omega arith) (omega (arith, laid.some))) ∙ vacant in
+          record {
+            from = omega arith;
+            upto = omega arith;
+            passed = λ k from before _. let same : k ≡ next = omega arith in ap (at_number places) same ∙ here;
+            near = λ short. absurd (omega arith);
+            found = λ short. absurd (omega arith);
+          }
+
+      -- the turn goes on without an item
+      pub laid_passed : IsRowOf places ((head + 1) % length places) (next + 1)
+      laid_passed = subst (λ place. IsRowOf places place (next + 1))
+          (sym (ap (λ place. (place + 1) % length places) laid.at_head ∙ mod-add-mod next (length places) 1))
+          (laid_later (next + 1) (next + 1) passing)
+
+      pub waiting_passed : waiting_in places (next + 1) ≡ record (waiting_in places next) { next = next + 1 }
+      waiting_passed = waiting_later (next + 1) (next + 1) passing

@@ -1,6 +1,6 @@
 //! A reorder window: takes items in any order by their sequence numbers, and gives them in order (DPDK Programmer's
-//! Guide, "Reorder Library"). `insert`, `pop` and `next` look at one place, `slide` at each place once at most, and no
-//! call but `new` takes memory.
+//! Guide, "Reorder Library"). `insert`, `pop`, `pass` and `next` look at one place, `slide` at each place once at most,
+//! and no call but `new` takes memory.
 //!
 //! Contracts see a window as a finite map from numbers to items and the number whose turn is next. That number n
 //! stands at place `n mod size` is known to this crate alone.

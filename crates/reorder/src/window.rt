@@ -1,5 +1,5 @@
-//! The window, and its five calls.
-ghost use Rattle.std.specs.Prelude.{◌≡◌, ◌+◌, ◌<◌, ◌≤◌, ◌↔◌, IsTrue, IfOk, IsOk, OnOk, IfErr, OnErr, IsErrOf, OnSome, IfNone};
+//! The window, and its six calls.
+ghost use Rattle.std.specs.Prelude.{◌≡◌, ◌+◌, ◌<◌, ◌≤◌, ◌↔◌, IsTrue, IfOk, IsOk, OnOk, IfErr, OnErr, IsErrOf, OnSome, IfNone, false};
 ghost use Rattle.std.specs.FinMap as map;
 ghost use Rattle.reorder.specs.Waiting.{empty_window, end_of, with_number, after_next, slid_to, IsFree, IsWindow};
 
@@ -99,6 +99,28 @@ impl<T> Window<T> {
         self.next += 1;
         self.head = place_of(self.head, 1, self.places.len());
         Some(item)
+    }
+
+    /// Lets an item go by whose number this is, where it is this number's turn and no item waits under it: the turn
+    /// goes to the following number, as after `insert` and `pop`, and the item isn't moved. Else, and for 2^64 - 1,
+    /// answers false and changes nothing. One place is looked at, and no memory is taken.
+    pub fn pass(&mut self, seq: u64) -> bool
+        ensures passed { IsTrue result ↔ ((seq ≡ self.old.next) × IsFree self.old seq) }
+        ensures turn { IsTrue result → self.new ≡ record self.old { next = self.old.next + 1 } }
+        ensures same { IsTrue result → (item : T) → self.new ≡ after_next (with_number self.old seq item) }
+        ensures unchanged { result ≡ false → self.new ≡ self.old }
+    {
+        let turn = self.next;
+        if seq == u64::MAX || seq != turn {
+            return false;
+        }
+        if self.places[self.head].is_some() {
+            return false;
+        }
+        let size = self.places.len();
+        self.head = place_of(self.head, 1, size);
+        self.next = turn + 1;
+        true
     }
 
     /// Gives up waiting for numbers below `seq`: the turn goes to `seq`, or to the least number that an item here has,

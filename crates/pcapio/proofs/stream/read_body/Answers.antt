@@ -1,24 +1,23 @@
-use Rattle.std.proofs.Common.{ap, ◌∙◌, length}
-use Rattle.std.proofs.lemmas.List.{length-replicate}
+use Rattle.std.proofs.Common.{◌∙◌}
 use Rattle.pcapio.proofs.Chains.{same_length, same_fresh}
 use Rattle.pcapio.proofs.stream.read_body.Goals as goal
 
 pub returns-in-Ok-true-clause-length : goal.returns-in-Ok-true-clause-length
 returns-in-Ok-true-clause-length g c = λ _.
-    same_length _ _ c.fill_chain.ensures.shape ∙ ap length c.in-Ok.ensures.packet ∙ length-replicate c.args.count 0
+    same_length _ _ c.fill_chain.ensures.shape ∙ c.in-Ok.ensures.len
 
 pub returns-in-Ok-true-clause-kept : goal.returns-in-Ok-true-clause-kept
-returns-in-Ok-true-clause-kept g c = same_fresh _ _ c.fill_chain.ensures.shape ∙ c.stretch.ensures.kept
+returns-in-Ok-true-clause-kept g c = same_fresh _ _ c.fill_chain.ensures.shape ∙ c.resize.ensures.kept
 
 pub returns-in-Ok-false-clause-kept : goal.returns-in-Ok-false-clause-kept
-returns-in-Ok-false-clause-kept g c = c.reset.ensures.kept ∙ (same_fresh _ _ c.fill_chain.ensures.shape ∙ c.stretch.ensures.kept)
+returns-in-Ok-false-clause-kept g c = c.reset.ensures.kept ∙ (same_fresh _ _ c.fill_chain.ensures.shape ∙ c.resize.ensures.kept)
 
 pub returns-in-Ok-false-clause-fresh : goal.returns-in-Ok-false-clause-fresh
-returns-in-Ok-false-clause-fresh g c = λ _. c.reset.ensures.done ∙ (same_fresh _ _ c.fill_chain.ensures.shape ∙ c.stretch.ensures.kept)
+returns-in-Ok-false-clause-fresh g c = λ _. c.reset.ensures.done ∙ (same_fresh _ _ c.fill_chain.ensures.shape ∙ c.resize.ensures.kept)
 
 pub returns-in-Err-clause-kept : goal.returns-in-Err-clause-kept
-returns-in-Err-clause-kept g c = c.reset-in-Err.ensures.kept ∙ (same_fresh _ _ c.fill_chain.ensures.shape ∙ c.stretch.ensures.kept)
+returns-in-Err-clause-kept g c = c.reset-in-Err.ensures.kept ∙ (same_fresh _ _ c.fill_chain.ensures.shape ∙ c.resize.ensures.kept)
 
 pub returns-in-Err-clause-given_up : goal.returns-in-Err-clause-given_up
 returns-in-Err-clause-given_up g c =
-    c.reset-in-Err.ensures.done ∙ (same_fresh _ _ c.fill_chain.ensures.shape ∙ c.stretch.ensures.kept)
+    c.reset-in-Err.ensures.done ∙ (same_fresh _ _ c.fill_chain.ensures.shape ∙ c.resize.ensures.kept)
