@@ -11,6 +11,7 @@ use Rattle.ringcore_laws.specs.declared.party.Settled.{Settled}
 use Rattle.ringcore_laws.specs.Party.{with_settled}
 use Rattle.ringcore_laws.specs.Sound.{holds, occurrences_in}
 use Rattle.burst.specs.declared.tagged.Tagged.{Ghosts}
+use Rattle.fabric.specs.declared.stored.Stored.{Ghosts as StoredGhosts}
 use Rattle.fabric_laws.specs.declared.view.View.{View}
 use Rattle.fabric_laws.specs.Changes.{settled}
 use Rattle.fabric_laws.specs.Kinds.{IsHeldOnce}
@@ -111,9 +112,9 @@ module _ {T : Type 0} (tags : T → List ℕ) (how : How) (n ring : ℕ) (plan :
         λ b. ap (holds tags b) party ∙ holds_take tags b ring start count v.party (take k shown) (once b).2,
       )
 
-module _ {T : Type 0} {G : Ghosts T} (tags : T → List ℕ) (most : ℕ) (how : How) (ring : ℕ) (plan : RingPlan) where
+module _ {T : Type 0} {S : Type 0} {G : Ghosts T} {H : StoredGhosts S T} (tags : T → List ℕ) (most : ℕ) (how : How) (ring : ℕ) (plan : RingPlan) where
   -- what is left of a list whose first items were put is the hand's own still
-  pub rest_yours : (v : View T) (h : Hand T G) (m : Moved) (items rest : List T) → PutHasTold {N = most} tags how ring plan v items (Done h m) rest
+  pub rest_yours : (v : View T) (h : Hand T S G H) (m : Moved) (items rest : List T) → PutHasTold {N = most} tags how ring plan v items (Done h m) rest
       → AreYours tags plan v items → AreYours tags plan (view h) rest
   rest_yours v h m items rest told yours =
       let is = told.2.2 in
@@ -128,7 +129,7 @@ module _ {T : Type 0} {G : Ghosts T} (tags : T → List ℕ) (most : ℕ) (how :
       })
 
   -- a refused put leaves the hand what it had, and the list its items
-  pub refused_party : (v : View T) (h : Hand T G) (why : Refusal) (items rest : List T) → PutHasTold {N = most} tags how ring plan v items (Refused h why) rest
+  pub refused_party : (v : View T) (h : Hand T S G H) (why : Refusal) (items rest : List T) → PutHasTold {N = most} tags how ring plan v items (Refused h why) rest
       → ((view h).party ≡ v.party) × (rest ≡ items)
   refused_party v h (Start e) items rest told = (
     (refused_kept tags most how (length items) ring Put plan told.2.2 (view h) e told.2.4).party
@@ -137,14 +138,14 @@ module _ {T : Type 0} {G : Ghosts T} (tags : T → List ℕ) (most : ℕ) (how :
   )
   refused_party v h NotYours items rest told = (ap (λ u. u.party) told.2.2, told.2.1)
 
-  pub refused_yours : (v : View T) (h : Hand T G) (why : Refusal) (items rest : List T) → PutHasTold {N = most} tags how ring plan v items (Refused h why) rest
+  pub refused_yours : (v : View T) (h : Hand T S G H) (why : Refusal) (items rest : List T) → PutHasTold {N = most} tags how ring plan v items (Refused h why) rest
       → AreYours tags plan v items → AreYours tags plan (view h) rest
   refused_yours v h why items rest told yours =
       let is = refused_party v h why items rest told in
       subst (AreYours tags plan (view h)) (sym is.1) (kept_yours tags plan v (view h) items is.0 yours)
 
   -- items that are the hand's to put are refused for want of room, or where the ring is worn
-  pub refused_worn : (v : View T) (h : Hand T G) (why : Refusal) (items rest : List T) → PutHasTold {N = most} tags how ring plan v items (Refused h why) rest
+  pub refused_worn : (v : View T) (h : Hand T S G H) (why : Refusal) (items rest : List T) → PutHasTold {N = most} tags how ring plan v items (Refused h why) rest
       → PutSettles {N = most} ring v items (Refused h why) → (IsUnfinishedPut {N = most} (Refused h why) → ⊥) → ((left : ℕ) → why ≡ Start (NoRoom left) → ⊥)
       → 0 < length items → length items ≤ most → IsHeldOnce tags v.pool v.party → AreYours tags plan v items → IsWornAt most (view h)
   refused_worn v h NotYours items rest told settles final full some fit once yours = absurd (not_both tags plan v items yours told.2.0)

@@ -1,6 +1,7 @@
 -- What a contract sees of a thread's place at the rings.
 use Rattle.std.specs.Prelude.{◌≡◌, ◌↔◌, ℕ, List, Some, Result, Err}
 use Rattle.burst.specs.declared.tagged.Tagged.{Ghosts}
+use Rattle.fabric.specs.declared.stored.Stored.{Ghosts as StoredGhosts}
 use Rattle.fabric.specs.declared.fabric.Fabric.{Fabric}
 use Rattle.fabric.specs.declared.hand.StartFault.{StartFault}
 use Rattle.fabric.specs.declared.hand.StartFault.TheVariants as start
@@ -18,25 +19,25 @@ use Rattle.pool.specs.Locals.{cache_of, hand_of, ring_of}
 use Rattle.stages.specs.declared.fault.StageFault.{StageFault}
 use Rattle.stages.specs.declared.fault.StageFault.TheVariants.{Worn}
 
-module _ {T : Type 0} {G : Ghosts T} {N : ℕ} where
+module _ {T : Type 0} {S : Type 0} {G : Ghosts T} {H : StoredGhosts S T} {N : ℕ} where
   -- the hand in this cache comes from this fabric
-  abbrev pub IsOf : Fabric T N → Local T N G → Type 0
-  IsOf f local = (k : CacheHand T G) → local.hand ≡ Some k → IsCacheHandOf f k
+  abbrev pub IsOf : Fabric T N S → Local T N S G H → Type 0
+  IsOf f local = (k : CacheHand T S G H) → local.hand ≡ Some k → IsCacheHandOf f k
 
 -- Why a thread goes no further: what the last call answered, told as Worn where it was Worn and nowhere else
-module _ {T : Type 0} {G : Ghosts T} {N : ℕ} (tags : T → List ℕ) (f : Fabric T N) where
+module _ {T : Type 0} {S : Type 0} {G : Ghosts T} {H : StoredGhosts S T} {N : ℕ} (tags : T → List ℕ) (f : Fabric T N S) where
   -- a put of segments
-  abbrev pub KeepsBack : Local T N G → Local T N G → List T → List T → StageFault → Type 0
+  abbrev pub KeepsBack : Local T N S G H → Local T N S G H → List T → List T → StageFault → Type 0
   KeepsBack l m list rest e = (fault : PoolFault) × (fault ≡ pool.Worn ↔ e ≡ Worn)
       × OnRing f (ring_of l) (λ plan. PutBackTells tags plan l m list
       (let r : Result (Unit {0}) PoolFault = Err fault in r) rest)
 
   -- the last of some puts of packets
-  abbrev pub GivesUp : ℕ → Local T N G → List T → StageFault → Type 0
-  GivesUp ring m rest e = (l : Local T N G) × (list : List T) × (why : Refusal) × (why ≡ Start start.Worn ↔ e ≡ Worn)
+  abbrev pub GivesUp : ℕ → Local T N S G H → List T → StageFault → Type 0
+  GivesUp ring m rest e = (l : Local T N S G H) × (list : List T) × (why : Refusal) × (why ≡ Start start.Worn ↔ e ≡ Worn)
       × OnRing f ring (λ plan. Sends tags N ring plan (hand_of l) (hand_of m) (cache_of l) list (Err why) rest)
 
   -- a take of at most n packets
-  abbrev pub TakesNone : ℕ → ℕ → Local T N G → Local T N G → List T → StageFault → Type 0
+  abbrev pub TakesNone : ℕ → ℕ → Local T N S G H → Local T N S G H → List T → StageFault → Type 0
   TakesNone ring n l m items e = (e ≡ Worn) × (why : StartFault) × (why ≡ start.Worn)
       × OnRing f ring (λ plan. Receives tags N ring plan (hand_of l) (hand_of m) n (Err why) items)

@@ -9,7 +9,7 @@ ghost use Rattle.stages.specs.Passing.{Puts};
 
 use burst::{Burst, Tagged};
 use crossbeam_utils::Backoff;
-use fabric::{Fabric, Hand, StartFault};
+use fabric::{Fabric, Hand, StartFault, Stored};
 use ringapi::{PutAnswer, Refusal, put_own_burst_from};
 use std::sync::Wait;
 
@@ -25,13 +25,13 @@ fn wants_room(refusal: Refusal) -> bool
 
 /// Puts all items of a list, from its front, as many at a time as there is room for. Asked: they are the hand's to put.
 /// Refused where the ring is worn; the list then has those that were not put.
-pub(crate) fn put_all<T: Tagged, const N: usize, R: Wait>(
+pub(crate) fn put_all<T: Tagged, const N: usize, S: Stored<T>, R: Wait>(
     rt: &R,
-    f: &Fabric<T, N>,
-    mut hand: Hand<T>,
+    f: &Fabric<T, N, S>,
+    mut hand: Hand<T, S>,
     ring: usize,
     list: &mut Burst<T, N>,
-) -> Result<Hand<T>, Hand<T>>
+) -> Result<Hand<T, S>, Hand<T, S>>
     requires hand { IsHandOf f.now hand }
     requires ring { ring < length (rings_of f.now) }
     requires yours { OnRing f.now ring (λ plan. AreYours T.numbers plan (view hand) list.old) }

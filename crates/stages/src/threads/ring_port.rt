@@ -11,22 +11,26 @@ use crate::fault::StageFault;
 use crate::threads::rings::{FREE, SPAN};
 use burst::{Burst, Tagged};
 use crossbeam_utils::Backoff;
-use fabric::{Fabric, Hand, StartFault};
+use fabric::{Fabric, Hand, StartFault, Stored};
 use pool::{Local, PoolFault};
 use ringapi::Refusal;
 use std::sync::Wait;
 
 /// A thread's place at the rings of a run.
 #[derive(Drop)]
-pub(crate) struct RingPort<'f, T: Tagged> {
-    fabric: &'f Fabric<T, SPAN>,
-    local: Local<T, SPAN>,
+pub(crate) struct RingPort<'f, T: Tagged, S: Stored<T> = Option<T>> {
+    fabric: &'f Fabric<T, SPAN, S>,
+    local: Local<T, SPAN, S>,
     pub ghost of: { IsOf fabric.now local },
     pub ghost rings: { AreRings (rings_of fabric.now) },
 }
 
 /// A hand in front of an empty cache.
-fn fresh<T: Tagged>(f: &Fabric<T, SPAN>, hand: Hand<T>, size: usize) -> Local<T, SPAN>
+fn fresh<T: Tagged, S: Stored<T>>(
+    f: &Fabric<T, SPAN, S>,
+    hand: Hand<T, S>,
+    size: usize,
+) -> Local<T, SPAN, S>
     requires hand { IsHandOf f.now hand }
     requires rings { AreRings (rings_of f.now) }
     requires small { size ≤ 128 }
@@ -60,9 +64,13 @@ fn why_kept(fault: PoolFault) -> StageFault
     }
 }
 
-impl<'f, T: Tagged> RingPort<'f, T> {
+impl<'f, T: Tagged, S: Stored<T>> RingPort<'f, T, S> {
     /// A place for this hand, with an empty cache.
-    pub(crate) fn new(f: &'f Fabric<T, SPAN>, hand: Hand<T>, size: usize) -> RingPort<'f, T>
+    pub(crate) fn new(
+        f: &'f Fabric<T, SPAN, S>,
+        hand: Hand<T, S>,
+        size: usize,
+    ) -> RingPort<'f, T, S>
         requires hand { IsHandOf f.now hand }
         requires rings { AreRings (rings_of f.now) }
         requires small { size ≤ 128 }

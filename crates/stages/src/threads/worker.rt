@@ -16,7 +16,7 @@ use crate::threads::put_all::put_all;
 use crate::threads::rings::{INPUT, OUTPUT, SPAN};
 use burst::{Burst, Tagged};
 use crossbeam_utils::Backoff;
-use fabric::{Fabric, Hand, StartFault};
+use fabric::{Fabric, Hand, StartFault, Stored};
 use geom::How;
 use ipv4::Ports;
 use lpm::Table;
@@ -26,9 +26,9 @@ use std::sync::Wait;
 
 /// How a worker ended.
 #[derive(Drop)]
-pub struct Worked<T: Tagged> {
+pub struct Worked<T: Tagged, S: Stored<T> = Option<T>> {
     /// Its hand.
-    pub hand: Hand<T>,
+    pub hand: Hand<T, S>,
     /// Whether it ended since the positions of a ring are used up.
     pub worn: bool,
 }
