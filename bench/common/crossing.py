@@ -29,8 +29,12 @@ def rate(command, threads=0):
     return float(words[1])
 
 
-def together(ours, theirs, rounds):
-    """Measures threads on processors of their own."""
+PARTIES = {1: "1 producer, 1 consumer", 2: "2 producers, 2 consumers"}
+MODES = {"multi": ("multi", "rte_ring MP/MC"), "hts": ("HTS", "rte_ring HTS")}
+
+
+def together(ours, theirs, rounds, results=None):
+    """Measures threads on processors of their own, and adds the rows to the results if there are any to add them to."""
     print(f"{'threads, Mitem/s':<24} {'calls':>8} {'rte_ring':>9} {'ratio':>7}")
     for mode in ["multi", "hts"]:
         for pairs in [1, 2]:
@@ -45,3 +49,7 @@ def together(ours, theirs, rounds):
                 here, there = statistics.median(runs[0]), statistics.median(runs[1])
                 print(f"{f'{mode}, {pairs} and {pairs}, {n}':<24} {here:>8.4g} {there:>9.4g} {here / there:>7.2f}",
                       flush=True)
+                if results:
+                    title, beside = MODES[mode]
+                    results.add(f"{PARTIES[pairs]}, {n} words a call, {title}", here, "Mitem/s", beside, there,
+                                f"between threads, {title}")

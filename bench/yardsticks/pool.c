@@ -63,6 +63,8 @@ int main(int argc, char **argv)
 	measure("get-put-1", 1);
 	measure("get-put-32", 32);
 	measure("cached-1", 1);
+	measure("numbers-1", 1);
+	measure("numbers-32", 32);
 	rte_mempool_free(pool);
 	rte_eal_cleanup();
 	return 0;

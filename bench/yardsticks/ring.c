@@ -163,12 +163,15 @@ int main(int argc, char **argv)
 	struct plain *plain = new_plain(), *plain_hts = new_plain();
 	struct rte_ring *rte = new_rte("multi", 0);
 	struct rte_ring *rte_hts = new_rte("hts", RING_F_MP_HTS_ENQ | RING_F_MC_HTS_DEQ);
-	MEASURE(turns_multi, plain, 1, "multi-1-n32", "multi-1-n256", "free-multi-1-n32");
-	MEASURE(turns_rte, rte, 32, "multi-32-n32", "multi-32-n256", "free-multi-32-n32");
-	MEASURE(turns_rte, rte, 256, "multi-256-n256", "free-multi-256-n256");
-	MEASURE(turns_hts, plain_hts, 1, "hts-1-n32", "hts-1-n256", "free-hts-1-n32");
-	MEASURE(turns_rte, rte_hts, 32, "hts-32-n32", "hts-32-n256", "free-hts-32-n32");
-	MEASURE(turns_rte, rte_hts, 256, "hts-256-n256", "free-hts-256-n256");
+	MEASURE(turns_multi, plain, 1, "multi-1-n32", "multi-1-n256", "free-multi-1-n32", "words-multi-1");
+	MEASURE(turns_rte, rte, 32, "multi-32-n32", "multi-32-n256", "free-multi-32-n32",
+		"words-multi-32", "numbers-multi-32");
+	MEASURE(turns_rte, rte, 256, "multi-256-n256", "free-multi-256-n256",
+		"words-multi-256", "numbers-multi-256");
+	MEASURE(turns_hts, plain_hts, 1, "hts-1-n32", "hts-1-n256", "free-hts-1-n32", "words-hts-1");
+	MEASURE(turns_rte, rte_hts, 32, "hts-32-n32", "hts-32-n256", "free-hts-32-n32",
+		"words-hts-32", "numbers-hts-32");
+	MEASURE(turns_rte, rte_hts, 256, "hts-256-n256", "free-hts-256-n256", "words-hts-256");
 	MEASURE(turns_rte, rte, 1, "multi-1-rte");
 	MEASURE(turns_multi, plain, 32, "multi-32-plain");
 	MEASURE(turns_multi, plain, 256, "multi-256-plain");
