@@ -6,15 +6,17 @@ OUT ?= out/traffic
 WORKERS ?= 2
 PREFIX ?= /usr/local
 NAME ?= run
+TRIED ?= out/pktkit
 
 BIN = $(DESTDIR)$(PREFIX)/bin
 SHARE = $(DESTDIR)$(PREFIX)/share
 
-.PHONY: help run compare test build install uninstall bench
+.PHONY: help run try compare test build install uninstall bench
 
 # The first of all targets is what `make` alone does.
 help:
 	@echo 'make run        forwards $(IN) by $(CONFIG), by a pktkit without proofs: 1 to 2 minutes'
+	@echo 'make try        keeps a pktkit without proofs in $(TRIED), for pktkit ring and the other commands: the same'
 	@echo 'make compare    the same by one thread, and that each port has the same bytes; after make run: 1 to 2 minutes'
 	@echo 'make build      proves pktkit and what it stands on, and builds it: 35 to 75 minutes, then what has changed'
 	@echo 'make install    make build; the program, its man page and completions go below PREFIX ($(PREFIX)): seconds'
@@ -34,6 +36,12 @@ run:
 	@mkdir -p $(dir $(LOG))
 	@cd crates/pktkit && rt try -- $(WORDS) < /dev/null 2> $(LOG) || { cat $(LOG) >&2; exit 1; }
 	@rm $(LOG)
+
+# Keeps a pktkit built without proofs, with AddressSanitizer, at a path of its own. `make build` leaves a proved one.
+try:
+	@echo "make try: this pktkit is built without proofs, in a minute or so; make build proves it and builds it" >&2
+	@tools/try-pktkit $(TRIED)
+	@echo "make try: $(TRIED)"
 
 # The same by one thread after `make run`, and that each port has the same bytes.
 compare:

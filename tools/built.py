@@ -11,5 +11,5 @@ def program():
     """The file of `pktkit`: the one that PKTKIT names, the one that was built here, or the one on the path."""
     file = os.environ.get("PKTKIT") or (BUILT if os.path.exists(BUILT) else shutil.which("pktkit"))
     if not file:
-        sys.exit(f"{os.path.basename(sys.argv[0])}: no pktkit: make build, or make run and PKTKIT=FILE")
+        sys.exit(f"{os.path.basename(sys.argv[0])}: no pktkit: make build, or make try and PKTKIT=out/pktkit")
     return os.path.abspath(file)

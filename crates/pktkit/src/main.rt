@@ -5,11 +5,14 @@
 use cli::{program, report_out_of_memory, skip_program_name};
 use std::alloc::AllocError;
 use std::env;
-use std::io::ErrorKind;
+use std::io::{ErrorKind, IsTerminal, Write};
 use std::process::ExitCode;
 
 /// What a refused command line ends with.
 const REFUSED: u8 = 2;
+
+/// What somebody at a terminal sees who typed the program's name alone.
+const READING: &[u8] = b"pktkit: reading ring commands from standard input; see pktkit --help\n";
 
 fn main(rt: HostRuntime) -> ExitCode {
     let words = match env::args(&rt) {
@@ -20,6 +23,10 @@ fn main(rt: HostRuntime) -> ExitCode {
     let Ok(words) = words else {
         return ExitCode::from(report_out_of_memory(&mut rt.stderr()));
     };
+    if words.is_empty() && rt.stdin().is_terminal() {
+        // without the line everything works as well
+        let _ = rt.stderr().write_all(READING);
+    }
     let status = program(
         &rt,
         &rt,
