@@ -1,4 +1,4 @@
--- Cells that move, one after the other, behind those of another list: in order, or the last first.
+-- Cells that move, one after another, to the end of another list: in order, or the last first.
 use Rattle.std.proofs.Common.{◌≡◌, ◌+◌, ◌-◌, ◌<◌, ℕ, zero, suc, List, [], ◌∷◌, ◌++◌, length, take, drop, reverse, set, get_or, replicate, sym, refl, ap, ◌∙◌}
 use Rattle.std.proofs.Common.{Option, None, arith, append_assoc}
 use Rattle.std.proofs.Math.Seq.{set-append_seam}
@@ -27,7 +27,7 @@ module _ {T : Type 0} where
       → cell ≡ get_or other i cell → cell ≡ get_or all i cell
   first_at all other i cell lt rest told = told ∙ (ap (λ l. get_or l i cell) rest ∙ at_seam i all cell lt)
 
-  -- and stands behind those before it
+  -- and is after those before it
   pub moved_one : (had all to now : List (Option T)) (i at : ℕ) (cell : Option T) → i < length all
       → to ≡ had ++ (take i all ++ replicate (length all - i) None)
       → cell ≡ get_or all i cell → at ≡ length had + i → now ≡ set to at cell

@@ -58,7 +58,7 @@ module _ {T : Type 0} where
       ∙ (set-append_seam w last others None ∙ (λ k. w ++ replicate (let z : suc (N - n) ≡ N - (n - 1) = omega (arith, p.2) in z k) None)) in
       in_front N (n - 1) w (set xs (n - 1) None) is long (omega (arith, p.2))
 
-  -- further cells that hold nothing are told to be in use
+  -- further cells that hold nothing are counted as used
   pub lengthened : (N n m : ℕ) (xs : List (Option T)) → IsInFront N n xs → n + m ≤ N
       → IsInFront N (n + m) xs × (take (n + m) xs ≡ take n xs ++ replicate m None)
   lengthened N n m xs p room =
@@ -71,7 +71,7 @@ module _ {T : Type 0} where
       length-append (take n xs) (replicate m None) ∙ omega (arith, p.1, length-replicate m (let z : Option T = None in z)) in
       (in_front N (n + m) v xs is long room, lies N (n + m) v xs is long room)
 
-  -- cells at the end that hold nothing are told to be in use no more
+  -- cells at the end that hold nothing are no longer counted as used
   pub shortened : (N n k : ℕ) (xs : List (Option T)) → IsInFront N n xs → k ≤ n → drop k (take n xs) ≡ replicate (n - k) None
       → IsInFront N k xs × (take k xs ≡ take k (take n xs))
   shortened N n k xs p fits blank =

@@ -1,4 +1,4 @@
--- Lists of options whose entries are all there.
+-- Lists of options whose entries all hold something.
 use Rattle.std.proofs.Common.{◌≡◌, ◌<◌, ℕ, zero, suc, take, drop, get_or, List, [], ◌∷◌, ◌++◌, map, length, sym, refl, ap, ◌∙◌, Option, Some, None, IsSome}
 use Rattle.std.proofs.Common.{IfNone, arith, ◌↔◌, rules}
 use Rattle.std.specs.Prelude.{reverse, slice_get}
@@ -77,7 +77,7 @@ module _ {T : Type 0} where
       go (x ∷ xs) zero lt e = sym e
       go (x ∷ xs) (suc i) lt e = go xs i (omega arith) e
 
-  -- what a list of items is before and after its last one went
+  -- what a list of items is before and after its last one is removed
   pub record Pops (xs : List T) (cells : List (Option T)) (cell : Option T) : Type 0 where
     pub rest : List T
     pub item : T
@@ -110,7 +110,7 @@ module _ {T : Type 0} where
   pub popped_there : (xs : List T) (cells : List (Option T)) (cell : Option T) (P : Type 0) → Pops xs cells cell → IfNone cell P
   popped_there xs cells cell P p = rw p.is (search rules)
 
-  -- the first item goes: the list is turned round, the last one goes, and the list is turned round again
+  -- the first item is removed: the list is reversed, the last one is removed, and the list is reversed again
   turned_single : (o : Option T) → reverse (option_to_list o) ≡ option_to_list o
   turned_single None = refl
   turned_single (Some x) = refl

@@ -6,9 +6,9 @@ ghost use Rattle.std.specs.Option.{option_copied, option_to_list};
 use crate::cells::Cells;
 use std::marker::Model;
 
-/// A list of at most `N` items, kept in the value itself: cells that all hold one.
+/// A list of at most `N` items, kept in the value itself: every cell of it holds an item.
 ///
-/// It is as large as `N` optional items, 16 bytes each where an item is a box, so pass it by `&mut` where that serves.
+/// It is as large as `N` optional items, 16 bytes each if an item is a box, so pass it by `&mut` where you can.
 #[derive(Drop)]
 pub struct Burst<T: Drop, const N: usize> {
     pub cells: Cells<T, N>,
@@ -52,7 +52,7 @@ impl<T: Drop, const N: usize> Burst<T, N> {
         self.len() == 0
     }
 
-    /// Whether there is no room for a further item.
+    /// Whether there is no room for another item.
     #[inline]
     pub fn is_full(&self) -> bool
         ensures value { result ≡ (length self.now == N) }
@@ -61,7 +61,7 @@ impl<T: Drop, const N: usize> Burst<T, N> {
         self.len() == N
     }
 
-    /// The item at place `i`, counted from 0, where there is one.
+    /// The item at index `i`, counted from 0, if there is one.
     #[inline]
     pub fn get(&self, i: usize) -> Option<&T>
         ensures { option_copied result ≡ slice_get self.now i }
@@ -72,7 +72,7 @@ impl<T: Drop, const N: usize> Burst<T, N> {
         }
     }
 
-    /// `get` of a place that the list is known to have: without a look at its length.
+    /// `get` for an index known to be in the list, without checking its length.
     #[inline]
     pub fn get_known(&self, i: usize) -> Option<&T>
         requires { i < length self.now }
@@ -81,7 +81,7 @@ impl<T: Drop, const N: usize> Burst<T, N> {
         self.cells.as_slice()[i].as_ref()
     }
 
-    /// Appends an item. Asked: the list isn't full.
+    /// Appends an item. Requires: the list isn't full.
     #[inline]
     pub fn push(&mut self, item: T)
         requires { length self.old < N }
@@ -90,7 +90,7 @@ impl<T: Drop, const N: usize> Burst<T, N> {
         self.cells.push(Some(item));
     }
 
-    /// Removes the last item, where there is one.
+    /// Removes the last item, if there is one.
     #[inline]
     pub fn pop(&mut self) -> Option<T>
         ensures items { self.old ≡ self.new ++ option_to_list result }
@@ -100,8 +100,8 @@ impl<T: Drop, const N: usize> Burst<T, N> {
         self.cells.pop()?
     }
 
-    /// Removes the first item, where there is one, and moves the others up: its cost goes with the length of the list.
-    /// To empty a list from its front, `reverse` it once and `pop` its items.
+    /// Removes the first item, if there is one, and moves the others up: the cost grows with the length of the list. To
+    /// empty a list from its front, `reverse` it once and `pop` its items.
     pub fn pop_front(&mut self) -> Option<T>
         ensures items { self.old ≡ option_to_list result ++ self.new }
         ensures variant { IsSome result ↔ (0 < length self.old) }
@@ -113,7 +113,7 @@ impl<T: Drop, const N: usize> Burst<T, N> {
         item
     }
 
-    /// Moves all items of another list behind these, in order. Asked: there is room for them.
+    /// Moves all items of another list to the end of this one, in order. Requires: there is room for them.
     #[inline]
     pub fn append(&mut self, other: &mut Burst<T, N>)
         requires room { length self.old + length other.old ≤ N }
@@ -123,8 +123,8 @@ impl<T: Drop, const N: usize> Burst<T, N> {
         self.cells.append(&mut other.cells);
     }
 
-    /// Moves the items behind the first `k` behind those of another list, the last of them first. Asked: there are so
-    /// many, and there is room.
+    /// Moves the items after the first `k` to the end of `to`, in reverse order. Requires: there are at least `k`
+    /// items, and there is room.
     #[inline]
     pub fn move_tail_reversed(&mut self, k: usize, to: &mut Burst<T, N>)
         requires fits { k ≤ length self.old }
@@ -135,7 +135,7 @@ impl<T: Drop, const N: usize> Burst<T, N> {
         self.cells.move_tail_reversed(k, &mut to.cells);
     }
 
-    /// Turns the order of the items round.
+    /// Reverses the order of the items.
     pub fn reverse(&mut self)
         ensures { self.new ≡ reverse self.old }
     {

@@ -1,5 +1,5 @@
-//! Cells for items, in the value itself: where a burst has its items. An emptied list is empty at the price of a
-//! number, since each cell behind the list holds nothing.
+//! Cells for items, in the value itself: where a burst keeps its items. Emptying a list costs only the change of a
+//! number, since each cell after the list holds nothing.
 ghost use Rattle.std.specs.Prelude.{◌≡◌, ◌+◌, ◌-◌, ◌<◌, ◌≤◌, ◌==◌, List, [], ◌∷◌, ◌++◌, length, reverse, take, drop};
 ghost use Rattle.std.specs.Prelude.{slice_set, slice_index_or, replicate, None, IfNone};
 ghost use Rattle.std.specs.Option.{option_to_list};
@@ -8,7 +8,7 @@ use arrayvec::ArrayVec;
 use std::marker::Model;
 use std::mem::{self, ManuallyDrop};
 
-/// Puts `x` at `index`, and returns what was there.
+/// Puts `x` at `index`, and returns the previous value.
 #[inline]
 fn replace<S, const N: usize>(row: &mut ArrayVec<S, N>, index: usize, x: S) -> S
     requires { index < length row.old.items }
@@ -18,7 +18,7 @@ fn replace<S, const N: usize>(row: &mut ArrayVec<S, N>, index: usize, x: S) -> S
     mem::replace(&mut row.as_mut_slice()[index], x)
 }
 
-/// Turns the order of the first `n` entries round.
+/// Reverses the order of the first `n` entries.
 fn turn_front<S, const N: usize>(row: &mut ArrayVec<S, N>, n: usize)
     requires { n ≤ length row.old.items }
     ensures { row.new.items ≡ reverse (take n row.old.items) ++ drop n row.old.items }
@@ -72,7 +72,7 @@ impl<T: Drop, const N: usize> Cells<T, N> {
         &self.row.as_slice()[..self.len]
     }
 
-    /// Puts a cell at place `i`, and returns what was there.
+    /// Puts a cell at index `i`, and returns the previous one.
     #[inline]
     pub fn replace(&mut self, i: usize, cell: Option<T>) -> Option<T>
         requires { i < length self.old }
@@ -82,7 +82,7 @@ impl<T: Drop, const N: usize> Cells<T, N> {
         replace(&mut self.row, i, cell)
     }
 
-    /// Appends `n` cells that hold nothing, at the price of a number. Asked: there is room for them.
+    /// Appends `n` cells that hold nothing, by changing only the length. Requires: there is room for them.
     #[inline]
     pub fn grow_empty(&mut self, n: usize)
         requires { length self.old + n ≤ N }
@@ -91,7 +91,7 @@ impl<T: Drop, const N: usize> Cells<T, N> {
         self.len += n;
     }
 
-    /// Keeps the first `n` cells, at the price of a number. Asked: the others hold nothing.
+    /// Keeps the first `n` cells, by changing only the length. Requires: the others hold nothing.
     #[inline]
     pub fn truncate_empty(&mut self, n: usize)
         requires fits { n ≤ length self.old }
@@ -101,19 +101,19 @@ impl<T: Drop, const N: usize> Cells<T, N> {
         self.len = n;
     }
 
-    /// Appends a cell. Asked: the list isn't full.
+    /// Appends a cell. Requires: the list isn't full.
     #[inline]
     pub fn push(&mut self, cell: Option<T>)
         requires { length self.old < N }
         ensures { self.new ≡ self.old ++ cell ∷ [] }
     {
         let found = replace(&mut self.row, self.len, cell);
-        // the cell held nothing, so that nothing is to be dropped
+        // the cell held nothing, so there is nothing to drop
         let _nothing = ManuallyDrop::new(found);
         self.len += 1;
     }
 
-    /// Removes the last cell, where there is one.
+    /// Removes the last cell, if there is one.
     #[inline]
     pub fn pop(&mut self) -> Option<Option<T>>
         ensures items { self.old ≡ self.new ++ option_to_list result }
@@ -127,7 +127,7 @@ impl<T: Drop, const N: usize> Cells<T, N> {
         Some(replace(&mut self.row, last, None))
     }
 
-    /// Moves all cells of another list behind these, in order. Asked: there is room for them.
+    /// Moves all cells of another list to the end of this one, in order. Requires: there is room for them.
     #[inline]
     pub fn append(&mut self, other: &mut Cells<T, N>)
         requires room { length self.old + length other.old ≤ N }
@@ -139,14 +139,14 @@ impl<T: Drop, const N: usize> Cells<T, N> {
         self.grow_empty(many);
         for i in 0..many {
             let cell = other.replace(i, None);
-            // the cell held nothing, so that nothing is to be dropped
+            // the cell held nothing, so there is nothing to drop
             let _nothing = ManuallyDrop::new(self.replace(before + i, cell));
         }
         other.truncate_empty(0);
     }
 
-    /// Moves the cells behind the first `k` behind those of another list, the last of them first. Asked: there are so
-    /// many, and there is room.
+    /// Moves the cells after the first `k` to the end of `to`, in reverse order. Requires: there are at least `k`
+    /// cells, and there is room.
     #[inline]
     pub fn move_tail_reversed(&mut self, k: usize, to: &mut Cells<T, N>)
         requires fits { k ≤ length self.old }
@@ -159,13 +159,13 @@ impl<T: Drop, const N: usize> Cells<T, N> {
         to.grow_empty(all - k);
         for i in 0..all - k {
             let cell = self.replace(all - 1 - i, None);
-            // the cell held nothing, so that nothing is to be dropped
+            // the cell held nothing, so there is nothing to drop
             let _nothing = ManuallyDrop::new(to.replace(before + i, cell));
         }
         self.truncate_empty(k);
     }
 
-    /// Turns the order of the cells round.
+    /// Reverses the order of the cells.
     pub fn reverse(&mut self)
         ensures { self.new ≡ reverse self.old }
     {

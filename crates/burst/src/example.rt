@@ -1,9 +1,9 @@
-//! A caller, by the contracts alone.
+//! A caller, using the contracts alone.
 ghost use Rattle.std.specs.Prelude.{◌≡◌, [], ◌∷◌};
 
 use crate::burst::Burst;
 
-/// Two numbers go into a list, and behind those of another one, the last of them first.
+/// Pushes two numbers, then moves them to another list in reverse order.
 pub(crate) fn last_first(first: u32, second: u32) -> Burst<u32, 4>
     ensures { result ≡ second ∷ first ∷ [] }
 {

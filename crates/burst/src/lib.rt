@@ -1,7 +1,6 @@
-//! Short lists of items that take no memory of their own, and items that say which buffers they carry.
+//! Short lists of items that take no memory of their own, and items that report which buffers they carry.
 //!
-//! A caller, proved in `example.rt`: two numbers go into a list, and behind those of another one, the last of them
-//! first.
+//! A caller, proved in `example.rt`: it pushes two numbers, then moves them to another list in reverse order.
 //!
 //! ```text
 //! items.push(first);

@@ -1,4 +1,4 @@
-//! The words of the command line, and what they ask for.
+//! The arguments of the command line, and what they request.
 
 ghost use Rattle.std.specs.Prelude.{◌≡◌, drop, IfOk};
 ghost use Rattle.std.specs.Vec.Iter.{into_iter_items};
@@ -10,13 +10,13 @@ use clap::{Arg, ArgAction, ArgMatches, Command, Error};
 use std::alloc::{AllocError, Global};
 use std::env::Args;
 
-/// The most workers that a run may have.
+/// The maximum number of workers of a run.
 pub const MAX_WORKERS: usize = 16;
 
-/// What a command line asks for.
+/// What a command line requests.
 #[derive(Clone, Copy, Debug, PartialEq, Eq)]
 pub enum Request<'a> {
-    /// The replies to the ring commands of a file, or of the input where no file is named.
+    /// The replies to the ring commands of a file, or of standard input if no file is named.
     Ring(Option<&'a str>),
     /// The replies to the steps of a file.
     Steps(Option<&'a str>),
@@ -24,27 +24,27 @@ pub enum Request<'a> {
     Run(RunFiles<'a>),
 }
 
-/// What a run is told.
+/// The arguments of a run.
 #[derive(Clone, Copy, Debug, PartialEq, Eq)]
 pub struct RunFiles<'a> {
     /// The file of its settings.
     pub config: &'a str,
     /// The file of the capture.
     pub input: &'a str,
-    /// What the names of the ports' files begin with.
+    /// The prefix of the names of the ports' files.
     pub out: &'a str,
-    /// How many workers judge packets, each in a thread of its own; where there are none, one thread does all.
+    /// How many workers judge packets, each in a thread of its own; with 0, one thread does everything.
     pub workers: usize,
 }
 
-/// The words after the program's name.
+/// The arguments after the program's name.
 pub fn skip_program_name(alloc: Global, words: Args) -> Result<Vec<String>, AllocError>
     ensures { IfOk result (λ behind. behind.items ≡ drop 1 (into_iter_items words)) }
 {
     words.skip(1).collect(alloc)
 }
 
-/// Reads the words after the program's name. Without any the input is asked for.
+/// Reads the arguments after the program's name. Without any, the request is for standard input.
 pub fn read_words<'a>(alloc: Global, words: &'a [String]) -> Result<Request<'a>, Error> {
     if words.is_empty() {
         return Ok(Request::Ring(None));
@@ -61,7 +61,7 @@ pub fn read_words<'a>(alloc: Global, words: &'a [String]) -> Result<Request<'a>,
     }
 }
 
-/// What a run is told.
+/// The arguments of a run.
 fn run_files<'a>(run: &ArgMatches<'a>) -> Option<RunFiles<'a>> {
     Some(RunFiles {
         config: run.get_str("config")?,
@@ -71,7 +71,7 @@ fn run_files<'a>(run: &ArgMatches<'a>) -> Option<RunFiles<'a>> {
     })
 }
 
-/// The refusal of a run that isn't told each of its files.
+/// The error for a run without one of its files.
 fn missing_argument(alloc: Global) -> Result<Error, Error> {
     let mut run = run_command(alloc)?.bin_name("pktkit run")?;
     let error = run.error(
@@ -81,7 +81,7 @@ fn missing_argument(alloc: Global) -> Result<Error, Error> {
     Ok(error)
 }
 
-/// The refusal of words without a subcommand.
+/// The error for arguments without a subcommand.
 fn missing_subcommand(alloc: Global) -> Result<Error, Error> {
     let mut command = pktkit(alloc)?;
     let error = command.error(ErrorKind::MissingSubcommand, "a subcommand is required")?;
@@ -90,10 +90,10 @@ fn missing_subcommand(alloc: Global) -> Result<Error, Error> {
 
 /// The command line of `pktkit`.
 fn pktkit<'a>(alloc: Global) -> Result<Command<'a>, Error> {
-    let ring = file_subcommand(alloc, "ring", "Ring commands, one a line")?
+    let ring = file_subcommand(alloc, "ring", "Ring commands, one per line")?
         .about("Prints the replies to a file of ring commands")
         .after_help(help::RING);
-    let steps = file_subcommand(alloc, "steps", "A plan, and then atomic steps, one a line")?
+    let steps = file_subcommand(alloc, "steps", "A plan, then atomic steps, one per line")?
         .about("Prints the replies to a file of atomic steps on shared rings")
         .after_help(help::STEPS);
     let command = Command::new(alloc, "pktkit")
@@ -143,7 +143,7 @@ fn run_command<'a>(alloc: Global) -> Result<Command<'a>, Error> {
     Ok(command)
 }
 
-/// An option that names a file, or what files' names begin with.
+/// An option whose value is a file's name, or a prefix of files' names.
 fn path<'a>(alloc: Global, name: &'a str, value: &'a str, help: &'a str) -> Arg<'a> {
     Arg::new(alloc, name)
         .long(name)
@@ -153,7 +153,7 @@ fn path<'a>(alloc: Global, name: &'a str, value: &'a str, help: &'a str) -> Arg<
         .help(help)
 }
 
-/// A subcommand that names a file.
+/// A subcommand with a file as its argument.
 fn file_subcommand<'a>(alloc: Global, name: &'a str, help: &'a str) -> Result<Command<'a>, Error> {
     let file = Arg::new(alloc, "FILE")
         .required(true)

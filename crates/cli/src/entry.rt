@@ -1,5 +1,5 @@
-//! The whole program, over the words of its command line, a reader and two writers. Files and memory are of one
-//! runtime, threads may be of another.
+//! The whole program, given its arguments, a reader and two writers. Files and memory belong to one runtime, threads
+//! may belong to another.
 
 ghost use Rattle.std.specs.Prelude.{◌≡◌, ◌≤◌};
 
@@ -17,12 +17,12 @@ use std::sync::Wait;
 use std::thread::Threads;
 use steps_file::steps_text;
 
-/// The name that stands for the input where no file is named.
+/// The name for standard input when no file is named.
 const INPUT: &str = "-";
 
-/// Runs the program and tells its status: 0 where all went well, or help or the version was asked for, 1 after a
-/// fault, which is told in one line on `err`, and 2 where the command line is refused. Where `out` fails, that is the
-/// one fault that is told; where `err` fails, the status stays.
+/// Runs the program and returns its exit status: 0 on success, or if help or the version was requested, 1 after a
+/// fault, which is printed in one line on `err`, and 2 if the command line is refused. If `out` fails, that is the only
+/// fault printed; if `err` fails, the status is the same.
 pub fn program<
     R: Files + AllocGlobal,
     T: Threads + Wait + Sync,
@@ -46,14 +46,14 @@ where
     }
 }
 
-/// Tells that no memory was had for the words of the command line.
+/// Reports that there was no memory for the arguments of the command line.
 pub fn report_out_of_memory<E: Write>(err: &mut E) -> u8
     ensures { result ≡ 1 }
 {
     tell(Fault::Memory, err)
 }
 
-/// Tells a fault, as well as `err` takes it.
+/// Prints a fault, as far as `err` accepts it.
 fn tell<E: Write>(fault: Fault<'_>, err: &mut E) -> u8
     ensures { result ≡ 1 }
 {
@@ -61,7 +61,7 @@ fn tell<E: Write>(fault: Fault<'_>, err: &mut E) -> u8
     1
 }
 
-/// Tells why the command line is refused, or the help that it asks for.
+/// Prints why the command line is refused, or the help that it requests.
 fn refuse<O: Write, E: Write>(refusal: &Error, out: &mut O, err: &mut E) -> u8
     ensures { result ≤ 2 }
 {
@@ -78,7 +78,7 @@ fn refuse<O: Write, E: Write>(refusal: &Error, out: &mut O, err: &mut E) -> u8
     }
 }
 
-/// Prints the replies to the ring commands of a file, or of the input.
+/// Prints the replies to the ring commands of a file, or of standard input.
 fn answer_ring<'a, R: Files + AllocGlobal, I: Read + Drop, O: Write>(
     rt: &R,
     file: Option<&'a str>,
@@ -128,7 +128,7 @@ where
     print(report.as_slice(), out)
 }
 
-/// The bytes of a file, or of the input.
+/// The bytes of a file, or of standard input.
 fn read<'a, R: Files + AllocGlobal, I: Read + Drop>(
     rt: &R,
     file: Option<&'a str>,
@@ -148,7 +148,7 @@ fn read<'a, R: Files + AllocGlobal, I: Read + Drop>(
     }
 }
 
-/// Writes replies, where there are any.
+/// Writes replies, if there are any.
 fn print<'a, O: Write>(replies: &[u8], out: &mut O) -> Result<(), Fault<'a>> {
     if replies.is_empty() {
         return Ok(());

@@ -15,16 +15,16 @@ pub enum Fault<'a> {
     /// A file that the command line names can't be opened or read.
     #[error("file {0}")]
     File(OneLine<&'a str>),
-    /// The file of a port can't be created, or is a file that the run reads, or another port's.
+    /// The file of a port can't be created, or is a file that the run reads, or another port's file.
     #[error("file {0}")]
     PortFile(OneLine<String>),
     /// A file of commands wasn't answered to its end.
     #[error("{0}")]
     Text(TextFault),
-    /// A document gives no settings.
+    /// A document isn't valid settings.
     #[error("settings {0}")]
     Settings(SettingsFault),
-    /// The input of a run is no capture.
+    /// The input of a run isn't a valid capture.
     #[error("capture {0}")]
     Capture(CapFault),
     /// The input of a run can't be read.
@@ -36,13 +36,13 @@ pub enum Fault<'a> {
     /// A thread couldn't be started.
     #[error("thread")]
     Thread,
-    /// The input of a run has more records than a number counts.
+    /// The input of a run has more records than can be counted.
     #[error("window")]
     Window,
     /// The positions of a ring are used up.
     #[error("worn")]
     Worn,
-    /// There was no memory.
+    /// Out of memory.
     #[error("memory")]
     Memory,
     /// The output can't be written.
@@ -51,7 +51,7 @@ pub enum Fault<'a> {
 }
 
 impl<'a> Fault<'a> {
-    /// What is told of a file that can't be opened, created or read, where `fault` tells its name.
+    /// The fault for a file that can't be opened, created or read, where `fault` carries its name.
     pub fn of_file(error: &io::Error, fault: Fault<'a>) -> Fault<'a> {
         match error.kind() {
             ErrorKind::OutOfMemory => Fault::Memory,
@@ -59,7 +59,7 @@ impl<'a> Fault<'a> {
         }
     }
 
-    /// What is told of a document that gives no settings.
+    /// The fault for a document that isn't valid settings.
     pub fn of_settings(fault: SettingsFault) -> Fault<'a> {
         match fault {
             SettingsFault::Memory => Fault::Memory,
@@ -67,7 +67,7 @@ impl<'a> Fault<'a> {
         }
     }
 
-    /// What is told of a run over a capture that has no answer.
+    /// The fault for a run over a capture that failed.
     pub fn of_run(fault: RunFault) -> Fault<'a> {
         match fault {
             RunFault::Memory => Fault::Memory,

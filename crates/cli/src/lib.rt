@@ -1,5 +1,5 @@
-//! The program `pktkit` without its `main`: what the words of its command line ask for, files, devices, faults and
-//! statuses. A crate of its own, so that its tests stand above it and know it by its contracts.
+//! The program `pktkit` without its `main`: its arguments, files, devices, faults and exit statuses. A crate of its
+//! own, so that its tests are in a crate above it and know it by its contracts.
 #![tactic(auto)]
 
 mod command_line;

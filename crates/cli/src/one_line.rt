@@ -1,9 +1,9 @@
-//! Names of files in lines that stay one line.
+//! Names of files, printed so that their line stays one line.
 
 use std::convert::AsStr;
 use std::fmt::{Display, Error, Formatter, Write};
 
-/// A text whose control characters are written as escapes, a line break as `\n`. So a fault stays one line, even if a
+/// A text whose control characters are written as escapes, a line break as `\n`. So a fault is one line, even if a
 /// file's name has a line break.
 #[derive(Debug, Drop)]
 pub struct OneLine<S>(pub S);

@@ -1,5 +1,5 @@
-//! The run over a capture: its files are opened in their order, the capture is forwarded by one thread or by several,
-//! and the report is made.
+//! The run over a capture: its files are opened in order, the capture is forwarded by one thread or by several, and the
+//! report is made.
 
 ghost use Rattle.std.specs.Prelude.{◌≡◌, ◌++◌, IfOk, codes, decimal, vec_len};
 ghost use Rattle.counters.specs.Report.{report_of};
@@ -18,9 +18,9 @@ use std::rt::Files;
 use std::sync::Wait;
 use std::thread::Threads;
 
-/// The report of a run over these files. The settings are read first, then the capture is opened, then the files of
-/// the ports are created or emptied, and then the run begins: a fault leaves the files alone that come after it. A
-/// port's file that is one of the other files is a fault before any file is created or emptied.
+/// The report of a run over these files. The settings are read first, then the capture is opened, then the files of the
+/// ports are created or emptied, and then the run begins: a fault leaves the files that come later untouched. A port's
+/// file that is one of the other files is a fault before any file is created or emptied.
 pub fn run_files<'a, R: Files + AllocGlobal, T: Threads + Wait + Sync>(
     rt: &R,
     threads: &T,
@@ -76,7 +76,7 @@ fn read_settings<'a, R: Files + AllocGlobal>(
     }
 }
 
-/// The files of so many ports, created or emptied in their order, up to the first that can't be. If two names are links
+/// The files of `count` ports, created or emptied in their order, up to the first that can't be. If two names are links
 /// to one file that didn't exist, this is found here: creating the first port's file creates it, and leaves it empty.
 fn create_ports<'a, R: Files + AllocGlobal>(
     rt: &R,
@@ -96,7 +96,7 @@ fn create_ports<'a, R: Files + AllocGlobal>(
     Ok(ports)
 }
 
-/// The file of a port, created or emptied, which is none of those that were created before.
+/// The file of a port, created or emptied, which isn't one of those created before.
 fn create_port<'a, R: Files + AllocGlobal>(
     rt: &R,
     prefix: &str,

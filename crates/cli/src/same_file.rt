@@ -1,5 +1,5 @@
-//! Finds names of a run that are one file. Creating a port's file empties it, so it must not be a file that the run
-//! reads, nor the file of another port.
+//! Finds names of a run that refer to the same file. Creating a port's file empties it, so it must not be a file that
+//! the run reads, nor the file of another port.
 
 use crate::command_line::RunFiles;
 use crate::fault::Fault;
@@ -10,7 +10,7 @@ use std::io::{self, ErrorKind};
 use std::os::unix::fs::MetadataExt;
 use std::rt::Files;
 
-/// The device and the number of a regular file there, which are the same under all its names (stat(2)).
+/// The device and inode number of a regular file, which are the same under all its names (stat(2)).
 #[derive(Clone, Copy, PartialEq, Eq)]
 pub struct FileId {
     dev: u64,
@@ -18,8 +18,8 @@ pub struct FileId {
 }
 
 impl FileId {
-    /// The identity of a regular file. A device or a pipe has nothing that could be emptied. None also where the system
-    /// gives files no numbers.
+    /// The identity of a regular file. A device or a pipe has no content that could be emptied. `None` also if the
+    /// system doesn't number its files.
     pub fn of(about: &Metadata) -> Option<FileId> {
         if !about.is_file() || about.ino() == 0 {
             return None;
@@ -50,7 +50,7 @@ pub fn check_ports<'a, R: Files + AllocGlobal>(
     Ok(())
 }
 
-/// Whether a file is one of those that were noted before; it is noted then.
+/// Whether a file is one of those noted before; it is then noted.
 pub fn note<'a>(taken: &mut Vec<FileId>, about: io::Result<Metadata>) -> Result<bool, Fault<'a>> {
     let id = match about {
         Ok(about) => FileId::of(&about),

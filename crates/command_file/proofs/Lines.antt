@@ -13,7 +13,7 @@ use Rattle.command_file.specs.Text.{Bytes, lines_of}
 abbrev parts : Bytes → List Bytes
 parts bytes = slice_split (λ b. b == 10) bytes
 
--- a part, and the line that it is
+-- a part, and its line
 line_there : (bytes part line : Bytes) (k : ℕ) → (k < length (parts bytes)) × (part ≡ get_or (parts bytes) k part) → line ≡ strip_carriage_return part
     → (k < length (lines_of bytes)) × (line ≡ get_or (lines_of bytes) k line)
 line_there bytes part line k h e =
@@ -25,7 +25,7 @@ at_number : (bytes part : Bytes) (k n : ℕ) → n ≡ k → (k < length (parts 
     → (n < length (parts bytes)) × (part ≡ get_or (parts bytes) n part)
 at_number bytes part k n e h = subst (λ (j : ℕ). (j < length (parts bytes)) × (part ≡ get_or (parts bytes) j part)) (sym e) h
 
--- lines as an iterator gives them, which has yielded xs
+-- lines as an iterator returns them, which has yielded xs
 module _ {S A : Type 0} {steps : S → Option A → S → Type 0} {v : A → Bytes} {s t : S} (bytes : Bytes) (road : YieldsList steps v s (parts bytes))
     (xs : List A) (so_far : Yields steps s xs t) (n : ℕ) (many : n ≡ length xs) (r : Option A) (u : S) (next : steps t r u) where
   -- the line of this turn
@@ -35,6 +35,6 @@ module _ {S A : Type 0} {steps : S → Option A → S → Type 0} {v : A → Byt
       let turn = YieldsList-turn road xs t so_far r u x is next in
       line_there bytes (v x) line n (at_number bytes (v x) (length xs) n many turn) e
 
-  -- all lines were given
+  -- all lines were returned
   pub all_lines : r ≡ None → n ≡ length (lines_of bytes)
   all_lines none = many ∙ (YieldsList-end road xs t so_far r u none next).1 ∙ sym (length-map (parts bytes) strip_carriage_return)

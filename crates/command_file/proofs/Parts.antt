@@ -1,4 +1,4 @@
--- The words of a line, one part after the other
+-- The words of a line, one part after another
 use Rattle.std.proofs.Common.{◌≡◌, ℕ, ◌+◌, ◌<◌, List, [], ◌∷◌, ◌++◌, length, length-append, take, filter, get_or, not, ◌==◌, Bor, Bool, true, false, cond, sym}
 use Rattle.std.proofs.Common.{ap, ◌∙◌}
 use Rattle.std.proofs.lemmas.List.{take_more, map-append, append-nil}

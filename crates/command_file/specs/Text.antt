@@ -17,7 +17,7 @@ texts words = map (λ word. word.now) words
 abbrev pub lines_of : Bytes → List Bytes
 lines_of bytes = map strip_carriage_return (slice_split (λ b. b == 10) bytes)
 
--- space and tab alone part words
+-- only spaces and tabs separate words
 abbrev pub is_blank : ℕ → Bool
 is_blank b = (b == 32) || (b == 9)
 
@@ -25,7 +25,7 @@ is_blank b = (b == 32) || (b == 9)
 abbrev pub words_of : Bytes → List Bytes
 words_of line = filter (λ word. not (length word == 0)) (slice_split is_blank line)
 
--- whether a line asks for nothing: it has no words, or its first word begins with '#'
+-- whether a line has no command: it has no words, or its first word begins with '#'
 abbrev pub is_blank_or_comment : List Bytes → Bool
 is_blank_or_comment words = (length words == 0) || (slice_index (first_of words) 0 == 35) where
   first_of : List Bytes → Bytes
@@ -35,7 +35,7 @@ is_blank_or_comment words = (length words == 0) || (slice_index (first_of words)
 abbrev pub is_digit : ℕ → Bool
 is_digit b = nat_le 48 b && nat_le b 57
 
--- the value of digits, the first one counting most
+-- the value of digits, most significant first
 abbrev pub digits_value : Bytes → ℕ
 digits_value digits = fold (λ value digit. value * 10 + (digit - 48)) 0 digits
 

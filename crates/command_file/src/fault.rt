@@ -5,13 +5,13 @@ use thiserror::Error;
 /// Why the text of a command file was not answered to its end.
 #[derive(Clone, Copy, Debug, PartialEq, Eq, Error)]
 pub enum TextFault {
-    /// The line of this number, from 1 on, fits no form or may not stand where it does.
+    /// The line with this number, from 1 on, has no valid form or is not allowed at its place.
     #[error("line {0}")]
     BadLine(u64),
     /// The allocator refused a request.
     #[error("memory")]
     Memory,
-    /// The plan that a steps file begins with isn't lawful as a whole.
+    /// The plan at the start of a steps file isn't valid as a whole.
     #[error("plan")]
     BadPlan,
 }

@@ -1,5 +1,5 @@
 //! What all command files share: lines, words and numbers of a text, the parts of replies, and why a file was not
-//! answered to its end. `specs/Files.antt` says what it is to answer a file line by line, whatever its commands are.
+//! answered to its end. `specs/Files.antt` defines how a file is answered line by line, whatever its commands are.
 #![tactic(auto)]
 
 mod fault;

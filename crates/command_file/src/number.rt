@@ -3,10 +3,10 @@
 ghost use Rattle.std.specs.Prelude.{◌≡◌, ◌≤◌, length, IsTrue};
 ghost use Rattle.command_file.specs.Text.{number_of, is_digit, is_digits, len_is_1_to, digits_value};
 
-/// How many digits a number has at most.
+/// The maximum number of digits of a number.
 const MAX_DIGITS: usize = 20;
 
-/// As many digits as make a value below 2^64, whatever they are.
+/// The number of digits with which any value is below 2^64.
 const FEW_DIGITS: usize = 19;
 
 /// A number: 1 to 20 decimal digits with a value below 2^64.
@@ -38,7 +38,7 @@ pub fn len_is_1_to(most: usize, word: &[u8]) -> bool
     !word.is_empty() && word.len() <= most
 }
 
-/// The value of digits, the first one counting most.
+/// The value of digits, most significant first.
 fn value(digits: &[u8]) -> u128
     requires { IsTrue (is_digits digits.now) }
     ensures { result ≡ digits_value digits.now }
@@ -50,7 +50,7 @@ fn value(digits: &[u8]) -> u128
     value
 }
 
-/// The number that a word of so few bytes is: each byte is tested and counted in one pass.
+/// The number in a word with at most `FEW_DIGITS` bytes: each byte is tested and counted in one pass.
 fn short_number(word: &[u8]) -> Option<u64>
     requires { length word.now ≤ 19 }
     ensures { result ≡ number_of word.now }

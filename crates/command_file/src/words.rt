@@ -6,7 +6,7 @@ ghost use Rattle.command_file.specs.Text.{texts, words_of, is_blank_or_comment};
 
 use std::alloc::AllocError;
 
-/// Makes a list the words of a line: what stands between spaces and tabs.
+/// Fills a list with the words of a line: what is between spaces and tabs.
 pub fn split_words<'a>(line: &'a [u8], words: &mut Vec<&'a [u8]>) -> Result<(), AllocError>
     ensures { OnOk result (texts words.new.items ≡ words_of line.now) }
 {
@@ -19,14 +19,14 @@ pub fn split_words<'a>(line: &'a [u8], words: &mut Vec<&'a [u8]>) -> Result<(), 
     Ok(())
 }
 
-/// A line without one 0x0d before its end.
+/// A line without one 0x0d at its end.
 pub fn strip_carriage_return(line: &[u8]) -> &[u8]
     ensures { result.now ≡ strip_carriage_return line.now }
 {
     line.strip_suffix(b"\r").unwrap_or(line)
 }
 
-/// Whether a line of these words asks for nothing: it has none, or the first begins with `#`.
+/// Whether a line with these words has no command: it has no words, or the first begins with `#`.
 pub fn is_blank_or_comment(words: &[&[u8]]) -> bool
     ensures { result ≡ is_blank_or_comment (texts words.now) }
 {

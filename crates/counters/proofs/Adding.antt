@@ -1,4 +1,4 @@
--- Rows that are added place by place.
+-- Rows that are added element by element.
 use Rattle.std.proofs.Common.{◌≡◌, ℕ, zero, suc, ◌+◌, ◌<◌, ◌≤◌, List, [], ◌∷◌, length, sum, take, get_or, refl, sym, ap, ap₂, ◌∙◌, arith, add-zero}
 use Rattle.std.proofs.lemmas.List.{get_or-take}
 use Rattle.std.proofs.lemmas.List.Sums.{sum_by-cons}
@@ -37,13 +37,13 @@ length-take-le zero xs h = refl
 length-take-le (suc n) [] h = absurd (omega arith)
 length-take-le (suc n) (x ∷ xs) h = ap suc (length-take-le n xs (omega arith))
 
--- a place of the first n is at most their sum
+-- an element of the first n is at most their sum
 pub place-le-sum : (xs : List ℕ) (n k : ℕ) → k < n → n ≤ length xs → get_or xs k 0 ≤ sum (take n xs)
 place-le-sum xs n k below within =
     let long : length (take n xs) ≡ n = length-take-le n xs within in
     omega (arith, get_or-take n xs k 0 below, get_or-le-sum (take n xs) k (omega arith))
 
--- a row each of whose first n places is the sum of two
+-- a row in which each of the first n elements is the sum of two
 pub added_by_place : (row old other : List ℕ) (n : ℕ) → n ≤ length row → n ≤ length old
     → ((k : ℕ) → k < n → get_or row k 0 ≡ get_or old k 0 + get_or other k 0) → take n row ≡ added (take n old) (take n other)
 added_by_place row old other n fits fits_old same =

@@ -1,4 +1,4 @@
--- Counts of kinds: of lists one after the other, and of one verdict.
+-- Counts of kinds: for concatenated lists, and for one verdict.
 use Rattle.std.proofs.Common.{◌≡◌, ℕ, zero, suc, ◌+◌, ◌-◌, ◌<◌, ◌≤◌, ◌==◌, Bool, true, false, cond, List, [], ◌∷◌, ◌++◌, length, set, get_or, refl, sym, ap}
 use Rattle.std.proofs.Common.{ap₂, ◌∙◌, arith, add-zero, zero-add, take, replicate}
 use Rattle.std.proofs.lemmas.Bool.Decides.{nat_tests}
@@ -84,7 +84,7 @@ plus_dropped t reason i =
       tagged = add-zero t.tagged i;
     }
 
--- one more verdict behind those that were counted
+-- one more verdict after those that were counted
 pub one_more : (t new : Tally) (ports : ℕ) (verdict : Verdict) → new ≡ plus t (counts_of ports 0 (verdict ∷ []))
     → (oversize : ℕ) (verdicts : List Verdict) → t ≡ counts_of ports oversize verdicts
     → new ≡ counts_of ports oversize (verdicts ++ verdict ∷ [])
@@ -93,7 +93,7 @@ one_more t new ports verdict more oversize verdicts before =
     ∙ counts_of-append ports oversize 0 verdicts (verdict ∷ [])
     ∙ ap (λ n. counts_of ports n (verdicts ++ verdict ∷ [])) (add-zero oversize)
 
--- counts of nothing
+-- counts of 0
 pub none_yet : (is_of : ℕ → Verdict → Bool) (first n m : ℕ) → n ≤ m → take n (replicate m 0) ≡ of_kinds is_of first n []
 none_yet is_of first zero m within = refl
 none_yet is_of first (suc n) zero within = absurd (omega arith)

@@ -38,7 +38,7 @@ take-all (suc n) [] h = refl
 take-all zero (x ∷ xs) h = absurd (omega arith)
 take-all (suc n) (x ∷ xs) h = ap (λ ys. x ∷ ys) (take-all n xs (omega arith))
 
--- of the places of the ports that there are
+-- for the elements of the existing ports
 pub take-raised : (ports port : ℕ) (row : List ℕ) → port < ports
     → take ports (set row port (get_or row port 0 + 1)) ≡ set (take ports row) port (get_or (take ports row) port 0 + 1)
 take-raised ports port row below =
@@ -61,7 +61,7 @@ plus_kept t u kept other ports room =
       fits = omega (arith, records_of-plus t u ports (other.reasons ∙ sym kept.reasons));
     }
 
--- the counts that the fields show after a sent frame, and after other counts are added
+-- the counts in the fields after a sent frame, and after other counts are added
 pub sent_shown : (oversize ports : ℕ) (sent row dropped : List ℕ) (tagged more port : ℕ) (b : Bool) → port < ports
     → row ≡ set sent port (get_or sent port 0 + 1) → more ≡ cond b 1 0
     → tally oversize (take ports row) dropped (tagged + more) ≡ with_sent (tally oversize (take ports sent) dropped tagged) port b

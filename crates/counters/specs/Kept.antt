@@ -1,9 +1,9 @@
--- The counts that a value keeps.
+-- The counts in a value.
 use Rattle.std.specs.Prelude.{◌≤◌, take}
 use Rattle.counters.specs.declared.counts.Counts.TheInside.{Inside}
 use Rattle.counters.specs.Tally.{Tally, IsTally}
 
--- of the row of counts for each port, those of the ports that there are
+-- from the row of counts for each port, those of the existing ports
 abbrev pub tally_in : Inside → Tally
 tally_in c = record { oversize = c.oversize; sent = take c.ports c.sent; dropped = c.dropped; tagged = c.tagged }
 

@@ -23,11 +23,11 @@ tally_code =
     (λ c. record { oversize = c.0; sent = c.1.0; dropped = c.1.1.0; tagged = c.1.1.1 })
     (λ _. refl)
 
--- how many records there were: the oversize ones, and those of each verdict
+-- the number of records: the oversize ones, and those of each verdict
 abbrev pub records_of : Tally → ℕ
 records_of t = t.oversize + sum t.sent + sum t.dropped
 
--- place by place
+-- element by element
 abbrev pub added : List ℕ → List ℕ → List ℕ
 added [] ys = []
 added (x ∷ xs) [] = x ∷ xs
@@ -47,7 +47,7 @@ abbrev pub gathered : List Tally → Tally
 gathered [] = record { oversize = 0; sent = []; dropped = []; tagged = 0 }
 gathered (t ∷ ts) = fold plus t ts
 
--- what the counts of a run keep
+-- what holds for the counts of a run
 pub record IsTally (t : Tally) : Type 0 where
   pub some_ports : 0 < length t.sent
   pub few_ports : length t.sent ≤ 16
@@ -55,7 +55,7 @@ pub record IsTally (t : Tally) : Type 0 where
   pub tags : t.tagged ≤ sum t.sent
   pub fits : records_of t < 2 ^ 64
 
--- all have as many ports as the first
+-- all have the same number of ports as the first
 abbrev pub SamePorts : List Tally → Type 0
 SamePorts [] = Unit {0}
 SamePorts (t ∷ ts) = AllByRecursion (λ u. length u.sent ≡ length t.sent) ts

@@ -11,10 +11,10 @@ use crate::row::{add_row, raise};
 use ipv4::{MAX_PORTS, Reason, Verdict};
 use std::marker::Model;
 
-/// How many reasons there are for which a frame is dropped.
+/// The number of reasons to drop a frame.
 const REASONS: usize = 7;
 
-/// The counts of a run. They have a fixed size, and no call but `report` takes memory.
+/// The counts of a run. They have a fixed size, and only `report` takes memory.
 #[derive(Drop)]
 pub struct Counts {
     oversize: u64,
@@ -40,7 +40,7 @@ impl Model for Counts {
 }
 
 impl Counts {
-    /// Counts of nothing, with 1 to 16 ports.
+    /// Counts of 0, with 1 to 16 ports.
     pub fn new(ports: usize) -> Counts
         requires nonzero { 0 < ports }
         requires at_most { ports ≤ 16 }
@@ -55,7 +55,7 @@ impl Counts {
         }
     }
 
-    /// Counts a verdict, by one of the ports.
+    /// Counts a verdict. Requires: if it sends the frame, the port is one of these.
     pub fn add(&mut self, verdict: &Verdict)
         requires port { IsWithin (length self.old.sent) verdict.now }
         requires room { records_of self.old + 1 < 2 ^ 64 }
@@ -103,7 +103,7 @@ impl Counts {
         self.oversize += 1;
     }
 
-    /// The sums of several counts, at least one, all with as many ports.
+    /// The sums of several counts, at least one, all with the same number of ports.
     pub fn gather(list: &[Counts]) -> Counts
         requires nonzero { 0 < length list.now }
         requires same { SamePorts list.now }
@@ -120,7 +120,7 @@ impl Counts {
         }
     }
 
-    /// Adds other counts, one after the other.
+    /// Adds other counts, one after another.
     fn add_all(&mut self, list: &[Counts])
         requires same { AllByRecursion (λ t. length t.sent ≡ length self.old.sent) list.now }
         requires fits { records_of self.old + sum_by records_of list.now < 2 ^ 64 }
@@ -144,7 +144,7 @@ impl Counts {
         }
     }
 
-    /// Adds other counts with as many ports.
+    /// Adds other counts with the same number of ports.
     fn add_counts(&mut self, other: &Counts)
         requires same { length other.now.sent ≡ length self.old.sent }
         requires fits { records_of self.old + records_of other.now < 2 ^ 64 }

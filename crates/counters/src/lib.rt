@@ -1,5 +1,5 @@
-//! The counts of a forwarding run, and its report. Contracts see counts as a record of numbers, and say them of the
-//! list of verdicts that they are the counts of.
+//! The counts of a forwarding run, and its report. Contracts see counts as a record of numbers, and state them for the
+//! list of verdicts that were counted.
 #![tactic(auto)]
 
 mod counts;

@@ -8,8 +8,8 @@ use itoa::Buffer;
 use std::alloc::{AllocError, Global};
 
 impl Counts {
-    /// Writes the report of a run with these counts: a line for each number, and whether the capture was torn. For want
-    /// of memory there is an `Err`, and the text is as it was.
+    /// Writes the report of a run with these counts: a line for each number, and whether the capture was torn. Returns
+    /// `Err` if out of memory; the text is then unchanged.
     pub fn report(&self, alloc: Global, torn: bool, out: &mut Vec<u8>) -> Result<(), AllocError>
         ensures ok { OnOk result (out.new.items ≡ out.old.items ++ report_of self.now torn) }
         ensures err { OnErr result (out.new.items ≡ out.old.items) }
@@ -92,7 +92,7 @@ fn port_line(text: &mut Vec<u8>, port: usize, n: u64) -> Result<(), AllocError>
     line(text, b"", n)
 }
 
-/// A line for each reason for which a frame is dropped.
+/// A line for each reason to drop a frame.
 fn reason_lines(text: &mut Vec<u8>, dropped: &[u64]) -> Result<(), AllocError>
     requires { length dropped.now ≡ 7 }
     ensures { OnOk result (text.new.items ≡ text.old.items ++ reason_lines dropped.now) }

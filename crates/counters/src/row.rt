@@ -3,7 +3,7 @@
 ghost use Rattle.std.specs.Prelude.{◌≡◌, ◌+◌, ◌<◌, ◌≤◌, ◌^◌, length, take, sum, slice_index, slice_set};
 ghost use Rattle.counters.specs.Tally.{added};
 
-/// One more at a place.
+/// Adds one to an entry.
 pub fn raise(row: &mut [u64], i: usize)
     requires place { i < length row.old }
     requires fits { slice_index row.old i + 1 < 2 ^ 64 }
@@ -12,7 +12,7 @@ pub fn raise(row: &mut [u64], i: usize)
     row[i] += 1;
 }
 
-/// The first n of another row, added place by place.
+/// Adds the first n entries of another row, entry by entry.
 pub fn add_row(row: &mut [u64], other: &[u64], n: usize)
     requires here { n ≤ length row.old }
     requires there { n ≤ length other.now }

@@ -4,8 +4,8 @@
 //! `fabric` has the rings, `open` makes them, `close` ends them. `hand` is a thread's access: it is split, joined, and
 //! made a hand that keeps buffers back for a cache. `spans` has the calls: a start reserves a span, a settle publishes
 //! or takes its items. Below them `ring` is one ring of a fabric, `words` has the atomic steps and what each of them
-//! keeps, `slots` moves items into slots and out of them, and `stored` is what a slot holds an item in: an option, or for
-//! items that are plain words the word itself.
+//! keeps, `slots` moves items into slots and out of them, and `stored` is what a slot holds an item in: an option, or
+//! for items that are plain words the word itself.
 #![tactic(auto)]
 
 mod close;

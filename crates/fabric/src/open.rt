@@ -125,7 +125,7 @@ impl<T: Tagged, const N: usize> Fabric<T, N> {
     /// A fabric of rings that are all empty, with so many buffers, and a hand that has all of them. The items are those
     /// that carry the buffers, each buffer once; they come back in any case, in order. Takes memory.
     ///
-    /// Refused: `BadPlan`, tested first; `BadTags`; `Memory`.
+    /// Errors: `BadPlan`, tested first; `BadTags`; `Memory`.
     pub fn new(
         alloc: Global,
         rings: Vec<RingPlan>,
@@ -144,10 +144,10 @@ impl<T: Tagged, const N: usize> Fabric<T, N> {
 }
 
 impl<T: Word, const N: usize> Fabric<T, N, Slot<T>> {
-    /// The same for items that are plain words: a slot of the fabric is the word itself, and calls move words from and to
-    /// slices.
+    /// The same for items that are plain words: a slot of the fabric is the word itself, and calls copy words from
+    /// slices and to slices.
     ///
-    /// Refused: `BadPlan`, tested first; `BadTags`; `Memory`.
+    /// Errors: `BadPlan`, tested first; `BadTags`; `Memory`.
     pub fn of_words(
         alloc: Global,
         rings: Vec<RingPlan>,

@@ -1,4 +1,4 @@
--- A hand that has all parts is the only one: its spans and buffers are all that there are
+-- A hand that has all parts is the only one: its spans and buffers are all there are
 use Rattle.std.proofs.Common.{◌≡◌, ℕ, zero, suc, ◌+◌, ◌<◌, ◌≤◌, List, [], ◌∷◌, ◌++◌, length, max, refl, sym, ap, ◌∙◌, subst, arith}
 use Rattle.std.specs.Prelude.{slice_index_or, drop}
 use mathlib.Core.Option.{some, some-injective, some-ne-none}
@@ -24,7 +24,7 @@ module _ {T : Type 0} where
   abbrev nobody : Party T
   nobody = newcomer []
 
-  -- what a list of parties makes, where one without spans and buffers adds nothing
+  -- what a list of parties makes, if one without spans and buffers adds nothing
   module _ {R : Type 0} (f : List (Party T) → R) (skip : (ps : List (Party T)) → f (nobody ∷ ps) ≡ f ps)
       (more : (p : Party T) (ps qs : List (Party T)) → f ps ≡ f qs → f (p ∷ ps) ≡ f (p ∷ qs)) where
     none : (views : List (View T)) → sum_by parts_of views ≡ 0 → ((j : ℕ) (u : View T) → get_elem? views j ≡ some u → u.parts ≡ 0 → IsSpent u)

@@ -1,4 +1,4 @@
--- Lists read by their places: joined, cut, and the values that the slots of a span hold
+-- Lists read by index: joined, cut, and the values that the slots of a span hold
 use Rattle.std.proofs.Common.{◌≡◌, ℕ, zero, suc, ◌+◌, ◌-◌, ◌<◌, ◌≤◌, List, [], ◌∷◌, ◌++◌, length, map, take, drop, sym, refl, ap, ◌∙◌, arith, replicate}
 use Rattle.std.specs.Prelude.{slice_get, Option, Some, None}
 use mathlib.Core.Option.{some, some-injective, some-ne-none}
@@ -16,7 +16,7 @@ module _ {X : Type 0} where
   get_right (x ∷ xs) ys zero le = absurd (omega arith)
   get_right (x ∷ xs) ys (suc p) le = get_right xs ys p (omega arith) ∙ ap (slice_get ys) (let e : p - length xs ≡ suc p - suc (length xs) = omega arith in e)
 
-  -- an element of the rest behind n, and of the first m, is one of the list
+  -- an element of the rest after n, or of the first m, is one of the list
   pub get_dropped : (n : ℕ) (xs : List X) (i : ℕ) → slice_get (drop n xs) i ≡ slice_get xs (n + i)
   get_dropped zero xs i = ap (slice_get xs) (let e : i ≡ 0 + i = omega arith in e)
   get_dropped (suc n) [] i = refl
@@ -28,7 +28,7 @@ module _ {X : Type 0} where
   get_taken (suc m) (x ∷ xs) zero lt = refl
   get_taken (suc m) (x ∷ xs) (suc i) lt = get_taken m xs i (omega arith)
 
-  -- reading one of n like elements
+  -- reading one of n equal elements
   pub one_of_many : (n : ℕ) (y : X) (k : ℕ) → k < n → get_elem? (replicate n y) k ≡ some y
   one_of_many zero y k lt = absurd (omega arith)
   one_of_many (suc n) y zero lt = refl
@@ -53,7 +53,7 @@ module _ {X : Type 0} where
   length-many (suc n) y = ap suc (length-many n y)
 
 module _ {T : Type 0} where
-  -- items in the first cells, and others behind them
+  -- items in the first cells, and others after them
   pub item_in_front : (items : List T) (zs : List (Option T)) (k : ℕ) (x : T) → slice_get items k ≡ Some x → get_elem? (map Some items ++ zs) k ≡ some (Some x)
   item_in_front [] zs k x h = absurd (let u : None ≡ Some x = h in cc)
   item_in_front (y ∷ items) zs zero x h = let same : y ≡ x = (let u : Some y ≡ Some x = h in cc) in ap (λ (v : T). some (Some v)) same

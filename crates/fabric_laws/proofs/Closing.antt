@@ -1,4 +1,4 @@
--- What lies in the slots at the end
+-- What is in the slots at the end
 use Rattle.std.proofs.Common.{◌≡◌, ℕ, zero, suc, ◌+◌, ◌*◌, ◌<◌, ◌≤◌, ◌⊎◌, inl, inr, List, [], ◌∷◌, length, refl, sym, ap, ◌∙◌, subst, arith, get_or, true}
 use Rattle.std.specs.Prelude.{slice_get, Option, Some, None, drop, if◌then◌else◌}
 use mathlib.Core.Option.{some, some-injective, some-ne-none}
@@ -29,7 +29,7 @@ use Rattle.fabric_laws.proofs.Alone.{side_alone, sound_alone}
 use Rattle.fabric_laws.proofs.Steps.{St, position_base, ring_sound, side_ruled, word_is}
 use Rattle.fabric_laws.proofs.Views.{party_here, party_within}
 
--- where all open spans of a side end at m, and none of its settled spans ends above
+-- if all open spans of a side end at m, and none of its settled spans ends above
 module _ (r : ℕ) (side : Side) (m : ℕ) where
   settled_below : {T : Type 0} (xs : List (Settled T)) → ((j : ℕ) (x : Settled T) → get_elem? xs j ≡ some x → x.ring ≡ r → x.side ≡ side
       → x.start + length x.items ≤ m)

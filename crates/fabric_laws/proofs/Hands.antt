@@ -1,4 +1,4 @@
--- A fabric stays consistent as a hand is split in two, and as two hands are made one
+-- A fabric stays consistent when a hand is split in two, and when two hands are made one
 use Rattle.std.proofs.Common.{◌≡◌, ℕ, zero, suc, ◌+◌, ◌-◌, ◌/◌, ◌<◌, ◌≢◌, ◌⊎◌, inl, inr, List, [], ◌∷◌, ◌++◌, length, set, sym, refl, ap, ◌∙◌, subst, arith}
 use Rattle.std.proofs.Common.{append-nil}
 use Rattle.std.specs.Prelude.{slice_get, slice_index_or, slice_set, Some, None}
@@ -32,7 +32,7 @@ module _ {T : Type 0} (tags : T → List ℕ) (plans : List RingPlan) (pool : �
   abbrev parties : List (Party T)
   parties = parties_of_views s.views
 
-  -- where the sides of the rings are as they were, so are words and homes
+  -- if the sides of the rings are as they were, so are words and homes
   module _ (after : List (Party T)) (same : (r : ℕ) (plan : RingPlan) (side : Side) → slice_get plans r ≡ Some plan
       → side_of after r side ≡ side_of parties r side) where
     words_as : AreWords plans s.words after

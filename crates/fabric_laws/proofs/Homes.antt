@@ -1,4 +1,4 @@
--- What stands at home in the slots of all rings, as a span of one ring is reserved or settled
+-- What is at home in the slots of all rings, when a span of one ring is reserved or settled
 use Rattle.std.proofs.Common.{◌≡◌, ℕ, zero, suc, ◌+◌, ◌-◌, ◌%◌, ◌<◌, ◌≤◌, ◌≢◌, ◌⊎◌, inl, inr, List, [], ◌∷◌, ◌++◌, length, map, take, drop, sym, ap, ◌∙◌}
 use Rattle.std.proofs.Common.{mod-lt, arith, replicate}
 use Rattle.std.specs.Prelude.{slice_get, Option, Some, None}
@@ -51,7 +51,7 @@ pub slot_inside : (plans : List RingPlan) (r : ℕ) (plan : RingPlan) (p : ℕ) 
     → slot_at plans r plan p < slot_count plans
 slot_inside plans r plan p at pos = let one : p % slots_in plan < slots_in plan = mod-lt p pos in omega (arith, before_fits plans r plan at)
 
--- positions of one turn of a ring have slots of their own
+-- positions of one turn of a ring have different slots
 pub turn_apart : (plans : List RingPlan) (r : ℕ) (plan : RingPlan) (low p q : ℕ) → low ≤ p → p < low + slots_in plan → low ≤ q → q < low + slots_in plan
     → slot_at plans r plan p ≡ slot_at plans r plan q → p ≡ q
 turn_apart plans r plan low p q lp hp lq hq e =
@@ -62,7 +62,7 @@ run_apart plans r plan p n fits j k lj lk e =
     let same : p + j ≡ p + k = turn_apart plans r plan p (p + j) (p + k) (omega arith) (omega arith) (omega arith) (omega arith) e in
     omega arith
 
--- a position of the turn that is none of the run has none of its slots
+-- a position of the turn that isn't in the run has none of its slots
 off_run : (plans : List RingPlan) (r : ℕ) (plan : RingPlan) (low start n q : ℕ) → low ≤ start → start + n ≤ low + slots_in plan → low ≤ q
     → q < low + slots_in plan → (q < start) ⊎ (start + n ≤ q)
     → (k : ℕ) → k < n → slot_at plans r plan q ≢ slot_at plans r plan (start + k)
@@ -138,7 +138,7 @@ module _ {T : Type 0} where
       comes_back k y fits at =
           filled_here slot hs span.start ys k y (run_apart plans r plan span.start (length ys) (omega arith)) (λ j lt. inside (span.start + j)) at
 
-    -- a put of items, and what was reserved beyond them is given up
+    -- a put of items; what was reserved beyond them is given up
     module _ (span : Span) (items : List T) (reach : ℕ) (inside : (p : ℕ) → slot p < length hs) (first : span.start ≡ puts.len)
         (fits : length items ≤ span.count)
         (room : span.start + span.count ≤ takes.len + plan.geometry.capacity) where
@@ -191,7 +191,7 @@ module _ {T : Type 0} where
           listed_new : listed (settled_on puts span items reach) ≡ listed puts ++ items
           listed_new = listed_settled puts span items reach sound.published first
 
-    -- a take of the first of the items that the span shows, and the others come back
+    -- a take of the first of the items that the span shows; the others come back
     module _ (span : Span) (items shown : List T) (reach : ℕ) (inside : (p : ℕ) → slot p < length hs) (first : span.start ≡ takes.len)
         (fits : length items ≤ span.count)
         (room : span.start + span.count ≤ puts.len) (shows : shown ≡ take span.count (drop span.start (listed puts))) where

@@ -1,5 +1,5 @@
--- Fabrics that are not consistent: for each field of consistency a state that is made to break this field and no other. Each theorem is
--- named for its field
+-- Fabrics that aren't consistent: for each field of consistency a state that is made to break this field and no other.
+-- Each theorem is named for its field
 use Rattle.std.proofs.Common.{ℕ, ◌≡◌, ◌≤◌, ◌<◌, ◌*◌, ◌^◌, ◌++◌, List, [], ◌∷◌, length, refl, ap, true, false, arith, replicate}
 use Rattle.std.specs.Prelude.{Option, Some, None}
 use mathlib.Core.Option.{some, none}
@@ -23,7 +23,7 @@ use Rattle.ringcore_laws.proofs.Unsound.{quiet, busy, done}
 use Rattle.fabric_laws.specs.declared.view.View.{View}
 use Rattle.fabric_laws.specs.Rule.{IsConsistent, all_parts}
 
--- the four words of a ring: the put head and tail, the take head and tail; of an HTS side its own word, and nothing
+-- the four words of a ring: the put head and tail, the take head and tail; for an HTS side its own word, and nothing
 abbrev words : ℕ → ℕ → ℕ → ℕ → List ℕ
 words put put_tail take take_tail =
     put ∷ replicate 15 0 ++ put_tail ∷ replicate 15 0 ++ take ∷ replicate 15 0 ++ take_tail ∷ replicate 15 0
@@ -96,7 +96,7 @@ pub sound : ¬ IsConsistent tags (plan Multi) 1 (state (words 0 0 0 0) empty (
 unfolding side_of party_items party_count party_end listed holds moved place_count
 sound c = let h : Same 2 1 = c.sound.buffers.one_place 0 (omega arith) in absurd (omega arith)
 
--- an open put behind a gap
+-- an open put after a gap
 pub ruled : ¬ IsConsistent tags (plan Multi) 0
     (state (words 2 0 0 0) (bare ∷ out ∷ bare ∷ bare ∷ []) (only (plan Multi) 0 (busy [] [] (span 0 Put 1 1))))
 unfolding side_of party_items party_count party_end
@@ -138,7 +138,7 @@ tail c = let h : Same 1 0 = c.words.tail 0 Put (ring 4 3 Multi Multi false) refl
 pub home_count : ¬ IsConsistent tags (plan Multi) 0 (state (words 0 0 0 0) (bare ∷ empty) (only (plan Multi) 0 (newcomer [])))
 home_count c = let h : Same 5 4 = c.home_count in absurd (omega arith)
 
--- a published item whose slot has another item, or nothing, or is out though no take is open
+-- a published item whose slot has a different item, or nothing, or is out though no take is open
 pub full_of_another : ¬ IsConsistent tags (plan Multi) 0
     (state (words 1 1 0 0) (has 2 ∷ bare ∷ bare ∷ bare ∷ []) (only (plan Multi) 0 (quiet [] (done Put 0 (Word 1 ∷ []) ∷ []))))
 unfolding side_of party_items party_count party_end listed
@@ -165,7 +165,7 @@ unfolding side_of party_items party_count party_end
 vacant_and_out c =
     let h : some out ≡ some bare = (c.homes 0 (ring 4 3 Multi Multi false) refl).vacant 3 (omega arith) refl (omega arith) in absurd cc
 
--- a look at a ring that there isn't
+-- a look at a ring that doesn't exist
 pub observed_ring : ¬ IsConsistent tags (plan Multi) 0 (state (words 0 0 0 0) empty (looking Multi (look 5 0 None)))
 observed_ring c =
     let h : 5 < 1 = ((c.views 0 (hand all_parts (plan Multi) 0 (newcomer []) [] (Some (look 5 0 None))) refl).observed (look 5 0 None) refl).0.known in
@@ -178,7 +178,7 @@ observed_reserved c =
     (ring 4 3 Hts Hts false) refl refl in
     let e : 1 ≡ h.0 * 1048576 = h.1 in absurd (omega (arith, e))
 
--- a tail that was never so far
+-- a tail that never was so far
 pub observed_tail : ¬ IsConsistent tags (plan Multi) 0 (state (words 0 0 0 0) empty (looking Multi (look 0 0 (Some 1))))
 unfolding side_of party_items party_count party_end
 observed_tail c =
@@ -186,7 +186,7 @@ observed_tail c =
     let h : 1 ≤ 0 = seen.0.tail_seen 1 refl in
     absurd (omega arith)
 
--- a word that was never so far
+-- a word that never was so far
 pub observed_word : ¬ IsConsistent tags (plan Multi) 0 (state (words 0 0 0 0) empty (looking Multi (look 0 1 None)))
 unfolding side_of party_items party_count party_end
 observed_word c =
@@ -194,7 +194,7 @@ observed_word c =
     (ring 4 3 Multi Multi false) refl in
     absurd (omega arith)
 
--- an open take that shows another item than was published
+-- an open take that shows a different item from the one published
 abbrev taking : View Item
 taking = hand all_parts (plan Multi) 0 (busy [] (done Put 0 (Word 1 ∷ []) ∷ []) (span 0 Take 0 1)) (Word 2 ∷ []) None
 

@@ -1,4 +1,4 @@
--- The words of all sides, as one word changes
+-- The words of all sides, when one word changes
 use Rattle.std.proofs.Common.{◌≡◌, ℕ, ◌*◌, ◌<◌, ◌≢◌, List, length, set, refl, arith}
 use Rattle.std.specs.Prelude.{slice_index}
 use Rattle.std.proofs.lemmas.List.{get_or-set_other, get_or-set_same}
@@ -6,7 +6,7 @@ use Rattle.geom.specs.declared.plan.Side.{Side}
 use Rattle.geom.specs.declared.plan.Side.TheVariants.{Put, Take}
 use Rattle.fabric_laws.specs.Words.{own_at, tail_at}
 
--- two sides of one name, or of two
+-- two sides with the same name, or with different ones
 abbrev pub Same : ℕ → Side → ℕ → Side → Type 0
 Same r a q b = (r ≡ q) × (a ≡ b)
 

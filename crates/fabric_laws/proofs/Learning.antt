@@ -1,4 +1,4 @@
--- What a hand may learn of itself at any moment: what it holds doesn't clash, also where two hands were made one
+-- What a hand may learn about itself at any moment: what it holds doesn't clash, even if two hands were made one
 use Rattle.std.proofs.Common.{◌≡◌, ℕ, zero, suc, ◌+◌, ◌<◌, ◌≤◌, List, [], ◌∷◌, ◌++◌, length, refl, sym, ap, ◌∙◌, subst, arith, inl, inr, Option}
 use Rattle.std.specs.Prelude.{slice_get, slice_index_or, Some}
 use mathlib.Core.Option.{none, some}

@@ -41,7 +41,7 @@ module _ {T : Type 0} (tags : T → List ℕ) (plans : List RingPlan) (pool : �
     abbrev known : IsTrueView plans parties v
     known = c.views id v here
 
-    -- the hand's settled spans of a side end where the side is settled
+    -- the hand's settled spans of a side end at or below where the side is settled
     pub reads_back : (side : Side) → ReadsBack r side (side_of parties r side).len v
     reads_back side j x e same_ring same_side =
         subst (λ (z : ℕ × Side). x.start + length x.items ≤ (side_of parties z.0 z.1).len) (λ k. (same_ring k, same_side k)) (known.ends j x e)
@@ -272,7 +272,7 @@ module _ {T : Type 0} (tags : T → List ℕ) (plans : List RingPlan) (pool : �
             (sym tail) (refl, refl, got.0, got.1, got.2, got.3)),
       )
 
-  -- a lost exchange changes nothing but that the hand missed
+  -- a lost exchange changes nothing except that the hand missed
   pub lost : (s : St T) (c : IsConsistent tags plans pool s) (i id : ℕ) (v : View T) → get_elem? s.views id ≡ some v → 0 < v.parts
       → IsConsistent tags plans pool record {
         words = set s.words i (get_or s.words i 0);

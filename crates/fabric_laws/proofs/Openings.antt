@@ -33,7 +33,7 @@ use Rattle.fabric_laws.specs.Changes.{newborn}
 use Rattle.fabric_laws.proofs.Homes.{slot_inside}
 use Rattle.fabric_laws.proofs.Lanes.{own_inside, tail_inside}
 
--- each number of a range stands there once, and no other does
+-- each number of a range is in it once, and no other number is
 pub not_in_range : (b a n : ℕ) → (b < a) ⊎ (a + n ≤ b) → occurrences b (range_with_len a n) ≡ 0
 not_in_range b a zero out = refl
 not_in_range b a (suc n) out = elim (occurrences-cons b a (range_with_len (a + 1) n)) [

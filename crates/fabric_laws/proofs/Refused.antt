@@ -1,4 +1,4 @@
--- Refusals are true: what a word that a step found says of the spans of all hands
+-- Refusals are true: what a word that a step found shows about the spans of all hands
 use Rattle.std.proofs.Common.{◌≡◌, ◌≢◌, ℕ, zero, suc, ◌+◌, ◌<◌, ◌≤◌, ◌%◌, inl, inr, List, [], ◌∷◌, refl, sym, ap, ◌∙◌, subst, arith, Bool, true, false}
 use Rattle.std.specs.Prelude.{slice_get, slice_index, slice_index_or, Option, Some, None, ◌&&◌, if◌then◌else◌}
 use mathlib.Core.Option.{some, some-injective}
@@ -77,7 +77,7 @@ holding r side p (Some s) more = by_test (is_on s.ring s.side r side && covers s
         (s, refl, sym e.0, sym e.1, grind (arith, nat_tests, both.1))
     by_test false is more = absurd (omega (arith, more))
 
--- where none of a request is granted, there was too little
+-- if none of a request is granted, there was too little
 pub too_little : (how : How) (n room left : ℕ) → 0 < n → granted how n left ≡ 0 → room ≤ left → IsTooLittle how n room
 too_little Bulk n room left asked nothing le = let more : left < n = grind (arith, nat_tests, asked, nothing) in omega (arith, more, le)
 too_little Burst n room left asked nothing le = omega (arith, asked, nothing, le)
@@ -150,7 +150,7 @@ module _ {T : Type 0} (tags : T → List ℕ) (plans : List RingPlan) (pool : �
         (base_low (mode_of plan side) own (side_ruled tags plans pool s c o.ring plan at side)).1
 
 module _ {T : Type 0} (tags : T → List ℕ) (plans : List RingPlan) (pool : ℕ) where
-  -- each step may tell the moment at which it found its word
+  -- each step may state the moment at which it found its word
   pub witnessed : (slots id : ℕ) (me : Me (Option T) (View T)) (word : ℕ) (f : ℕ → ℕ) (tells : ℕ → Me (Option T) (View T) → Type 0) → 0 < me.0.parts
       → Allows (IsConsistent tags plans pool) slots id me word f tells
       → Allows (IsConsistent tags plans pool) slots id me word f (λ x m'. tells x m' × Was tags me.0 word x)
@@ -173,7 +173,7 @@ module _ {T : Type 0} (tags : T → List ℕ) (plans : List RingPlan) (pool : �
         ),
       )
 
--- the same of the moment of a step
+-- the same for the moment of a step
 module _ {T : Type 0} (tags : T → List ℕ) (ring : ℕ) (side : Side) (plan : RingPlan) (v : View T) (at : slice_get v.plans ring ≡ Some plan) where
   pub was_taken : (x : ℕ) → v.party.span ≡ None → mode_of plan side ≡ Hts → x % RESERVED_RANGE ≢ 0 → Was tags v (own_at ring side) x → WasTaken tags ring side v x
   was_taken x idle hts some_reserved was = (

@@ -48,7 +48,7 @@ use Rattle.fabric_laws.proofs.Steps.{St, built, ring_sound, side_ruled, span_wit
 use Rattle.fabric_laws.proofs.Truths.{GoOn, observed_on, true_on}
 use Rattle.fabric_laws.proofs.Views.{parties_set, party_here, party_within}
 
--- the own word after a reservation: so many positions more
+-- the own word after a reservation: this many positions more
 pub word_reserved : {I : Type 0} (mode : Mode) (l : RingSide I) (span : Span) → IsNext mode l span.start
     → own_word mode (reserved_on l span) ≡ own_word mode l + span.count
 word_reserved Multi l span next = omega (arith, next.multi refl)
@@ -72,7 +72,7 @@ module _ {T : Type 0} (tags : T → List ℕ) (plans : List RingPlan) (pool : �
   idle' : (slice_index_or parties id v.party).span ≡ None
   idle' = ap (λ (p : Party T). p.span) mine ∙ idle
 
-  -- the hand reserves a span, and takes its slots with these values; of a take it sees these items
+  -- the hand reserves a span, and takes its slots with these values; for a take it sees these items
   module _ (span : Span) (plan : RingPlan) (at : slice_get plans span.ring ≡ Some plan) (ys : List (Option T)) (items : List T)
       (positive : 0 < span.count) (next : IsNext (mode_of plan span.side) (side_of parties span.ring span.side) span.start)
       (low : span.start + span.count ≤ LAST) (within : span.start + span.count ≤ limit plan.geometry parties span.ring span.side)
@@ -174,7 +174,7 @@ module _ {T : Type 0} (tags : T → List ℕ) (plans : List RingPlan) (pool : �
     abbrev homes' : List (maybe.Option (Option T))
     homes' = emptied s.homes (run (slot_at plans span.ring plan) span.start ys)
 
-    -- the slots of another ring stay as they were
+    -- the slots of another ring are unchanged
     elsewhere : (r : ℕ) (plan' : RingPlan) → slice_get plans r ≡ Some plan' → r ≢ span.ring → (p : ℕ)
         → get_elem? homes' (slot_at plans r plan' p) ≡ get_elem? s.homes (slot_at plans r plan' p)
     elsewhere r plan' at' apart p =
@@ -266,7 +266,7 @@ module _ {T : Type 0} (tags : T → List ℕ) (plans : List RingPlan) (pool : �
       (at : slice_get plans r ≡ Some plan) (alive : 0 < me.0.parts) (idle : me.0.party.span ≡ None) (seen : me.0.observed ≡ Some o) (on_ring : o.ring ≡ r)
       (tail : o.tail_seen ≡ Some t)
       (positive : 0 < n) where
-    -- where the word is still the one looked at, the next span of the side starts there
+    -- if the word is still the one looked at, the next span of the side starts there
     next_is : (s : St T) (c : IsConsistent tags plans pool s) → get_elem? s.views id ≡ some me.0 → (side : Side) → o.side ≡ side
         → get_or s.words (own_at r side) 0 ≡ o.looked_at
         → IsNext (mode_of plan side) (side_of (parties_of_views s.views) r side) (position_of (mode_of plan side) o.looked_at)

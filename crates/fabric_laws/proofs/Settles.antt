@@ -79,7 +79,7 @@ module _ {T : Type 0} (tags : T → List ℕ) (plans : List RingPlan) (pool : �
       by_side Put = ring.published
       by_side Take = ring.dequeued
 
-  -- the span starts where its side is settled, or above
+  -- the span starts at or above where its side is settled
   pub starts_above : own.len ≤ span.start
   starts_above =
       let at_start : 0 < own.openers span.start = elim (held_cases span span.start) [
@@ -292,7 +292,7 @@ module _ {T : Type 0} (tags : T → List ℕ) (plans : List RingPlan) (pool : �
     known : span.ring < length plans
     known = slice_get_within plans span.ring plan at
 
-    -- of a multi side that is its tail
+    -- for a multi side that is its tail
     pub tail_words : mode_of plan span.side ≡ Multi → AreWords plans (set s.words (tail_at span.ring span.side) (span.start + span.count)) after
     tail_words multi = record {
       own = λ r side plan' at'.
@@ -326,7 +326,7 @@ module _ {T : Type 0} (tags : T → List ℕ) (plans : List RingPlan) (pool : �
             (let t : true ≡ false = sym (on_own span.ring span.side) ∙ ((λ k. is_on span.ring span.side (sym this.0 k) (sym this.1 k)) ∙ off) in cc))
             ∙ (c.words.tail r side plan' at' m ∙ ap (λ (l : RingSide T). l.len) (sym (untouched r side off)))
 
-    -- and of an HTS side its one word, with nothing reserved
+    -- and for an HTS side its one word, with nothing reserved
     pub own_words : mode_of plan span.side ≡ Hts → AreWords plans (set s.words (own_at span.ring span.side) ((span.start + length items) * RESERVED_RANGE)) after
     own_words hts = record {
       own = λ r side plan' at'. by_name r side plan' at' (on_or_off span.ring r span.side side);
@@ -369,7 +369,7 @@ module _ {T : Type 0} (tags : T → List ℕ) (plans : List RingPlan) (pool : �
             ∙ (c.words.own r side plan' at' ∙ ap (own_word (mode_of plan' side)) (sym (untouched r side off)))
 
 module _ {T : Type 0} where
-  -- the cells of a span are as many as its positions
+  -- the number of cells of a span is the number of its positions
   pub cells_many : (d : Side) (items shown : List T) (n : ℕ) → length items ≤ n → (d ≡ Take → length shown ≡ n) → length (cells_of d items shown n) ≡ n
   cells_many Put items shown n fits long =
       omega (arith, length-append (map Some items) (replicate (n - length items) None), length-cells items, length-many {X = Option T} (n - length items) None)
@@ -425,7 +425,7 @@ module _ {T : Type 0} (tags : T → List ℕ) (plans : List RingPlan) (pool : �
   same_span : (other : Span) → me.0.party.span ≡ Some other → span ≡ other
   same_span other e = same_plan (sym ready.busy ∙ e)
 
-  -- of a multi side, by an exchange of its tail
+  -- for a multi side, by an exchange of its tail
   pub settles : mode_of plan span.side ≡ Multi → length items ≡ span.count
       → Allows (IsConsistent tags plans pool) slots id me (tail_at span.ring span.side) (λ y. either (eqb y span.start) (span.start + span.count) y)
       (settle_tells tags (step slots (tail_at span.ring span.side) span.start (span.start + span.count) none) me)
@@ -472,7 +472,7 @@ module _ {T : Type 0} (tags : T → List ℕ) (plans : List RingPlan) (pool : �
             ((λ hit. absurd (miss hit)), λ _. (refl, refl, omega (arith, ap (λ (z : Span). z.start) is, above, tail, miss))),
       ))
 
-  -- of an HTS side, by a store of its word
+  -- for an HTS side, by a store of its word
   pub stores : mode_of plan span.side ≡ Hts
       → Allows (IsConsistent tags plans pool) slots id me (own_at span.ring span.side) (λ _. (span.start + length items) * RESERVED_RANGE)
       (λ _. store_tells tags (step slots (own_at span.ring span.side) ((span.start + length items) * RESERVED_RANGE) 0 none) me

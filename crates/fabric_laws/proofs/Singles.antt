@@ -1,4 +1,4 @@
--- Items that stand one after the other in a queue of items of one buffer each
+-- Consecutive items in a queue of items with one buffer each
 use Rattle.std.proofs.Common.{◌≡◌, ℕ, ◌+◌, ◌-◌, ◌≤◌, List, take, drop, sym, ap, ◌∙◌, subst, arith}
 use Rattle.std.specs.Prelude.{length, ◌==◌}
 use Rattle.std.specs.List.{list_all}
@@ -13,7 +13,7 @@ module _ {T : Type 0} (tags : T → List ℕ) where
       both_true _ _ (sym (list_all-append (λ x. length (tags x) == 1) (take k items) (drop k items))
       ∙ (ap (list_all (λ x. length (tags x) == 1)) (take-append-drop k items) ∙ single))
 
-  -- so many from a position on that is still queued
+  -- this many from a position on that is still queued
   pub singles_queued : (n start len : ℕ) (published : List T) → len ≤ start → AreSingle tags (drop len published)
       → AreSingle tags (take n (drop start published))
   singles_queued n start len published le single =

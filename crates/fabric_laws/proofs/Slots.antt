@@ -13,7 +13,7 @@ some_below (x ∷ xs) zero a e = omega arith
 some_below (x ∷ xs) (suc i) a e = let k = some_below xs i a e in omega arith
 
 module _ (slot : ℕ → ℕ) where
-  -- no two of these positions have one slot
+  -- no two of these positions have the same slot
   abbrev pub AreApart : ℕ → ℕ → Type 0
   AreApart p n = (j k : ℕ) → j < n → k < n → slot (p + j) ≡ slot (p + k) → j ≡ k
 
@@ -62,7 +62,7 @@ module _ {S : Type 0} where
   gives_valid (suc n) hs (x ∷ xs) = (tt, gives_valid n (set hs x.0 (some x.1)) xs)
 
   module _ (slot : ℕ → ℕ) where
-    -- a slot of none of these positions stays as it was
+    -- a slot of none of these positions is unchanged
     pub emptied_else : (hs : List (maybe.Option S)) (p : ℕ) (ys : List S) (i : ℕ) → ((k : ℕ) → k < length ys → i ≢ slot (p + k))
         → get_elem? (emptied hs (run slot p ys)) i ≡ get_elem? hs i
     emptied_else hs p [] i off = refl

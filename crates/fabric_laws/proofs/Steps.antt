@@ -44,7 +44,7 @@ base_low Multi l k = (k.behind, omega arith)
 base_low Hts l k = (omega arith, k.behind)
 
 module _ {T : Type 0} (tags : T → List ℕ) (plans : List RingPlan) (pool : ℕ) where
-  -- what holds of the hands' parts and of what they were told
+  -- what holds for the hands' parts and for what they know
   pub record Told (views : List (View T)) : Type 0 where
     pub told : (id : ℕ) (v : View T) → get_elem? views id ≡ some v → 0 < v.parts → (v.plans ≡ plans) × (v.pool ≡ pool)
     pub spent : (id : ℕ) (v : View T) → get_elem? views id ≡ some v → v.parts ≡ 0 → IsSpent v
@@ -93,7 +93,7 @@ module _ {T : Type 0} (tags : T → List ℕ) (plans : List RingPlan) (pool : �
       parts = omega (arith, sum_by_at (λ (u : View T). u.parts) s.views id v w here, c.parts);
     }
 
-    -- nor the party that it is: all else is as it was
+    -- nor the party that it is: everything else is unchanged
     pub stays : (i id : ℕ) (v w : View T) → get_elem? s.views id ≡ some v → 0 < v.parts → w.party ≡ v.party → w.parts ≡ v.parts → w.plans ≡ v.plans
         → w.pool ≡ v.pool
         → IsTrueView plans parties w → IsConsistent tags plans pool
@@ -140,7 +140,7 @@ module _ {T : Type 0} (tags : T → List ℕ) (plans : List RingPlan) (pool : �
             | inr none ↦ omega (arith, low)
           ]
 
-    -- an open take span lies in what is published
+    -- an open take span is within what is published
     pub span_within : (id : ℕ) (u : View T) → get_elem? s.views id ≡ some u → (span : Span) → u.party.span ≡ Some span → span.side ≡ Take
         → IsWithin plans parties span
     span_within id u here span busy taking =
@@ -167,7 +167,7 @@ module _ {T : Type 0} (tags : T → List ℕ) (plans : List RingPlan) (pool : �
               );
         }
 
-    -- each buffer of the pool is the hand's once at most, and no other number is
+    -- each buffer of the pool is the hand's at most once, and no other number is
     pub held_once : (id : ℕ) (u : View T) → get_elem? s.views id ≡ some u → IsHeldOnce tags pool u.party
     unfolding place_count
     held_once id u here b =

@@ -1,4 +1,4 @@
--- What a hand knows stays so as the sides of the rings go on
+-- What a hand knows stays true as the sides of the rings move on
 use Rattle.std.proofs.Common.{◌≡◌, ℕ, zero, suc, ◌+◌, ◌≤◌, List, [], ◌∷◌, ◌++◌, length, take, drop, sym, refl, ap, ◌∙◌, le_trans, arith}
 use Rattle.std.specs.Prelude.{slice_get, Some}
 use Rattle.geom.specs.declared.plan.Side.{Side}
@@ -51,7 +51,7 @@ module _ {T : Type 0} where
     pub there : slice_get plans span.ring ≡ Some plan
     pub published : span.start + span.count ≤ length (listed (side_of parties span.ring Put))
 
-  -- of a hand whose open take span lies in what is published
+  -- for a hand whose open take span is within what is published
   pub true_on : (plans : List RingPlan) (before after : List (Party T)) (v : View T) → GoOn plans before after
       → ((span : Span) → v.party.span ≡ Some span → span.side ≡ Take → IsWithin plans before span)
       → IsTrueView plans before v → IsTrueView plans after v

@@ -1,4 +1,4 @@
--- The hands as parties, as one hand's view changes
+-- The hands as parties, when one hand's view changes
 use Rattle.std.proofs.Common.{◌≡◌, ℕ, zero, suc, ◌+◌, ◌<◌, ◌≤◌, List, [], ◌∷◌, ◌++◌, length, set, sym, refl, ap, ◌∙◌, arith}
 use Rattle.std.specs.Prelude.{slice_index_or}
 use mathlib.Core.Option.{some, some-injective, some-ne-none}

@@ -1,5 +1,5 @@
--- Worked examples of the words that contracts cite, computed by the definitions. What is expected is the table of kinds of steps, and the
--- order in which words and slots lie
+-- Worked examples of the words that contracts cite, computed by the definitions. What is expected is the table of kinds
+-- of steps, and the order of words and slots
 use Rattle.std.proofs.Common.{ℕ, ◌≡◌, List, [], ◌∷◌, ◌++◌, refl, replicate, false}
 use Rattle.std.specs.Prelude.{Option, Some, None}
 use Rattle.geom.specs.declared.plan.Mode.{Mode}
@@ -23,7 +23,7 @@ use Rattle.fabric_laws.specs.Kinds.{cells_of, moved_by, run}
 use Rattle.fabric_laws.specs.Refusals.{room_on}
 use Rattle.fabric_laws.specs.Words.{own_at, settled_word_at, slot_at, slot_count, tail_at}
 
--- 1. Words and slots: of each ring four words, 16 apart; the slots of ring 1 behind the 4 of ring 0
+-- 1. Words and slots: for each ring four words, 16 apart; the slots of ring 1 after the 4 of ring 0
 
 abbrev two : List RingPlan
 two = ring 4 3 Multi Multi false ∷ ring 8 7 Hts Multi false ∷ []
@@ -41,7 +41,7 @@ settled_words = refl
 pub slots : slot_count two ∷ slot_at two 0 (ring 4 3 Multi Multi false) 6 ∷ slot_at two 1 (ring 8 7 Hts Multi false) 9 ∷ [] ≡ 12 ∷ 2 ∷ 5 ∷ []
 slots = refl
 
--- 2. What each kind of step changes of a hand that made 5 steps, lost to the word 3, and had looked at ring 1
+-- 2. What each kind of step changes in a hand that made 5 steps, lost to the word 3, and had looked at ring 1
 
 abbrev old_look : Observed
 old_look = record { ring = 1; side = Take; looked_at = 9; tail_seen = Some 4 }
@@ -72,15 +72,15 @@ looks_multi = refl
 pub looks_hts : view_after_look Hts 0 Put 2097152 before ≡ hand (newcomer (1 ∷ [])) [] (seen 0 Put 2097152 None) None 6 6
 looks_hts = refl
 
--- also where the side is busy: 2 positions are reserved from position 2 on
+-- even if the side is busy: 2 positions are reserved from position 2 on
 pub busy_ends : view_after_look Hts 0 Put 2097154 before ≡ hand (newcomer (1 ∷ [])) [] None (Some 2097154) 6 6
 busy_ends = refl
 
--- a question for room adds the tail, in place of the one that was seen
+-- a question for room adds the tail, replacing the one that was seen
 pub asks : asked 7 before ≡ hand (newcomer (1 ∷ [])) [] (seen 1 Take 9 (Some 7)) (Some 3) 6 6
 asks = refl
 
--- an exchange that is lost tells the word
+-- an exchange that is lost reports the word
 pub misses : missed 11 before ≡ hand (newcomer (1 ∷ [])) [] (Some old_look) (Some 11) 6 6
 misses = refl
 
@@ -93,7 +93,7 @@ pub settles : settled (span 0 Put 2 2) (Word 8 ∷ []) (hand (busy (1 ∷ []) []
     ≡ hand (quiet (1 ∷ []) (done Put 2 (Word 8 ∷ []) ∷ [])) [] (Some old_look) None 9 6
 settles = refl
 
--- a split of 7 parts: the second hand gets 3, and knows the plan alone; no step is counted
+-- a split of 7 parts: the second hand gets 3, and knows only the plan; no step is counted
 pub splits_first : kept (hand (newcomer (1 ∷ [])) [] (Some old_look) None 5 7) ≡ hand (newcomer (1 ∷ [])) [] (Some old_look) None 5 4
 splits_first = refl
 
@@ -104,11 +104,11 @@ pub joins : both before (hand (quiet (0 ∷ []) (done Put 2 (Word 8 ∷ []) ∷ 
     ≡ hand (quiet (1 ∷ 0 ∷ []) (done Put 2 (Word 8 ∷ []) ∷ [])) [] (Some old_look) (Some 3) 7 7
 joins = refl
 
--- a load that is no step is counted by itself, and a join adds up both counts
+-- a load that isn't a step is counted separately, and a join adds up both counts
 pub loads : (loaded before).loads ∷ (loaded before).steps ∷ (both (loaded before) (loaded (loaded before))).loads ∷ [] ≡ 1 ∷ 5 ∷ 3 ∷ []
 loads = refl
 
--- 3. What slots hold as a span is settled: of a put of 1 item in 3 positions, and of a take of the first of 3
+-- 3. What slots hold when a span is settled: for a put of 1 item in 3 positions, and for a take of the first of 3
 
 pub cells_of_a_put : cells_of Put (Word 1 ∷ []) [] 3 ≡ Some (Word 1) ∷ None ∷ None ∷ []
 cells_of_a_put = refl
@@ -125,7 +125,8 @@ moved_by_a_put = refl
 pub moved_by_a_take : moved_by (span 0 Take 3 2) 1 (hand (newcomer []) (Word 1 ∷ Word 2 ∷ []) None None 0 1, []) ≡ Word 1 ∷ []
 moved_by_a_take = refl
 
--- 4. The end: three items were published, one was dequeued, and a take of the next one is open; a put of 2 positions is open behind them
+-- 4. The end: three items were published, one was dequeued, and a take of the next one is open; a put of 2 positions
+--    after them is open
 
 abbrev at_end : List (View Item)
 at_end =
@@ -151,7 +152,8 @@ pub left_then : left_items record { words = []; homes = []; views = at_end } 0 �
 unfolding side_of party_items party_count party_end listed
 left_then = refl
 
--- room for a put: the capacity of 3 and the 1 that was dequeued, less all that is reserved; for a take: what is published and not reserved
+-- room for a put: the capacity of 3 and the 1 that was dequeued, less everything that is reserved; for a take: what is
+-- published and not reserved
 pub room_then : room_on (ring 4 3 Multi Multi false) at_end 0 Put ∷ room_on (ring 4 3 Multi Multi false) at_end 0 Take ∷ [] ≡ 0 ∷ 1 ∷ []
 unfolding side_of party_items party_count party_end
 room_then = refl

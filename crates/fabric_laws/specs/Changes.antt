@@ -1,4 +1,4 @@
--- What a step on a word changes of the view of the hand that makes it
+-- What a step on a word changes in the view of the hand that makes it
 use Rattle.std.specs.Prelude.{ℕ, ◌+◌, ◌-◌, ◌/◌, ◌%◌, ◌==◌, if◌then◌else◌, List, [], Some, None}
 use Rattle.geom.specs.declared.plan.Mode.{Mode}
 use Rattle.geom.specs.declared.plan.Mode.TheVariants.{Multi, Hts}
@@ -12,7 +12,7 @@ use Rattle.ringcore_laws.specs.History.{with_tail}
 use Rattle.fabric_laws.specs.declared.view.View.{View}
 
 module _ {T : Type 0} where
-  -- a look found the own word of a side, with nothing reserved where the side is HTS
+  -- a look found the own word of a side, with nothing reserved if the side is HTS
   abbrev pub looked : ℕ → Side → ℕ → View T → View T
   looked ring side word v =
       let found : Observed = record { ring = ring; side = side; looked_at = word; tail_seen = None } in
@@ -35,7 +35,7 @@ module _ {T : Type 0} where
   abbrev pub missed : ℕ → View T → View T
   missed word v = record v { lost = Some word; steps = v.steps + 1 }
 
-  -- a span was reserved, of the take side with these items
+  -- a span was reserved; on the take side with these items
   abbrev pub reserved : Span → List T → View T → View T
   reserved span items v = record v { party = with_open v.party span; shown = items; lost = None; steps = v.steps + 1 }
 
@@ -43,7 +43,7 @@ module _ {T : Type 0} where
   abbrev pub settled : Span → List T → View T → View T
   settled span items v = record v { party = with_settled v.party span items; shown = []; steps = v.steps + 1 }
 
-  -- a load that is no step: nothing else changes
+  -- a load that isn't a step: nothing else changes
   abbrev pub loaded : View T → View T
   loaded v = record v { loads = v.loads + 1 }
 
@@ -61,14 +61,14 @@ module _ {T : Type 0} where
     pool = pool;
   }
 
-  -- what a hand keeps of a split, and what the new one has
+  -- what a hand keeps after a split, and what the new one has
   abbrev pub kept : View T → View T
   kept v = record v { parts = v.parts - v.parts / 2 }
 
   abbrev pub split_off : View T → View T
   split_off v = newborn v.plans v.pool (v.parts / 2) []
 
-  -- two hands made one, and what is left of the second
+  -- two hands made one, and what remains of the second
   abbrev pub both : View T → View T → View T
   both v w =
       record v {

@@ -1,4 +1,4 @@
--- What lies in the slots of a fabric that no thread shares any more
+-- What is in the slots of a fabric that is no longer shared by threads
 use Rattle.std.specs.Prelude.{ℕ, ◌+◌, ◌<◌, ◌≤◌, ◌≡◌, ◌/◌, ◌%◌, List, [], ◌∷◌, drop, slice_get, slice_index, Option}
 use Rattle.std.specs.Prelude.{Some}
 use mathlib.Core.Option.{some}
@@ -34,7 +34,7 @@ module _ {T : Type 0} where
   left_items s r =
       drop (side_of (parties_of_views s.views) r Take).reach (listed (side_of (parties_of_views s.views) r Put))
 
-  -- what lies in the slots of a ring
+  -- what is in the slots of a ring
   pub record LiesLeft (plans : List RingPlan) (s : State (Option T) (View T)) (r : ℕ) (plan : RingPlan) : Type 0 where
     -- the words show from where on, and how far
     pub first : first_left s.words r plan ≡ (side_of (parties_of_views s.views) r Take).reach
@@ -47,10 +47,10 @@ module _ {T : Type 0} where
         → (x : T) × (slice_get (listed (side_of (parties_of_views s.views) r Put)) p ≡ Some x)
         × (get_elem? s.homes (slot_at plans r plan p) ≡ some (some (Some x)))
 
-  -- A hand that has all parts is the only one: its spans and buffers are all that there are, and sound
+  -- A hand that has all parts is the only one: its spans and buffers are all there are, and sound
   abbrev pub IsWhole : (T → List ℕ) → View T → Type 0
   IsWhole tags v = v.parts ≡ all_parts → Sound tags v.plans v.pool (v.party ∷ [])
 
-  -- and where it has no open span, what is left is all that is queued
+  -- and if it has no open span, what is left is everything that is queued
   abbrev pub LeavesQueue : State (Option T) (View T) → View T → ℕ → Type 0
   LeavesQueue s v r = v.parts ≡ all_parts → left_items s r ≡ queue (v.party ∷ []) r

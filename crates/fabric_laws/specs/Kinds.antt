@@ -1,5 +1,5 @@
--- The kinds of step on a word, each with what it tells the hand that makes it: of the step, the hand before, the word
--- found and the hand after
+-- The kinds of step on a word, each with what the hand that makes it learns: as a relation of the step, the hand
+-- before, the word found and the hand after
 use Rattle.std.specs.Prelude.{ℕ, suc, ◌+◌, ◌-◌, ◌*◌, ◌<◌, ◌≤◌, ◌≡◌, ◌≢◌, List, [], ◌∷◌, ◌++◌, map, length, take, drop}
 use Rattle.std.specs.Prelude.{replicate, true}
 use Rattle.std.specs.Prelude.{slice_get, Option, Some, None}
@@ -26,12 +26,12 @@ use Rattle.fabric_laws.specs.Words.{own_at, settled_word_at, slot_at, tail_at}
 use Rattle.fabric_laws.specs.Changes.{view_after_look, asked, loaded, missed, reserved, settled}
 use Rattle.fabric_laws.specs.Closing.{IsWhole}
 
--- slots of positions from p on, with these values
+-- the slots of positions from p on, with these values
 abbrev pub run : {S : Type 0} → (ℕ → ℕ) → ℕ → List S → List (ℕ × S)
 run slot p [] = []
 run slot p (y ∷ ys) = (slot p, y) ∷ run slot (suc p) ys
 
--- what a side was seen to have: no more than the capacity between the word looked at and the other side's tail
+-- what was seen of a side: at most the capacity between the word looked at and the other side's tail
 abbrev pub IsNear : Side → ℕ → ℕ → ℕ → Type 0
 IsNear Put capacity position tail = position ≤ capacity + tail
 IsNear Take capacity position tail = position ≤ tail
@@ -49,7 +49,7 @@ module _ {T : Type 0} where
       → (m'.0 ≡ view_after_look (mode_of plan side) r side x m.0) × (m'.1 ≡ m.1)
       × ReadsBack r side (position_of (mode_of plan side) x) m.0 × (position_of (mode_of plan side) x ≤ LAST)
 
-  -- a put into a free ring finds room for all buffers that the hand has
+  -- a put into a free ring finds room for all buffers of the hand
   abbrev pub HasRoom : (T → List ℕ) → Side → RingPlan → ℕ → ℕ → View T → Type 0
   HasRoom tags Put plan position tail v =
       plan.free ≡ true → position + buffers_had tags v.pool v.party ≤ plan.geometry.capacity + tail
@@ -66,7 +66,7 @@ module _ {T : Type 0} where
       × IsNear side plan.geometry.capacity position tail
       × (m.0.party.span ≡ None → HasRoom tags side plan position tail m.0)
 
-  -- Reserve: an exchange of the own word, by which the slots of the new span come to the hand, those of a take with the
+  -- Reserve: an exchange of the own word, by which the slots of the new span go to the hand, those of a take with the
   -- published items
   abbrev pub reserve_put_tells : Step (Option T) → Me (Option T) (View T) → ℕ → Me (Option T) (View T) → Type 0
   reserve_put_tells st m x m' = (r n : ℕ) (plan : RingPlan) → st.word ≡ own_at r Put → st.second ≡ st.first + n
@@ -89,7 +89,7 @@ module _ {T : Type 0} where
       × (plan.free ≡ true → AreSingle tags items))
       × (x ≢ st.first → (m'.0 ≡ missed x m.0) × (m'.1 ≡ m.1))
 
-  -- the item before the others, where there is one
+  -- the item before the others, if there is one
   abbrev pub with_item : Option T → List T → List T
   with_item None items = items
   with_item (Some x) items = x ∷ items
@@ -99,8 +99,8 @@ module _ {T : Type 0} where
   held [] = []
   held (y ∷ ys) = with_item y.1 (held ys)
 
-  -- What the slots of a span hold as it is settled: of a put the items, and nothing in the slots beyond them; of a take
-  -- nothing in the slots of the items that it takes, and the others again in theirs
+  -- What the slots of a span hold when it is settled: for a put the items, and nothing in the slots after them; for a
+  -- take nothing in the slots of the items that it takes, and the other items in theirs again
   abbrev pub cells_of : Side → List T → List T → ℕ → List (Option T)
   cells_of Put items shown count = map Some items ++ replicate (count - length items) None
   cells_of Take items shown count = replicate (length items) None ++ map Some (drop (length items) shown)
@@ -116,7 +116,7 @@ module _ {T : Type 0} where
     pub shows : span.side ≡ Take → (items ≡ take (length items) m.0.shown) × (length m.0.shown ≡ span.count)
     pub has : m.1 ≡ run (slot_at plans span.ring plan) span.start (cells_of span.side items m.0.shown span.count)
 
-  -- what a settle of so many positions moves: a put what the hand's slots hold, a take the first items that its span
+  -- what a settle of this many positions moves: a put what the hand's slots hold, a take the first items that its span
   -- shows
   abbrev pub moved_by : Span → ℕ → Me (Option T) (View T) → List T
   moved_by span k m = moved_on span.side k m
@@ -125,7 +125,7 @@ module _ {T : Type 0} where
       moved_on Put k m = held m.1
       moved_on Take k m = take k m.0.shown
 
-  -- each buffer of the pool is a party's once at most, no other number is, and none was put more often than it was had
+  -- each buffer of the pool is a party's at most once, no other number is, and none was put more often than it was had
   abbrev pub IsHeldOnce : (T → List ℕ) → ℕ → Party T → Type 0
   IsHeldOnce tags pool party = (b : ℕ) → (holds tags b party ≤ 1) × (pool ≤ b → holds tags b party ≡ 0)
       × (moved tags Put b party ≤ occurrences b party.given + moved tags Take b party)
@@ -139,15 +139,15 @@ module _ {T : Type 0} where
         → party_items r Put p party ≡ x ∷ [] → party_items r Take p party ≡ y ∷ [] → x ≡ y
 
   -- Learn: a load of any word, by which a hand learns that what it holds doesn't clash, that it has no more parts than
-  -- there are, and that it is the only one where it has all. It is counted with the loads, not with the steps, and
-  -- nothing else changes
+  -- there are, and that it is the only one if it has all. It is counted with the loads, not with the steps, and nothing
+  -- else changes
   abbrev pub learn_tells : (T → List ℕ) → Step (Option T) → Me (Option T) (View T) → ℕ → Me (Option T) (View T) → Type 0
   learn_tells tags st m x m' =
       (m'.0 ≡ loaded m.0) × (m'.1 ≡ m.1) × IsHeldOnce tags m.0.pool m.0.party × IsApart m.0.plans m.0.party
       × (m.0.parts ≤ all_parts) × IsWhole tags m.0
 
-  -- Settle of a multi side: an exchange of its tail, by which the slots of the span go home. Lost, it found that an
-  -- earlier span isn't settled
+  -- Settle of a multi side: an exchange of its tail, by which the slots of the span go home. If it is lost, it found
+  -- that an earlier span isn't settled
   abbrev pub settle_tells : (T → List ℕ) → Step (Option T) → Me (Option T) (View T) → ℕ → Me (Option T) (View T)
       → Type 0
   settle_tells tags st m x m' = (span : Span) → st.word ≡ tail_at span.ring span.side → m.0.party.span ≡ Some span

@@ -1,4 +1,4 @@
--- What a refusal says of the spans of all hands
+-- What a refusal states about the spans of all hands
 use Rattle.std.specs.Prelude.{ℕ, ◌+◌, ◌-◌, ◌<◌, ◌≤◌, ◌≡◌, ◌≢◌, List, slice_index, Option, Some}
 use mathlib.Core.Option.{some}
 use lib.ListN.{get_elem?}
@@ -36,7 +36,7 @@ module _ {T : Type 0} where
       × (other.party.span ≡ Some span) × (span.ring ≡ own.ring) × (span.side ≡ own.side) × (span.start < own.start)
 
 module _ {T : Type 0} (tags : T → List ℕ) where
-  -- a moment at which a step may have been made: all is consistent, the hand has this view, and this word is x
+  -- a moment at which a step may have been made: everything is consistent, the hand has this view, and this word is x
   pub record Was (v : View T) (word x : ℕ) : Type 0 where
     pub state : State (Option T) (View T)
     pub id : ℕ
@@ -44,7 +44,7 @@ module _ {T : Type 0} (tags : T → List ℕ) where
     pub here : get_elem? state.views id ≡ some v
     pub found : slice_index state.words word ≡ x
 
-  -- what a kind of step tells, and a moment at which it may have found its word
+  -- what a hand learns from a kind of step, and a moment at which it may have found its word
   abbrev pub and_was : (Step (Option T) → Me (Option T) (View T) → ℕ → Me (Option T) (View T) → Type 0)
       → Step (Option T) → Me (Option T) (View T) → ℕ → Me (Option T) (View T) → Type 0
   and_was tells st m x m' = tells st m x m' × Was m.0 st.word x
@@ -58,7 +58,7 @@ module _ {T : Type 0} (tags : T → List ℕ) where
   WasMade ring side plan v x = (was : Was v (own_at ring side) x)
       × (x ≡ own_word (mode_of plan side) (side_of (parties_of_views was.state.views) ring side))
 
-  -- NoRoom: there was room for no more than so many
+  -- NoRoom: there was room for at most this many
   abbrev pub HadAtMost : ℕ → Side → RingPlan → View T → ℕ → Type 0
   HadAtMost ring side plan v left =
       (word x : ℕ) × (was : Was v word x) × (room_on plan was.state.views ring side ≤ left)

@@ -30,7 +30,8 @@ use Rattle.fabric_laws.specs.Words.{own_at, slot_at, slot_count, tail_at}
 abbrev pub all_parts : ℕ
 all_parts = 2 ^ 63
 
--- a plan that a fabric may have: each ring has a slot more than items at least, and a free ring takes all buffers
+-- a plan that a fabric may have: each ring has at least one slot more than items, and a free ring has room for all
+-- buffers
 pub record IsFitting (plans : List RingPlan) (pool : ℕ) : Type 0 where
   pub spare : (r : ℕ) (plan : RingPlan) → slice_get plans r ≡ Some plan → plan.geometry.capacity < plan.geometry.size
   pub small : (r : ℕ) (plan : RingPlan) → slice_get plans r ≡ Some plan → plan.geometry.size ≤ 2 ^ 20
@@ -49,7 +50,7 @@ module _ {T : Type 0} where
     pub tail : (r : ℕ) (side : Side) (plan : RingPlan) → slice_get plans r ≡ Some plan → mode_of plan side ≡ Multi
         → slice_index words (tail_at r side) ≡ (side_of parties r side).len
 
-  -- What stands at home in the slots of a ring
+  -- What is at home in the slots of a ring
   pub record AtHome (plans : List RingPlan) (homes : List (maybe.Option (Option T))) (puts takes : RingSide T) (r : ℕ)
       (plan : RingPlan) : Type 0 where
     -- a queued position that no open take span holds has its item there
@@ -59,30 +60,30 @@ module _ {T : Type 0} where
     pub vacant : (p : ℕ) → puts.len ≤ p → puts.openers p ≡ 0 → p < takes.len + plan.geometry.size
         → get_elem? homes (slot_at plans r plan p) ≡ some (some None)
 
-  -- what a hand knows of the rings is so
+  -- what a hand knows of the rings is true
   pub record IsTrueView (plans : List RingPlan) (parties : List (Party T)) (v : View T) : Type 0 where
-    -- a word looked at is not above what its word is now, nor a tail seen above how far the other side is settled
+    -- a word that was looked at is at most what it is now, and a tail that was seen at most how far the other side is
+    -- settled
     pub observed : (o : Observed) → v.observed ≡ Some o → TrueObserved plans parties o × IsBehind plans parties o
     -- the items of its open take span are those published at its positions
     pub shown : (span : Span) → v.party.span ≡ Some span → span.side ≡ Take
         → v.shown ≡ take span.count (drop span.start (listed (side_of parties span.ring Put)))
-    -- what it settled lies below how far its side is settled
+    -- what it has settled is below how far its side is settled
     pub ends : (j : ℕ) (x : Settled T) → get_elem? v.party.settled j ≡ some x
         → x.start + length x.items ≤ (side_of parties x.ring x.side).len
 
-  -- a hand that was joined to another is no party any more
+  -- a hand that was joined to another is no longer a party
   pub record IsSpent (v : View T) : Type 0 where
     pub party : v.party ≡ newcomer []
     pub observed : v.observed ≡ None
 
 module _ {T : Type 0} (tags : T → List ℕ) where
   pub record IsConsistent (plans : List RingPlan) (pool : ℕ) (s : State (Option T) (View T)) : Type 0 where
-    -- the plan may be
+    -- the plan is possible
     pub fitting : IsFitting plans pool
-    -- no slot and no buffer has two holders, nothing is lost, and what was dequeued is a beginning of what was
-    -- published
+    -- no slot and no buffer has two holders, nothing is lost, and what was dequeued is a prefix of what was published
     pub sound : Sound tags plans pool (parties_of_views s.views)
-    -- the open spans stand behind what is settled, of a multi side without gap, of an HTS side one at most
+    -- the open spans come after what is settled, on a multi side without a gap, on an HTS side at most one
     pub ruled : HeadTailRule plans (parties_of_views s.views)
     -- each item on a free ring carries one buffer, and nobody reserves more there than it has
     pub free : FreeRule tags plans pool (parties_of_views s.views)
@@ -93,7 +94,7 @@ module _ {T : Type 0} (tags : T → List ℕ) where
         → AtHome plans s.homes (side_of (parties_of_views s.views) r Put) (side_of (parties_of_views s.views) r Take) r
         plan
     pub views : (id : ℕ) (v : View T) → get_elem? s.views id ≡ some v → IsTrueView plans (parties_of_views s.views) v
-    -- each hand that is no spent one knows the plan, and all parts add up
+    -- each hand that isn't spent knows the plan, and all parts add up
     pub told : (id : ℕ) (v : View T) → get_elem? s.views id ≡ some v → 0 < v.parts → (v.plans ≡ plans) × (v.pool ≡ pool)
     pub spent : (id : ℕ) (v : View T) → get_elem? s.views id ≡ some v → v.parts ≡ 0 → IsSpent v
     pub parts : sum_by (λ (v : View T). v.parts) s.views ≡ all_parts

@@ -1,4 +1,4 @@
--- Where the words and the slots of a ring lie. Words that different threads write lie 128 bytes apart, so that they
+-- Where the words and the slots of a ring are. Words that different threads write are 128 bytes apart, so that they
 -- share no cache line
 use Rattle.std.specs.Prelude.{ℕ, zero, suc, ◌+◌, ◌*◌, ◌%◌, List, [], ◌∷◌}
 use Rattle.std.specs.List.{sum_by}
@@ -31,7 +31,7 @@ slots_in plan = plan.geometry.size
 abbrev pub slot_count : List RingPlan → ℕ
 slot_count plans = sum_by slots_in plans
 
--- the rings' slots lie one ring after the other: how many slots the rings before this one have
+-- the rings' slots are in one row, ring after ring: how many slots the rings before this one have
 abbrev pub slots_before : List RingPlan → ℕ → ℕ
 slots_before plans zero = 0
 slots_before [] (suc ring) = 0

@@ -1,7 +1,7 @@
-//! The kinds of step on a word that a hand makes, each with the contract that it keeps a fabric consistent, whatever
-//! the other hands did before it. `Allows` says so: whatever the words, the items at home and the views are when the
-//! word changes, there is a view and a move of slots that keep the fabric consistent, and the step tells its hand what
-//! `specs/Kinds.antt` says of its kind.
+//! The kinds of step that a hand makes on a word, each with the contract that it keeps a fabric consistent, whatever
+//! the other hands did before it. `Allows` states this: whatever the words, the items at home and the views are when
+//! the word changes, there is a view and a move of slots that keep the fabric consistent, and the hand learns from the
+//! step what `specs/Kinds.antt` defines for its kind.
 
 ghost use Rattle.std.specs.Prelude.{◌≡◌, ◌+◌, ◌*◌, ◌<◌, ◌≤◌, ◌==◌, ℕ, List, None, Some, length, replicate, slice_get};
 ghost use Rattle.std.specs.Prelude.{◌%◌, ◌≢◌, slice_index, true};
@@ -42,7 +42,7 @@ pub fn a_look_is_allowed<T>()
         (look_tells (step slots (own_at r side) 0 0 none) me) }
 {}
 
-/// Room, on each side and in each mode: a load of the word that shows how far the other side is settled, after a look.
+/// Room, on each side and in each mode: after a look, a load of the word that shows how far the other side is settled.
 pub fn a_question_for_room_is_allowed<T>()
     ensures { (tags : T → List ℕ) (plans : List RingPlan) (pool slots id : ℕ) (me : Me (Option T) (View T)) (r : ℕ)
         (side : Side) (plan : RingPlan) (o : Observed)
@@ -53,7 +53,7 @@ pub fn a_question_for_room_is_allowed<T>()
 {}
 
 /// Reserve, on each side and in each mode: a compare-and-exchange of the own word, from the word looked at to that word
-/// with so many positions more, within the room that was seen.
+/// plus the reserved positions, within the room that was seen.
 pub fn a_reserve_is_allowed<T>()
     ensures put { (tags : T → List ℕ) (plans : List RingPlan) (pool slots id : ℕ) (me : Me (Option T) (View T))
         (r : ℕ) (plan : RingPlan) (o : Observed) (t n : ℕ)
@@ -75,8 +75,8 @@ pub fn a_reserve_is_allowed<T>()
         (reserve_take_tells tags (step slots (own_at r Take) o.looked_at (o.looked_at + n) none) me) }
 {}
 
-/// Settle, on each side: of a multi side a compare-and-exchange of its tail, from where the own span starts to its end;
-/// of an HTS side a store of its word, by which the first so many positions are settled and nothing is reserved. The
+/// Settle, on each side: on a multi side a compare-and-exchange of its tail, from the start of the own span to its end;
+/// on an HTS side a store of its word, which settles the first positions of the span and leaves nothing reserved. The
 /// hand holds the slots of its span.
 pub fn a_settle_is_allowed<T>()
     ensures multi { (tags : T → List ℕ) (plans : List RingPlan) (pool slots id : ℕ) (me : Me (Option T) (View T))
@@ -95,7 +95,7 @@ pub fn a_settle_is_allowed<T>()
         (λ _. store_tells tags (step slots word new 0 none) me new) }
 {}
 
-/// Learn: a load of any word, by which nothing changes.
+/// Learn: a load of any word, which changes nothing.
 pub fn a_load_that_learns_is_allowed<T>()
     ensures { (tags : T → List ℕ) (plans : List RingPlan) (pool slots id word : ℕ) (me : Me (Option T) (View T))
         → 0 < me.0.parts → Allows (IsConsistent tags plans pool) slots id me word (λ n. n)
@@ -103,8 +103,8 @@ pub fn a_load_that_learns_is_allowed<T>()
 {}
 
 /// At the end, whatever the hands did, the words show which positions of a ring are left: those of published items that
-/// no take has reserved. Each has its item in its slot. A hand that has all parts is then the only one, and where it
-/// has no open span, what is left is all that was published and not dequeued.
+/// no take has reserved. Each has its item in its slot. A hand that has all parts is then the only one, and if it has
+/// no open span, what is left is everything that was published and not dequeued.
 pub fn what_is_left_lies_in_the_slots<T>()
     ensures lies { (tags : T → List ℕ) (plans : List RingPlan) (pool : ℕ) (s : State (Option T) (View T))
         → IsConsistent tags plans pool s → (r : ℕ) (plan : RingPlan) → slice_get plans r ≡ Some plan
@@ -117,8 +117,8 @@ pub fn what_is_left_lies_in_the_slots<T>()
 
 /// Refusals are true, whatever the other hands do: a head/tail-sync word with a reservation shows another hand's open
 /// span; an own word is what the spans of all hands make; a tail that isn't the own start shows an earlier open span;
-/// and the room that a hand has seen is no less than there is as it asks. Where none of a request is granted of that,
-/// there is too little.
+/// and the room a hand has seen is no less than there is at the moment of its request. If none of a request is granted
+/// from that, there is too little.
 pub fn a_refusal_is_true<T>()
     ensures busy { (tags : T → List ℕ) (plans : List RingPlan) (pool : ℕ) (s : State (Option T) (View T))
         → IsConsistent tags plans pool s → (id : ℕ) (v : View T) → get_elem? s.views id ≡ some v → v.party.span ≡ None
@@ -144,13 +144,13 @@ pub fn a_refusal_is_true<T>()
         → IsTooLittle how n room }
 {}
 
-/// A hand may be split in two: the second knows the plan alone, and has half of the parts.
+/// A hand may be split in two: the second knows only the plan, and has half of the parts.
 pub fn a_split_is_allowed<T>()
     ensures { (tags : T → List ℕ) (plans : List RingPlan) (pool id : ℕ) (v : View T) → 0 < v.parts
         → Splits (IsConsistent tags plans pool) id v (kept v) (split_off v) }
 {}
 
-/// Two hands without open spans may be made one, which has what both had. What is left of the second is spent.
+/// Two hands without open spans may be made one, which has what both had. What remains of the second is spent.
 pub fn a_join_is_allowed<T>()
     ensures { (tags : T → List ℕ) (plans : List RingPlan) (pool id : ℕ) (v : View T) (other : ℕ) (w : View T)
         → 0 < v.parts

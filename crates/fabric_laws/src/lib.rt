@@ -1,8 +1,8 @@
 //! What the rings, hands and buffers of a fabric have in common at any moment, and that each step of a hand on a word
 //! keeps it.
 //!
-//! Nothing runs here. `specs/` says what a hand knows, which words and slots a ring has, and when a fabric is
-//! consistent; the functions of `laws` carry, kind by kind, that a step on a word keeps it.
+//! Nothing runs here. `specs/` defines what a hand knows, which words and slots a ring has, and when a fabric is
+//! consistent; the functions of `laws` state, kind by kind, that a step on a word keeps it consistent.
 #![tactic(auto)]
 
 mod laws;

@@ -17,7 +17,7 @@ half_least k j h =
     let twice : 2 ^ (suc k) ≡ 2 ^ k * 2 = pow-suc 2 k in
     omega arith
 
--- the first power above n is the one whose half is not above n
+-- the first power above n is the one whose half isn't above n
 pub power_above-is : (steps k j n : ℕ) → k ≤ j → j ≤ k + steps → n < 2 ^ j → 2 ^ j / 2 ≤ n → power_above steps k n ≡ 2 ^ j
 unfolding power_above
 power_above-is zero k j n low high above least = let same : k ≡ j = omega arith in ap (λ i. 2 ^ i) same
@@ -32,7 +32,7 @@ power_above-is (suc steps) k j n low high above least =
           rw (lt-ltb n (2 ^ k) over) (ap (λ i. 2 ^ i) same)
     ]
 
--- a power of two below 2 ^ 21 is one of the first
+-- a power of two below 2 ^ 21 has an exponent of at most 20
 exponent_small : (j : ℕ) → 2 ^ j < 2 ^ 21 → j ≤ 20
 exponent_small j small =
     elim (cases_lt j 21) [
@@ -53,7 +53,7 @@ pub slot_mask : (size position : ℕ) → IsPowerOfTwo size → bit_and position
 slot_mask size position power =
     subst (λ (n : ℕ). bit_and position (n - 1) ≡ position % n) (sym power.1) (and_mask position power.0)
 
--- two numbers less than n apart have different rests
+-- two different numbers less than n apart have different remainders
 pub mod_apart : (n a b : ℕ) → 0 < n → a < b → b < a + n → b % n ≢ a % n
 mod_apart n a b some after near same =
     let a_is : n * (a / n) + a % n ≡ a = div-add-mod a n in
@@ -71,13 +71,13 @@ next_extent n p some small power lower upper =
     let within : 2 ^ power.0 ≤ 2 ^ 20 = pow_mono (exponent_small power.0 bound) in
     record { power = power; some = some; spare = omega arith; small = omega arith }
 
--- what is asked of an exact capacity, and what it then gives
+-- an exact capacity in range, and what it gives
 pub exact_given : (n p : ℕ) → n ≢ 0 → n < 2 ^ 20 → IsPowerOfTwo p → n + 1 ≤ p → p / 2 < max 1 (n + 1)
     → Ok record { size = p; capacity = n } ≡ exact_gives n
 exact_given n p some small power lower upper =
     rw (ne_eqb n 0 some, le-ltb (2 ^ 20 - 1) n (omega arith), size_of-next n p small power lower upper) refl
 
--- a count is a power of two just where it is the next one from itself on
+-- a count is a power of two exactly if it is the next one from itself on
 is_power-next : (n p : ℕ) → 1 < n → n ≤ 2 ^ 20 → IsPowerOfTwo p → n ≤ p → p / 2 < max 1 n → is_power n ≡ (p == n)
 is_power-next n p some small power lower upper =
     let before : size_of (n - 1) ≡ p = size_of-next (n - 1) p (omega arith) power (omega arith) (omega arith) in
@@ -89,7 +89,7 @@ pub power_given : (n p : ℕ) → 1 < n → n ≤ 2 ^ 20 → IsPowerOfTwo p → 
 power_given n p some small power lower upper same =
     rw (le-ltb n 2 (omega arith), le-ltb (2 ^ 20) n small, is_power-next n p some small power lower upper, eq-eqb p n same) refl
 
--- any other count gives none
+-- any other count gives an error
 pub power_refused : (n p : ℕ) → 1 < n → n ≤ 2 ^ 20 → IsPowerOfTwo p → n ≤ p → p / 2 < max 1 n → p ≢ n
     → Err NotPower ≡ power_gives n
 power_refused n p some small power lower upper other =

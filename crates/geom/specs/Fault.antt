@@ -1,4 +1,4 @@
--- The numbers of the refusals.
+-- The error numbers.
 use Rattle.std.specs.Prelude.{ℕ}
 use Rattle.geom.specs.declared.geometry.GeomFault.{GeomFault}
 use Rattle.geom.specs.declared.geometry.GeomFault.TheVariants.{NotPower, TooSmall, TooLarge}

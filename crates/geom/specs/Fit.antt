@@ -1,9 +1,9 @@
--- Rings beside so many buffers
+-- Rings used with a given number of buffers
 use Rattle.std.specs.Prelude.{ℕ, true, ◌≡◌, ◌≤◌, List, slice_get, Some}
 use Rattle.geom.specs.Extent.{IsExtent}
 use Rattle.geom.specs.declared.plan.RingPlan.{RingPlan}
 
--- a ring beside so many buffers: all of them fit if it is a free ring
+-- a ring used with this many buffers: all of them fit if it is a free ring
 pub record Fits (plan : RingPlan) (buffers : ℕ) : Type 0 where
   pub extent : IsExtent plan.geometry
   pub free_rings : plan.free ≡ true → buffers ≤ plan.geometry.capacity

@@ -1,4 +1,4 @@
--- The plan of a ring, by its sides, and how much of a request is granted
+-- The plan of a ring, by side, and how much of a request is granted
 use Rattle.std.specs.Prelude.{ℕ, nat_le, min, if◌then◌else◌}
 use Rattle.geom.specs.declared.plan.How.{How}
 use Rattle.geom.specs.declared.plan.How.TheVariants.{Bulk, Burst}
@@ -12,7 +12,7 @@ abbrev pub mode_of : RingPlan → Side → Mode
 mode_of plan Put = plan.put
 mode_of plan Take = plan.take
 
--- how many of n are granted where there is room for so many: by bulk all or none, by burst as many as fit
+-- how many of n are granted when there is this much room: bulk grants all or none, burst as many as fit
 abbrev pub granted : How → (n room : ℕ) → ℕ
 granted Bulk n room = if nat_le n room then n else 0
 granted Burst n room = min n room

@@ -1,10 +1,10 @@
--- Which sizes and capacities a ring may be asked to have, and what it then has
+-- Which sizes and capacities a ring may be made with, and which it then has
 use Rattle.std.specs.Prelude.{ℕ, zero, suc, Bool, ◌+◌, ◌-◌, ◌^◌, ◌==◌, nat_lt, if◌then◌else◌, Result, Ok, Err}
 use Rattle.geom.specs.Extent.{Extent}
 use Rattle.geom.specs.declared.geometry.GeomFault.{GeomFault}
 use Rattle.geom.specs.declared.geometry.GeomFault.TheVariants.{NotPower, TooSmall, TooLarge}
 
--- the first of `2 ^ k`, `2 ^ (k + 1)`, .. that is above n; of `steps` of them the last, where none is
+-- the first of `2 ^ k`, `2 ^ (k + 1)`, .. that is above n; the last of `steps` of them if none is
 unfoldable pub power_above : (steps k n : ℕ) → ℕ
 power_above zero k n = 2 ^ k
 power_above (suc steps) k n = if nat_lt n (2 ^ k) then 2 ^ k else power_above steps (k + 1) n
@@ -13,7 +13,7 @@ power_above (suc steps) k n = if nat_lt n (2 ^ k) then 2 ^ k else power_above st
 abbrev pub size_of : ℕ → ℕ
 size_of capacity = power_above 20 0 capacity
 
--- whether n is a power of two: then it is the least one above the number before it
+-- whether n is a power of two: it is then the least power of two above n - 1
 abbrev pub is_power : ℕ → Bool
 is_power n = size_of (n - 1) == n
 

@@ -1,10 +1,10 @@
-//! Callers: what a ring of a checked plan grants, and where a lap ends, concluded from contracts alone.
+//! Callers: what a ring of a checked plan grants, and where a lap ends, derived from contracts alone.
 
 ghost use Rattle.std.specs.Prelude.{◌≡◌, ◌+◌, ◌<◌, ◌≤◌, ◌^◌, IsTrue, min};
 
 use crate::{Geometry, How, Mode, RingPlan};
 
-/// How many of `n` packets an empty ring for `capacity` takes: all of them, or as many as it was made for.
+/// How many of `n` packets an empty ring for `capacity` packets accepts: all of them, or as many as it was made for.
 pub(crate) fn first_burst(capacity: u64, n: u64) -> u64
     requires small { capacity < 2 ^ 20 }
     requires nonzero { 1 ≤ capacity }
@@ -15,7 +15,7 @@ pub(crate) fn first_burst(capacity: u64, n: u64) -> u64
     How::Burst.granted(n, plan.geometry.capacity())
 }
 
-/// The slots of a position and of the one after the next lap are the same.
+/// A position and the one a lap later have the same slot.
 pub(crate) fn laps(geometry: Geometry, position: u64) -> bool
     requires { position + geometry.size < 2 ^ 64 }
     ensures { IsTrue result }

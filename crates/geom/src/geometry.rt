@@ -1,7 +1,7 @@
 //! The size of a ring, its capacity, and the slot of a position (DPDK Programmer's Guide, "Ring Library").
 //!
-//! A ring has a power of two of slots, so that the slot of a position is a mask and no division. One slot at least
-//! stays empty.
+//! The number of slots is a power of two, so the slot of a position is a mask and not a division. At least one slot
+//! always stays empty.
 
 ghost use Rattle.std.specs.Prelude.{◌≡◌, ◌≢◌, ℕ, ◌+◌, ◌-◌, ◌<◌, ◌^◌};
 ghost use Rattle.std.specs.Int.{IsPowerOfTwo};
@@ -12,16 +12,16 @@ ghost use Rattle.geom.specs.Sizes.{power_gives, exact_gives};
 use std::marker::Model;
 use thiserror::Error;
 
-/// The most slots that a ring has.
+/// The maximum number of slots of a ring.
 const MAX_SIZE: u64 = 1 << 20;
 
-/// Why a ring can't have the size or the capacity that was asked for.
+/// Why a ring can't have the requested size or capacity.
 #[derive(Clone, Copy, Debug, PartialEq, Eq, Error)]
 pub enum GeomFault {
-    /// A count of slots from 2 to 2^20 that is no power of two.
+    /// A number of slots from 2 to 2^20 that is not a power of two.
     #[error("NotPower")]
     NotPower = 1,
-    /// Fewer than two slots, or a capacity of no item.
+    /// Fewer than two slots, or a capacity of 0.
     #[error("TooSmall")]
     TooSmall = 2,
     /// More than 2^20 slots, or a capacity that needs more.
@@ -38,7 +38,7 @@ impl GeomFault {
     }
 }
 
-/// How many slots a ring has, and how many items it takes: a power of two of slots, and fewer items than slots.
+/// The number of slots and the capacity of a ring: a power of two of slots, and fewer items than slots.
 #[derive(Clone, Copy, Debug)]
 pub struct Geometry {
     size: u64,
@@ -60,10 +60,10 @@ impl Model for Geometry {
 }
 
 impl Geometry {
-    /// The geometry of `count` slots, for `count - 1` items.
+    /// The geometry with `count` slots, for `count - 1` items.
     ///
-    /// Refused, in this order: 2 `TooSmall` below 2, 3 `TooLarge` above 2^20, 1 `NotPower` where `count` is no
-    /// power of two.
+    /// Errors, in this order: 2 `TooSmall` below 2, 3 `TooLarge` above 2^20, 1 `NotPower` if `count` is not a power of
+    /// two.
     pub fn power(count: u64) -> Result<Geometry, GeomFault>
         ensures given { result ≡ power_gives count }
         ensures power { result ≡ Err GeomFault.NotPower → ¬ IsPowerOfTwo count }
@@ -83,10 +83,10 @@ impl Geometry {
         })
     }
 
-    /// The geometry for exactly `capacity` items: its size is the least power of two above `capacity` (as
+    /// The geometry for exactly `capacity` items: its size is the least power of two above `capacity` (like
     /// `RING_F_EXACT_SZ`).
     ///
-    /// Refused, in this order: 2 `TooSmall` at 0, 3 `TooLarge` above 2^20 - 1.
+    /// Errors, in this order: 2 `TooSmall` at 0, 3 `TooLarge` above 2^20 - 1.
     pub fn exact(capacity: u64) -> Result<Geometry, GeomFault>
         ensures { result ≡ exact_gives capacity }
     {
@@ -102,7 +102,7 @@ impl Geometry {
         })
     }
 
-    /// How many slots there are: a power of two, 2 to 2^20.
+    /// The number of slots: a power of two, 2 to 2^20.
     pub const fn size(self) -> u64
         ensures value { result ≡ self.size }
         ensures extent { IsExtent self }
@@ -110,7 +110,7 @@ impl Geometry {
         self.size
     }
 
-    /// How many items the ring takes: 1 or more, and fewer than there are slots.
+    /// The number of items the ring can hold: at least 1, and less than the number of slots.
     pub const fn capacity(self) -> u64
         ensures value { result ≡ self.capacity }
         ensures extent { IsExtent self }
@@ -118,7 +118,7 @@ impl Geometry {
         self.capacity
     }
 
-    /// The slot of a position, below the size. Two positions less than the size apart lie in different slots.
+    /// The slot of a position, below the size. Two positions less than the size apart have different slots.
     pub const fn slot(self, position: u64) -> u64
         ensures value { result ≡ slot_of self position }
         ensures within { result < self.size }

@@ -1,8 +1,8 @@
-//! The geometry of rings: how many slots and items a ring has, in which slot a position lies, the modes of its two
-//! sides, and the packed word of a head/tail-sync side. No call takes memory.
+//! The geometry of rings: how many slots a ring has and how many items it holds, which slot a position has, the modes
+//! of its two sides, and the packed word of a head/tail-sync side. No call takes memory.
 //!
-//! A caller, proved in `example.rt`: a ring that was made for `capacity` items grants a first burst as many, and the
-//! `unwrap` can't fail.
+//! A caller, proved in `example.rt`: an empty ring made for `capacity` items grants a first burst of up to `capacity`
+//! items, and the `unwrap` can't fail.
 //!
 //! ```text
 //! let geometry = Geometry::exact(capacity).unwrap();

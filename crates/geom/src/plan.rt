@@ -1,4 +1,4 @@
-//! What a ring is to be: its geometry, the mode of each side, and whether it holds the free buffers.
+//! The plan of a ring: its geometry, the mode of each side, and whether it holds the free buffers.
 
 ghost use Rattle.std.specs.Prelude.{◌≡◌, ◌↔◌, IsTrue};
 ghost use Rattle.geom.specs.Fit.{AllFit, Fits};
@@ -6,30 +6,30 @@ ghost use Rattle.geom.specs.Plan.{mode_of, granted};
 
 use crate::geometry::Geometry;
 
-/// The most rings that actors or threads share.
+/// The maximum number of rings that actors or threads share.
 pub const MAX_RINGS: usize = 64;
 
-/// The most actors.
+/// The maximum number of actors.
 pub const MAX_ACTORS: usize = 64;
 
-/// The most buffers.
+/// The maximum number of buffers.
 pub const MAX_BUFFERS: u32 = 65_536;
 
 /// How the words of one side of a ring are kept.
 #[derive(Clone, Copy, Debug, PartialEq, Eq)]
 pub enum Mode {
-    /// Any number of producers, or of consumers, each with a span of its own in the middle: a head and a tail word.
+    /// Any number of producers, or of consumers, each with an open span of its own: a head and a tail word.
     Multi,
-    /// Head/tail sync: one span in the middle at a time, and one word for head and tail.
+    /// Head/tail sync: one open span at a time, and one word for head and tail.
     Hts,
 }
 
 /// A side of a ring: producers put, consumers take.
 #[derive(Clone, Copy, Debug, PartialEq, Eq)]
 pub enum Side {
-    /// The side of the producers.
+    /// The producers' side.
     Put,
-    /// The side of the consumers.
+    /// The consumers' side.
     Take,
 }
 
@@ -43,7 +43,7 @@ pub enum How {
 }
 
 impl How {
-    /// How many of `n` are granted where there is room for `room`: by bulk all or none, by burst as many as fit.
+    /// How many of `n` are granted when there is room for `room`: bulk grants all or none, burst as many as fit.
     pub const fn granted(self, n: u64, room: u64) -> u64
         ensures { result ≡ granted self n room }
     {
@@ -56,10 +56,10 @@ impl How {
     }
 }
 
-/// What a ring is to be.
+/// The plan of a ring.
 #[derive(Clone, Copy, Debug)]
 pub struct RingPlan {
-    /// How many slots and items the ring has.
+    /// The number of slots and the capacity.
     pub geometry: Geometry,
     /// The mode of the put side.
     pub put: Mode,
@@ -70,7 +70,7 @@ pub struct RingPlan {
 }
 
 impl RingPlan {
-    /// The plan of a ring whose sides are alike.
+    /// The plan of a ring with the same mode on both sides.
     pub const fn same_mode(geometry: Geometry, mode: Mode, free: bool) -> RingPlan
         ensures { result ≡ record { geometry = geometry; put = mode; take = mode; free = free } }
     {
@@ -92,7 +92,7 @@ impl RingPlan {
         }
     }
 
-    /// Whether the ring may stand beside so many buffers: a free ring takes all of them.
+    /// Whether the ring can be used with this many buffers: a free ring needs room for all of them.
     pub const fn holds_all(self, buffers: u64) -> bool
         ensures { IsTrue result ↔ Fits self buffers }
     {
@@ -101,7 +101,7 @@ impl RingPlan {
     }
 }
 
-/// Whether each of the rings may stand beside so many buffers.
+/// Whether each of the rings can be used with this many buffers.
 pub fn all_fit(rings: &[RingPlan], buffers: u64) -> bool
     ensures { IsTrue result ↔ AllFit rings.now buffers }
 {

@@ -32,7 +32,7 @@ length-with_header packet whole =
     let n = header_len packet in
     omega (arith, length-append (renewed (take n packet)) (drop n packet), length-renewed (take n packet), length-drop n packet, length-take-le n packet whole)
 
--- what a packet is once its header is renewed
+-- a packet after its header is renewed
 pub record IsRenewed (old new : List ℕ) : Type 0 where
   pub version : version_of new ≡ version_of old
   pub header : header_len new ≡ header_len old
@@ -67,7 +67,7 @@ packet_renewed packet least whole all =
       summed = ap ones_complement_sum header_is ∙ sum-renewed h (omega arith) (AreBytes-take n packet all);
     }
 
--- the bytes in front of a packet, once it has new addresses
+-- the bytes before a packet, once it has new addresses
 pub length-addressed : (way : Way) (front : List ℕ) → length way.to ≡ 6 → length way.from ≡ 6 → 12 ≤ length front → length (addressed way front) ≡ length front
 length-addressed way front e f long = omega (arith, length-append (way.to ++ way.from) (drop 12 front), length-append way.to way.from, length-drop 12 front)
 

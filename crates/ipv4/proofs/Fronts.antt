@@ -1,4 +1,4 @@
--- Fronts of frames: gathered ones, and those that lie in a chain's first segment.
+-- Fronts of frames: gathered ones, and those that are in a chain's first segment.
 use Rattle.std.proofs.Common.{◌≡◌, ℕ, min, replicate, List, [], ◌∷◌, length, take, refl, inl, inr, arith}
 use Rattle.std.proofs.lemmas.Bool.{cases_lt}
 use Rattle.std.proofs.lemmas.List.{length-drop}

@@ -1,4 +1,4 @@
--- A frame's header decides over it: what follows changes no verdict, and is kept.
+-- A frame's header decides its verdict: what follows changes no verdict, and is kept.
 use Rattle.std.proofs.Common.{◌≡◌, ℕ, ◌+◌, ◌-◌, ◌*◌, ◌/◌, ◌%◌, ◌<◌, ◌≤◌, ◌⊎◌, Bool, not, ltb, List, [], ◌∷◌, ◌++◌, length, get_or, take, drop, Result, Ok, Err}
 use Rattle.std.proofs.Common.{refl, sym, ap, ◌∙◌, subst, inl, inr, arith, append_assoc}
 use Rattle.std.specs.Prelude.{◌==◌, if◌then◌else◌, option_and_then}
@@ -27,7 +27,7 @@ rows short cut headless beheaded type version size total room sum time =
 both_reach : (a b n : ℕ) → n ≤ a → n ≤ b → ltb a n ≡ ltb b n
 both_reach a b n h k = grind (arith, nat_tests)
 
--- the fields of a packet, with more behind it
+-- the fields of a packet, with more after it
 record HasSameFields (packet longer rest : List ℕ) : Type 0 where
   version : version_of longer ≡ version_of packet
   size : header_len longer ≡ header_len packet
@@ -93,7 +93,7 @@ module _ (head rest : List ℕ) (holds : HoldsHeader head) where
   front : IsFrontOf head (head ++ rest) rest
   front = front_kept head rest holds
 
-  -- of the packet in the longer frame
+  -- for the packet in the longer frame
   fields : HasSameFields (packet_of head) (packet_of (head ++ rest)) rest
   fields = let same =
       front in subst (λ (p : List ℕ). HasSameFields (packet_of head) p rest) (sym same.packet) (fields_kept (packet_of head) rest holds.least holds.whole)

@@ -9,7 +9,7 @@ use Rattle.ipv4.specs.Forwarding.{lowered, renewed, renewed_checksum}
 use Rattle.ipv4.proofs.ByteLists.{AreBytes-set, AreBytes-take}
 use Rattle.ipv4.proofs.Sums.{total_of, sum_reduced, reduced-is}
 
--- what a byte counts in the sum: the higher byte of a number 256 times
+-- the weight of a byte in the sum: 256 for the high byte of a number
 weight : ℕ → ℕ
 weight zero = 256
 weight (suc zero) = 1
@@ -29,7 +29,7 @@ total_of-first [] = omega arith
 total_of-first (a ∷ []) = omega arith
 total_of-first (a ∷ b ∷ xs) = omega arith
 
--- the header as its new checksum is summed
+-- the header over which its new checksum is summed
 abbrev cleared : List ℕ → List ℕ
 cleared h = with_checksum 0 (lowered h)
 
@@ -52,7 +52,7 @@ first_kept h =
     ∙ get_or-set_other (slice_set h 8 (get_or h 8 0 - 1)) 10 0 0 0 (λ e. omega arith)
     ∙ get_or-set_other h 8 0 (get_or h 8 0 - 1) 0 (λ e. omega arith)
 
--- the complement, where the whole was a multiple of 65535
+-- the complement, if the whole was a multiple of 65535
 complement-reduced : (left word whole : ℕ) → left + word + 256 ≡ whole → 0 < left → reduced whole ≡ 65535 → complement (reduced left) ≡ (word + 256) % 65535
 complement-reduced left word whole e some right = omega (arith, reduced-is left, reduced-is whole)
 
@@ -61,7 +61,7 @@ AreBytes-cleared h all =
     AreBytes-set (slice_set (slice_set h 8 (get_or h 8 0 - 1)) 10 0) 11 0 (omega arith)
     (AreBytes-set (slice_set h 8 (get_or h 8 0 - 1)) 10 0 (omega arith) (AreBytes-set h 8 (get_or h 8 0 - 1) (omega (arith, all 8)) all))
 
--- the new checksum of a right header
+-- the new checksum of a correct header
 checksum_of_header : (h : List ℕ) → 12 ≤ length h → AreBytes h → ones_complement_sum h ≡ 65535 → 0 < get_or h 0 0 → 0 < get_or h 8 0
     → renewed_checksum (lowered h) ≡ (word_at h 10 + 256) % 65535
 checksum_of_header h long all right some alive =
@@ -98,7 +98,7 @@ complement_fits n = omega arith
 AreBytes-checksum : (h : List ℕ) (sum : ℕ) → sum / 256 < 256 → AreBytes h → AreBytes (with_checksum sum h)
 AreBytes-checksum h sum small all = AreBytes-set (slice_set h 10 (sum / 256)) 11 (sum % 256) (omega arith) (AreBytes-set h 10 (sum / 256) small all)
 
--- the new header is right again
+-- the new header is correct again
 pub sum-renewed : (h : List ℕ) → 12 ≤ length h → AreBytes h → ones_complement_sum (renewed h) ≡ 65535
 unfolding renewed
 sum-renewed h long all =

@@ -6,7 +6,7 @@ use Rattle.ipv4.specs.declared.ports.Way.{Way}
 use Rattle.ipv4.specs.Fields.{offset_of, header_of}
 use Rattle.ipv4.specs.Forwarding.{addressed, renewed, rewritten, with_header}
 
--- two addresses, one behind the other
+-- two addresses, one after another
 addresses-written : (to from front : List ℕ) → length to ≡ 6 → length from ≡ 6 → put_mid 6 6 (to ++ drop 6 front) from ≡ (to ++ from) ++ drop 12 front
 addresses-written to from front e f =
     let rest = drop 6 front in

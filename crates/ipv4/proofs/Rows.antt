@@ -1,4 +1,5 @@
--- Worked frames, computed by the definitions: each row of the table of drops, each two tests of which both hold, and what is sent.
+-- Worked frames, computed by the definitions: each row of the table of drops, each pair of tests that both hold, and
+-- what is sent.
 use Rattle.std.proofs.Common.{◌≡◌, ℕ, List, [], ◌∷◌, ◌++◌, true, false, take, replicate, Option, Some, None, slice_get, refl, ap}
 use Rattle.std.specs.Option.{option_map, option_and_then}
 use Rattle.lpm.specs.Prefixes.{Members}
@@ -23,7 +24,7 @@ to = 2 ∷ 0 ∷ 0 ∷ 0 ∷ 0 ∷ 0x20 ∷ []
 from : List ℕ
 from = 2 ∷ 0 ∷ 0 ∷ 0 ∷ 0 ∷ 0x10 ∷ []
 
--- a frame between two other addresses
+-- a frame between two addresses
 plain : List ℕ → List ℕ
 plain packet = (1 ∷ 2 ∷ 3 ∷ 4 ∷ 5 ∷ 6 ∷ 7 ∷ 8 ∷ 9 ∷ 10 ∷ 11 ∷ 12 ∷ 0x08 ∷ 0x00 ∷ []) ++ packet
 
@@ -85,8 +86,8 @@ numbered : ℕ → ℕ → ℕ → ℕ → ℕ → List ℕ
 numbered high low time sum_high sum_low =
     0x45 ∷ 0 ∷ 0 ∷ 0x14 ∷ high ∷ low ∷ 0 ∷ 0 ∷ time ∷ 0x11 ∷ sum_high ∷ sum_low ∷ 0x0a ∷ 0 ∷ 0 ∷ 0x01 ∷ 0x0a ∷ 0x01 ∷ 0x02 ∷ 0x03 ∷ []
 
--- frames with a tag, with a second one, with options that are right and that are left out of the sum, with 0xFFFF for checksum 0, and of which fewer bytes were
--- captured than were on the wire
+-- frames with a tag, with a second one, with correct options and with options that are left out of the sum, with 0xFFFF
+-- for checksum 0, and with fewer bytes captured than were on the wire
 others : (reason_of (tagged right) 38 ≡ None)
     × (reason_of (take 37 (tagged right)) 37 ≡ Some Reason.Short)
     × (reason_of (tagged (header 0x45 0x15 0x40 0x64 0xd4)) 38 ≡ Some Reason.BadLength)
@@ -98,8 +99,8 @@ others : (reason_of (tagged right) 38 ≡ None)
 unfolding ones_complement_sum header numbered right plain tagged optional reason_of
 others = (refl, refl, refl, refl, refl, refl, refl, refl)
 
--- types are told by both of their bytes: ARP, a type that ends as that of IPv4, one that begins as that of a tag, and the tags of 802.1ad and before it are
--- others
+-- both bytes of a type matter: ARP, a type that ends like that of IPv4, one that begins like that of a tag, and the
+-- tags of 802.1ad and before it are different
 before : ℕ → ℕ → List ℕ
 before high low = typed high low (0x00 ∷ 0x05 ∷ 0x08 ∷ 0x00 ∷ right)
 
@@ -111,7 +112,7 @@ other_types : (reason_of (typed 0x08 0x06 right) 34 ≡ Some Reason.NotIpv4)
 unfolding ones_complement_sum header right plain typed before reason_of
 other_types = (refl, refl, refl, refl, refl)
 
--- the version before and the one behind, and the least and the greatest time to live that are sent
+-- the versions before and after, and the least and the greatest time to live that are sent
 beside : (reason_of (plain (header 0x35 0x14 0x40 0x74 0xd5)) 34 ≡ Some Reason.BadHeader)
     × (reason_of (plain (header 0x55 0x14 0x40 0x54 0xd5)) 34 ≡ Some Reason.BadHeader)
     × (reason_of (plain (header 0x45 0x14 0x02 0xa2 0xd5)) 34 ≡ None)
@@ -119,8 +120,8 @@ beside : (reason_of (plain (header 0x35 0x14 0x40 0x74 0xd5)) 34 ≡ Some Reason
 unfolding ones_complement_sum header plain reason_of
 beside = (refl, refl, refl, refl)
 
--- a header whose other fields all are others: a service, an identification, a fragment in the middle with more behind it, TCP, and addresses of a private
--- net and of a group
+-- a header whose other fields are all different: a service, an identification, a fragment in the middle with more after
+-- it, TCP, and addresses of a private net and of a group
 foreign : ℕ → ℕ → ℕ → List ℕ
 foreign time high low =
     0x45 ∷ 0xb8 ∷ 0 ∷ 0x14 ∷ 0x12 ∷ 0x34 ∷ 0x20 ∷ 0xb9 ∷ time ∷ 0x06 ∷ high ∷ low ∷ 0xc0 ∷ 0xa8 ∷ 0x07 ∷ 0x09 ∷ 0xe0 ∷ 0 ∷ 0 ∷ 0xfb ∷ []
@@ -133,7 +134,7 @@ longest = header 0x4f 0x3c 0x40 0x46 0x99 ++ replicate 40 1
 cut : List ℕ
 cut = 0x45 ∷ 0 ∷ 0x05 ∷ 0xdc ∷ 0 ∷ 0 ∷ 0 ∷ 0 ∷ 0x40 ∷ 0x11 ∷ 0x5f ∷ 0x0d ∷ 0x0a ∷ 0 ∷ 0 ∷ 0x01 ∷ 0x0a ∷ 0x01 ∷ 0x02 ∷ 0x03 ∷ []
 
--- the fields of the table alone decide, and lengths are told by both of their bytes: of 1500 bytes of a packet 46 were captured
+-- the fields of the table alone decide, and both bytes of a length matter: of 1500 bytes of a packet 46 were captured
 other_fields : (reason_of (plain (foreign 0x40 0x9e 0x92)) 34 ≡ None)
     × (renewed (foreign 0x40 0x9e 0x92) ≡ foreign 0x3f 0x9f 0x92)
     × (reason_of (plain longest) 74 ≡ None)
@@ -143,18 +144,19 @@ other_fields : (reason_of (plain (foreign 0x40 0x9e 0x92)) 34 ≡ None)
 unfolding ones_complement_sum renewed header right plain foreign longest reason_of cut
 other_fields = (refl, refl, refl, refl, refl, refl)
 
--- what is written over a right checksum: also where it was 0xFFFF for 0, and where it becomes 0
+-- what is written over a correct checksum: even if it was 0xFFFF for 0, and if it becomes 0
 renewals : (renewed right ≡ header 0x45 0x14 0x3f 0x65 0xd5) × (renewed (optional 0x61 0xd0) ≡ header 0x46 0x18 0x3f 0x62 0xd0 ++ (1 ∷ 1 ∷ 1 ∷ 0 ∷ []))
     × (renewed (numbered 0x64 0xd5 0x40 0xff 0xff) ≡ numbered 0x64 0xd5 0x3f 0x01 0x00)
     × (renewed (numbered 0x65 0xd5 0x40 0xfe 0xff) ≡ numbered 0x65 0xd5 0x3f 0x00 0x00)
 unfolding ones_complement_sum renewed header numbered right optional
 renewals = (refl, refl, refl, refl)
 
--- the way by port 7, and the frame as it leaves there
+-- the way through port 7, and the frame as it leaves there
 way : Way
 way = record { port = 7; to = to; from = from }
 
--- a hop number leads by its own entry's port, with the address of that port; it leads nowhere without an entry, or where its port has none
+-- a hop number leads through its own entry's port, with the address of that port; it leads nowhere without an entry, or
+-- if its port has none
 ways : (ports : Ports) → ports.hops.items ≡ record { port = 1; to = to } ∷ record { port = 0; to = from } ∷ record { port = 2; to = to } ∷ []
     → ports.sources.items ≡ from ∷ to ∷ []
     → (way_of ports 0 ≡ Some (record { port = 1; to = to; from = to })) × (way_of ports 1 ≡ Some (record { port = 0; to = from; from = from }))
@@ -182,7 +184,7 @@ sent_tagged : (routes : Members) (ports : Ports) → way_from routes ports right
 unfolding ones_complement_sum header right tagged to from way left judged renewed rewritten
 sent_tagged routes ports led = ap (λ w. outcome_of (tagged right) (way_or None w)) led
 
--- bytes behind the packet stay, and a frame without a route stays as it is
+-- bytes after the packet are unchanged, and so is a frame without a route
 sent_padded : (routes : Members) (ports : Ports) → way_from routes ports (right ++ (9 ∷ 8 ∷ [])) ≡ Some way
     → forwarded routes ports (plain right ++ (9 ∷ 8 ∷ [])) 60
     ≡ record { verdict = Verdict.Send 7 false; frame = left (0x08 ∷ 0x00 ∷ []) (header 0x45 0x14 0x3f 0x65 0xd5) ++ (9 ∷ 8 ∷ []) }

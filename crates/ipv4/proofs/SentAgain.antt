@@ -62,7 +62,7 @@ frame_rewritten way frame packet e f long =
       size = length-append new_front packet ∙ ap (λ k. k + length packet) new_long;
     }
 
--- what a verdict of sending says
+-- what follows from a verdict of sending
 sent_by : (frame : List ℕ) (answer : Result Way Reason) (port : ℕ) (tagged : Bool) → (outcome_of frame answer).verdict ≡ Send port tagged
     → (way : Way) × (answer ≡ Ok way) × (Send way.port (is_tagged frame) ≡ Send port tagged)
 sent_by frame (Ok way) port tagged e = (way, refl, e)

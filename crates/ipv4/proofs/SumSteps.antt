@@ -4,7 +4,7 @@ use Rattle.ipv4.specs.Checksum.{ones_complement_sum, reduced}
 use Rattle.ipv4.specs.Bytes.{AreBytes}
 use Rattle.ipv4.proofs.Sums.{total_of, sum_reduced, reduced_same}
 
--- what is left to add makes, with what was added, the whole, but for a multiple of 65535
+-- what is left to add makes, with what was added, the whole, except for a multiple of 65535
 pub record IsSummed (bytes rest : List ℕ) (total : ℕ) : Type 0 where
   pub wraps : ℕ
   pub whole : total + total_of rest ≡ total_of bytes + 65535 * wraps
@@ -12,7 +12,7 @@ pub record IsSummed (bytes rest : List ℕ) (total : ℕ) : Type 0 where
   pub even : length rest % 2 ≡ 0
   pub bound : total + 2 ^ 30 * length rest ≤ 2 ^ 30 * length bytes
 
--- the number that four bytes make
+-- the number formed by four bytes
 abbrev pub four_of : List ℕ → ℕ
 four_of xs = get_or xs 0 0 * 16777216 + get_or xs 1 0 * 65536 + get_or xs 2 0 * 256 + get_or xs 3 0
 

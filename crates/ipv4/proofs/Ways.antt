@@ -1,4 +1,4 @@
--- A frame is sent by one of the ports that there are.
+-- A frame is sent through one of the existing ports.
 use Rattle.std.proofs.Common.{◌≡◌, ◌<◌, ℕ, Bool, List, length, Option, None, Some, Result, Ok, Err, slice_get, refl, sym, ap, ◌∙◌, subst}
 use Rattle.std.specs.Option.{option_map, option_and_then}
 use Rattle.std.proofs.lemmas.Option.{slice_get_within}

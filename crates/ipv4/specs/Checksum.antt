@@ -1,7 +1,7 @@
 -- The Internet checksum (RFC 1071, section 1; RFC 791, section 3.1, "Header Checksum").
 use Rattle.std.specs.Prelude.{ℕ, ◌+◌, ◌-◌, ◌*◌, ◌/◌, ◌%◌, ◌==◌, List, [], ◌∷◌, fold, if◌then◌else◌}
 
--- the 16-bit numbers that bytes make, the higher byte first; an odd byte at the end has a zero byte behind it
+-- the bytes as 16-bit numbers, high byte first; an odd byte at the end is padded with a zero byte
 abbrev pub words_of : List ℕ → List ℕ
 words_of [] = []
 words_of (high ∷ []) = high * 256 ∷ []
@@ -18,7 +18,7 @@ ones_complement_sum bytes = fold ones_complement_add 0 (words_of bytes)
 abbrev pub complement : ℕ → ℕ
 complement word = 65535 - word
 
--- 0 for 0, else the one number from 1 to 65535 that differs by a multiple of 65535: what is left once all carries are
--- added back
+-- 0 for 0, otherwise the one number from 1 to 65535 that differs by a multiple of 65535: the result once all carries
+-- are added back
 unfoldable pub reduced : ℕ → ℕ
 reduced n = if n == 0 then 0 else (n - 1) % 65535 + 1

@@ -8,7 +8,7 @@ use Rattle.ipv4.specs.Bytes.{word_at}
 abbrev pub is_tagged : List ℕ → Bool
 is_tagged frame = word_at frame 12 == 0x8100
 
--- where the packet begins: behind two addresses of 6 bytes, the tag of 4 bytes if there is one, and the type
+-- where the packet begins: after two addresses of 6 bytes, the tag of 4 bytes if there is one, and the type
 abbrev pub offset_of : List ℕ → ℕ
 offset_of frame = if is_tagged frame then 18 else 14
 
@@ -23,7 +23,7 @@ packet_of frame = drop (offset_of frame) frame
 abbrev pub version_of : List ℕ → ℕ
 version_of packet = slice_index packet 0 / 16
 
--- in bytes; the field counts 32-bit words
+-- in bytes; the field is a number of 32-bit words
 abbrev pub header_len : List ℕ → ℕ
 header_len packet = 4 * (slice_index packet 0 % 16)
 

@@ -12,23 +12,24 @@ use Rattle.ipv4.specs.Fields.{is_tagged, offset_of, type_of, packet_of, version_
 use Rattle.ipv4.specs.Fields.{destination_of, header_of, body_of, with_time_to_live, with_checksum}
 use Rattle.ipv4.specs.Ports.{way_of}
 
--- The drops, in the order of the tests: the first row that holds decides. `wire` is how long the frame was on the wire.
+-- The drops, in the order of the tests: the first row that holds decides. `wire` is the length of the frame on the
+-- wire.
 abbrev pub drops : List ℕ → ℕ → List (Bool × Reason)
 drops frame wire =
     let packet = packet_of frame in
     -- two addresses and a type (IEEE 802.3)
     (nat_lt (length frame) 14, Reason.Short)
-    -- behind the type of a tag its value and another type (IEEE 802.1Q section 9.6)
+    -- after the type of a tag its value and another type (IEEE 802.1Q section 9.6)
     ∷ (nat_lt (length frame) (offset_of frame), Reason.Short)
     -- the type of IPv4, which a second tag is not (RFC 894)
     ∷ (not (type_of frame == 0x0800), Reason.NotIpv4)
-    -- a header of 20 bytes at least: RFC 1812 section 5.2.2, test (1); its fields: RFC 791 section 3.1
+    -- a header of at least 20 bytes: RFC 1812 section 5.2.2, test (1); its fields: RFC 791 section 3.1
     ∷ (nat_lt (length packet) 20, Reason.Short)
     -- version and header length: tests (3) and (4)
     ∷ (not (version_of packet == 4), Reason.BadHeader)
     ∷ (nat_lt (header_len packet) 20, Reason.BadHeader)
     ∷ (nat_lt (length packet) (header_len packet), Reason.Short)
-    -- total length: test (5), and test (1) on what was on the wire
+    -- total length: test (5), and test (1) on the length on the wire
     ∷ (nat_lt (total_len packet) (header_len packet), Reason.BadLength)
     ∷ (nat_lt (wire - offset_of frame) (total_len packet), Reason.BadLength)
     -- header checksum: test (2)
@@ -58,21 +59,21 @@ judged routes ports frame wire = way_or (first_reason (drops frame wire)) (way_f
 abbrev pub lowered : List ℕ → List ℕ
 lowered header = with_time_to_live (time_to_live header - 1) header
 
--- the complement of the sum that the header has with checksum 0 (RFC 791 section 3.1)
+-- the complement of the header's sum with checksum 0 (RFC 791 section 3.1)
 abbrev pub renewed_checksum : List ℕ → ℕ
 renewed_checksum header = complement (ones_complement_sum (with_checksum 0 header))
 
 unfoldable pub renewed : List ℕ → List ℕ
 renewed header = with_checksum (renewed_checksum (lowered header)) (lowered header)
 
--- what is in front of the packet, with the two addresses of the way
+-- the bytes before the packet, with the two addresses of the way
 abbrev pub addressed : Way → List ℕ → List ℕ
 addressed way front = way.to ++ way.from ++ drop 12 front
 
 abbrev pub with_header : List ℕ → List ℕ → List ℕ
 with_header header packet = header ++ body_of packet
 
--- the frame as it leaves: with new addresses and a new header, and every other byte as it was
+-- the frame as it leaves: with new addresses and a new header, and every other byte unchanged
 unfoldable pub rewritten : Way → List ℕ → List ℕ
 rewritten way frame =
     addressed way (take (offset_of frame) frame)
@@ -83,7 +84,7 @@ pub record Outcome : Type 0 where
   pub verdict : Verdict
   pub frame : List ℕ
 
--- a dropped frame stays as it is
+-- a dropped frame is unchanged
 abbrev pub outcome_of : List ℕ → Result Way Reason → Outcome
 outcome_of frame (Err reason) = record { verdict = Verdict.Drop reason; frame = frame }
 outcome_of frame (Ok way) = record { verdict = Verdict.Send way.port (is_tagged frame); frame = rewritten way frame }
@@ -91,7 +92,7 @@ outcome_of frame (Ok way) = record { verdict = Verdict.Send way.port (is_tagged 
 abbrev pub forwarded : Members → Ports → List ℕ → ℕ → Outcome
 forwarded routes ports frame wire = outcome_of frame (judged routes ports frame wire)
 
--- a packet whose header is right, and which is not at the end of its way: what the rows of the drops leave
+-- a packet whose header is valid, and which isn't at the end of its way: the case in which no row of the drops holds
 pub record IsForwardable (packet : List ℕ) : Type 0 where
   pub version : version_of packet ≡ 4
   pub least : 20 ≤ header_len packet

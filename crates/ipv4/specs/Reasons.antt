@@ -1,4 +1,4 @@
--- The numbers of the reasons for which a frame is dropped.
+-- The numbers of the reasons to drop a frame.
 use Rattle.std.specs.Prelude.{ℕ}
 use Rattle.ipv4.specs.declared.verdicts.Reason.{Reason}
 

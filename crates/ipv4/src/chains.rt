@@ -1,4 +1,4 @@
-//! Forwarding of packets, wherever their segments divide the header.
+//! Forwarding of packets, even if a segment boundary splits the header.
 ghost use Rattle.std.specs.Prelude.{◌≡◌, ◌≤◌, length, take};
 ghost use Rattle.mbuf.specs.Buffer.{overwritten};
 ghost use Rattle.mbuf.specs.Chain.{bytes_of, shape_of, HasSameSegments};
@@ -11,8 +11,8 @@ use crate::verdicts::Verdict;
 use lpm::Table;
 use mbuf::Chain;
 
-/// What becomes of a frame that was `wire` bytes long, of which the chain has those that were captured. Asked: `wire`
-/// is at least their number. Takes no memory.
+/// The verdict on a frame that was `wire` bytes long, whose captured bytes are in the chain. Requires: `wire` is at
+/// least their number. Takes no memory.
 #[inline]
 pub fn verdict(table: &Table, ports: &Ports, chain: &Chain, wire: usize) -> Verdict
     requires { length (bytes_of chain.now) ≤ wire }
@@ -27,11 +27,11 @@ pub fn verdict(table: &Table, ports: &Ports, chain: &Chain, wire: usize) -> Verd
     }
 }
 
-/// The verdict on the frame, which is made in place what it leaves as where it is sent: its two addresses, its time to
-/// live and its checksum. A dropped frame stays as it is, and no segment changes but for these bytes. Asked: `wire` is
-/// at least the number of bytes that the chain has. Takes no memory.
+/// The verdict on the frame, which is rewritten in place as it leaves if it is sent: its two addresses, its time to
+/// live and its checksum. A dropped frame is unchanged, and nothing else in the segments changes. Requires: `wire` is
+/// at least the number of bytes in the chain. Takes no memory.
 ///
-/// A header that lies in the first segment is read and written there; any other is gathered and written back.
+/// A header that is in the first segment is read and written there; any other is gathered and written back.
 #[inline]
 pub fn forward(chain: &mut Chain, table: &Table, ports: &Ports, wire: usize) -> Verdict
     requires { length (bytes_of chain.old) ≤ wire }
@@ -48,7 +48,7 @@ pub fn forward(chain: &mut Chain, table: &Table, ports: &Ports, wire: usize) -> 
     }
 }
 
-/// The verdict on a frame whose header is divided.
+/// The verdict on a frame whose header is split.
 #[inline(never)]
 fn verdict_of_gathered(table: &Table, ports: &Ports, chain: &Chain, wire: usize) -> Verdict
     requires { length (bytes_of chain.now) ≤ wire }
@@ -60,7 +60,7 @@ fn verdict_of_gathered(table: &Table, ports: &Ports, chain: &Chain, wire: usize)
     verdict_of_frame(head, table, ports, wire)
 }
 
-/// Forwards a frame whose header is divided.
+/// Forwards a frame whose header is split.
 #[inline(never)]
 fn forward_gathered(chain: &mut Chain, table: &Table, ports: &Ports, wire: usize) -> Verdict
     requires { length (bytes_of chain.old) ≤ wire }

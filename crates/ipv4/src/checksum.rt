@@ -4,8 +4,8 @@ ghost use Rattle.ipv4.specs.Checksum.{ones_complement_sum, reduced};
 
 use crate::fields::word_at;
 
-/// The one's complement sum of the 16-bit numbers that the bytes make, the higher byte first. Asked: an even number of
-/// bytes, 60 at most, as the longest IPv4 header has. A header whose checksum is right sums up to 0xFFFF.
+/// The one's complement sum of the bytes as 16-bit numbers, high byte first. Requires: an even number of bytes, at most
+/// 60, as in the longest IPv4 header. A header with a correct checksum sums to 0xFFFF.
 #[inline]
 pub fn sum16(bytes: &[u8]) -> u16
     requires even { length bytes.now % 2 ≡ 0 }
@@ -24,7 +24,7 @@ pub fn sum16(bytes: &[u8]) -> u16
     carried(total)
 }
 
-/// The carries out of 16 bits added back at the low end.
+/// The total, with the carries out of 16 bits added back at the low end.
 #[inline]
 fn carried(total: u64) -> u16
     requires { total < 2 ^ 36 }

@@ -3,13 +3,13 @@ ghost use Rattle.std.specs.Prelude.{◌≡◌, ◌<◌, ◌≤◌, ◌+◌, leng
 ghost use Rattle.ipv4.specs.Bytes.{word_at};
 ghost use Rattle.ipv4.specs.Fields.{destination_of, header_len, is_tagged, offset_of};
 
-/// How many bytes two addresses and a type have.
+/// The length of two addresses and a type, in bytes.
 pub(crate) const ETHERNET: usize = 14;
 
-/// How many bytes the shortest header has.
+/// The length of the shortest header, in bytes.
 pub(crate) const SHORTEST: usize = 20;
 
-/// How many more an 802.1Q tag has.
+/// The length of an 802.1Q tag, in bytes.
 const TAG: usize = 4;
 
 /// The type of a tag (IEEE 802.1Q section 9.6).
@@ -18,7 +18,7 @@ const TAGGED: u16 = 0x8100;
 /// The type of IPv4 (RFC 894).
 pub(crate) const IPV4: u16 = 0x0800;
 
-/// The number that byte `i` and the next one make.
+/// The 16-bit number formed by byte `i` and the next one.
 #[inline]
 pub(crate) fn word_at(bytes: &[u8], i: usize) -> u16
     requires { i + 1 < length bytes.now }
@@ -36,7 +36,7 @@ pub(crate) fn is_tagged(frame: &[u8]) -> bool
     word_at(frame, 12) == TAGGED
 }
 
-/// Where the packet begins.
+/// The offset at which the packet begins.
 #[inline]
 pub(crate) fn offset_of(frame: &[u8]) -> usize
     requires { 14 ≤ length frame.now }

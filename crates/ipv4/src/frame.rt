@@ -1,4 +1,4 @@
-//! A frame whose header lies in one piece: judged, and rewritten where it is sent.
+//! A frame whose header is contiguous: the verdict on it, and its rewriting if it is sent.
 ghost use Rattle.std.specs.Prelude.{◌≡◌, ◌≤◌, length};
 ghost use Rattle.ipv4.specs.Forwarding.{forwarded};
 
@@ -24,7 +24,7 @@ pub(crate) fn verdict_of_frame(frame: &[u8], table: &Table, ports: &Ports, wire:
     }
 }
 
-/// The verdict on the frame, which is rewritten where it is sent.
+/// The verdict on the frame, which is rewritten if it is sent.
 #[inline]
 pub(crate) fn forward_frame(frame: &mut [u8], table: &Table, ports: &Ports, wire: usize) -> Verdict
     requires { length frame.old ≤ wire }

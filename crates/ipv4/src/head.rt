@@ -1,10 +1,10 @@
-//! How much of a frame's front decides over it.
+//! How much of a frame's front decides what becomes of it.
 ghost use Rattle.std.specs.Prelude.{◌≡◌, ◌↔◌, ◌⊎◌, IsTrue, length};
 ghost use Rattle.ipv4.specs.Head.{HoldsHeader};
 
 use crate::fields::{ETHERNET, SHORTEST, header_len, offset_of};
 
-/// The most bytes that a tagged frame has up to the end of its header.
+/// The maximum length of a tagged frame up to the end of its header.
 pub(crate) const MAX_HEAD: usize = 78;
 
 /// Whether the front of a frame of `len` bytes is the frame, or has its whole header.

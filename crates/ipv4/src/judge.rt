@@ -1,4 +1,4 @@
-//! The verdict on a frame whose header lies in one piece.
+//! The verdict on a frame whose header is contiguous.
 ghost use Rattle.std.specs.Prelude.{◌≡◌, ◌≤◌, ◌==◌, length};
 ghost use Rattle.ipv4.specs.Checksum.{ones_complement_sum};
 ghost use Rattle.ipv4.specs.Fields.{header_len, header_of};
@@ -10,7 +10,7 @@ use crate::ports::{Ports, Way};
 use crate::verdicts::Reason;
 use lpm::Table;
 
-/// The way of the frame, or why it is dropped, tested in the order of the reasons' table.
+/// The way of the frame, or why it is dropped, tested in the order of the table of reasons.
 #[inline]
 #[tactic(auto, unfolding(crate::specs::Forwarding::judged))]
 pub(crate) fn judge(frame: &[u8], table: &Table, ports: &Ports, wire: usize) -> Result<Way, Reason>

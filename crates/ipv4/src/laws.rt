@@ -9,7 +9,7 @@ ghost use Rattle.ipv4.specs.Fields.{header_of, packet_of, time_to_live};
 ghost use Rattle.ipv4.specs.Forwarding.{forwarded};
 ghost use Rattle.ipv4.specs.Ports.{HasAddresses};
 
-/// A frame that is sent has a right checksum again, and is as long as it was.
+/// A frame that is sent has a correct checksum again, and the same length.
 pub fn a_sent_frame_is_right()
     ensures checksum { (routes : Members) (ports : Ports) (frame : List ℕ) (wire port : ℕ) (tagged : Bool)
         → HasAddresses ports → AreBytes frame → let sent = forwarded routes ports frame wire in
@@ -19,13 +19,14 @@ pub fn a_sent_frame_is_right()
         sent.verdict ≡ Send port tagged → length sent.frame ≡ length frame }
 {}
 
-/// A frame is sent by one of the ports that there are.
+/// A frame is sent through one of the existing ports.
 pub fn a_frame_is_sent_by_a_port()
     ensures { (routes : Members) (ports : Ports) (frame : List ℕ) (wire port : ℕ) (tagged : Bool)
         → (forwarded routes ports frame wire).verdict ≡ Send port tagged → port < length ports.sources.items }
 {}
 
-/// A frame that was sent, and has time to live left, is sent again by the same port, with the same routes and ports.
+/// A frame that was sent, and has time to live left, is sent again through the same port, with the same routes and
+/// ports.
 pub fn a_sent_frame_is_sent_again()
     ensures { (routes : Members) (ports : Ports) (frame : List ℕ) (wire port : ℕ) (tagged : Bool)
         → HasAddresses ports → AreBytes frame → let sent = forwarded routes ports frame wire in

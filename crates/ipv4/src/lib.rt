@@ -1,9 +1,10 @@
 //! IPv4 forwarding (RFC 791, RFC 1812 sections 5.2.2 and 5.3.1) of Ethernet frames, also with one 802.1Q tag: the
-//! verdict on a frame, and the frame rewritten in place, wherever a chain's segments divide it. No call takes memory.
+//! verdict on a frame, and the frame rewritten in place, wherever a chain's segment boundaries are. No call takes
+//! memory.
 //!
-//! What becomes of a frame is one function of its bytes and of how long it was on the wire, `forwarded` in
-//! `specs/Forwarding.antt`: a table of drops, and the frame as it leaves. `verdict` and `forward` both answer by it, so
-//! that what one tells the other does.
+//! What becomes of a frame is one function of its bytes and of its length on the wire, `forwarded` in
+//! `specs/Forwarding.antt`: a table of drops, and the frame as it leaves. Both `verdict` and `forward` return its
+//! result, so they always agree.
 //!
 //! A caller, proved in memory_tests (`told_and_done`): the two verdicts are the same.
 //!

@@ -2,10 +2,10 @@
 ghost use Rattle.std.specs.Prelude.{◌≡◌};
 ghost use Rattle.ipv4.specs.Ports.{way_of};
 
-/// The most ports.
+/// The maximum number of ports.
 pub const MAX_PORTS: usize = 16;
 
-/// Where a hop number leads: a port, and the address of the neighbour there.
+/// Where a hop number leads: a port, and the address of the neighbour on it.
 #[derive(Clone, Copy, Debug, PartialEq, Eq)]
 pub struct Hop {
     pub port: u32,

@@ -1,4 +1,4 @@
-//! The frame that is sent, written over the one that came.
+//! Rewriting the frame that is sent, in place.
 ghost use Rattle.std.specs.Prelude.{◌≡◌, ◌≤◌, length};
 ghost use Rattle.ipv4.specs.Fields.{header_of, packet_of};
 ghost use Rattle.ipv4.specs.Forwarding.{addressed, lowered, renewed, renewed_checksum, rewritten, with_header};
@@ -7,7 +7,7 @@ ghost use Rattle.ipv4.specs.Forwarding.{IsForwardable};
 use crate::fields::{offset_of, word_at};
 use crate::ports::Way;
 
-/// The two addresses, the time to live and the checksum as they leave.
+/// Writes the two addresses, the time to live and the checksum as they leave.
 #[inline]
 pub(crate) fn rewrite(frame: &mut [u8], way: &Way)
     requires long { 14 ≤ length frame.old }
@@ -30,7 +30,7 @@ fn address(front: &mut [u8], way: &Way)
     front[6..12].copy_from_slice(&way.from);
 }
 
-/// Takes one off the time to live, and writes the checksum that the header has then.
+/// Lowers the time to live by one, and writes the new checksum.
 #[inline]
 fn renew(packet: &mut [u8])
     requires { IsForwardable packet.old }
@@ -42,8 +42,8 @@ fn renew(packet: &mut [u8])
     packet[11] = (checksum % 256) as u8;
 }
 
-/// The checksum that the header has with one less time to live. Where the old one was right, it grows by 256, and by
-/// one more where that is carried out of 16 bits; it is never 0xFFFF (RFC 1624, section 3).
+/// The header's checksum once the time to live is one less. If the old one was correct, it grows by 256, and by one
+/// more if there is a carry out of 16 bits; it is never 0xFFFF (RFC 1624, section 3).
 #[inline]
 fn lowered_checksum(packet: &[u8]) -> u16
     requires { IsForwardable packet.now }

@@ -7,16 +7,16 @@ use thiserror::Error;
 /// Why a frame is dropped, with the numbers by which drops are counted.
 #[derive(Clone, Copy, Debug, PartialEq, Eq, Error)]
 pub enum Reason {
-    /// The captured bytes end before the type or the header do.
+    /// The captured bytes end before the type or before the end of the header.
     #[error("short")]
     Short = 1,
-    /// The type is not that of IPv4 (RFC 894).
+    /// The type isn't IPv4 (RFC 894).
     #[error("not-ipv4")]
     NotIpv4 = 2,
     /// The version is not 4, or the header shorter than 20 bytes.
     #[error("bad-header")]
     BadHeader = 3,
-    /// The total length is below the header's, or above what was on the wire.
+    /// The total length is below the header's, or above the length on the wire.
     #[error("bad-length")]
     BadLength = 4,
     /// The one's complement sum of the header is not 0xFFFF.
@@ -25,7 +25,7 @@ pub enum Reason {
     /// The time to live is 0 or 1.
     #[error("expired")]
     Expired = 6,
-    /// No route holds the destination, or its hop leads to no port.
+    /// No route covers the destination, or its hop leads to no port.
     #[error("no-route")]
     NoRoute = 7,
 }
@@ -42,8 +42,8 @@ impl Reason {
 /// What becomes of a frame.
 #[derive(Clone, Copy, Debug, PartialEq, Eq)]
 pub enum Verdict {
-    /// It leaves through this port; `tagged` tells whether it has an 802.1Q tag, which it keeps.
+    /// It leaves through this port; `tagged`: whether it has an 802.1Q tag, which it keeps.
     Send { port: u32, tagged: bool },
-    /// It goes no further.
+    /// It isn't forwarded.
     Drop(Reason),
 }

@@ -50,7 +50,7 @@ module _ {bits limit cap : ℕ} {first groups : List TableEntry} {free : List �
   number_front : (k : ℕ) → k < length rest → get_or rest k 0 ≡ get_or free k 0
   number_front k h = sym (ap (λ (fs : List ℕ). get_or fs k 0) split ∙ get_or_append_left rest _ 0 k h)
 
-  -- what an entry names afterwards: the new one, or what it named
+  -- what an entry names afterwards: the new one, or what it named before
   named_after : (P : ℕ → ℕ → Type 0) → P i c.number →
       ((j : ℕ) → j ≢ i → is_group (get_or first j (entry_of 0 0)) ≡ true → P j (get_or first j (entry_of 0 0)).number)
       → (j : ℕ) → is_group (get_or (set first i c) j (entry_of 0 0)) ≡ true → P j (get_or (set first i c) j (entry_of 0 0)).number
@@ -90,7 +90,7 @@ module _ {bits limit cap : ℕ} {first groups : List TableEntry} {free : List �
     room = omega (arith, allocated.room, made_same);
   }
 
--- an entry gives its group back
+-- an entry gives back its group
 module _ {bits limit cap : ℕ} {first groups : List TableEntry} {free : List ℕ} (allocated : GroupsAreAllocated bits limit first groups free cap)
     (i : ℕ) (fits : i < length first) (grouped : is_group (get_or first i (entry_of 0 0)) ≡ true) (c : TableEntry) (is : is_group c ≡ false) where
   pub count_closed : count_by is_group (set first i c) + 1 ≡ count_by is_group first
@@ -117,7 +117,7 @@ module _ {bits limit cap : ℕ} {first groups : List TableEntry} {free : List �
       → (get_or (set first i c) j (entry_of 0 0)).number ≡ (get_or first j (entry_of 0 0)).number
   kept_number j e = ap (λ (x : TableEntry). x.number) (kept_entry j e)
 
-  -- what holds of each free group before, and of the one that is freed
+  -- what holds for each free group before, and for the one that is freed
   each_free : (P : ℕ → ℕ → Type 0) → ((k : ℕ) → k < length free → P k (get_or free k 0))
       → P (length free) (get_or first i (entry_of 0 0)).number
       → (k : ℕ) → k < length (free ++ (get_or first i (entry_of 0 0)).number ∷ [])
@@ -164,7 +164,7 @@ single : (x k : ℕ) → k < 1 → get_or (x ∷ []) k 0 ≡ x
 single x zero h = refl
 single x (suc k) h = absurd (omega arith)
 
--- memory for one more group, where none is free
+-- memory for one more group, if none is free
 module _ {bits limit cap : ℕ} {first groups : List TableEntry} (allocated : GroupsAreAllocated bits limit first groups [] cap)
     (room : count_by is_group first < limit) (fewer : count_by is_group first < 2 ^ bits) (more : List TableEntry)
     (whole : length more ≡ size_of bits)
@@ -184,7 +184,7 @@ module _ {bits limit cap : ℕ} {first groups : List TableEntry} (allocated : Gr
     room = omega arith;
   }
 
--- where some entry names no group, fewer than all do
+-- if some entry names no group, fewer than all do
 pub fewer_groups : (es : List TableEntry) (i : ℕ) → i < length es → is_group (get_or es i (entry_of 0 0)) ≡ false → count_by is_group es < length es
 fewer_groups es i fits plain =
     omega (

@@ -1,4 +1,4 @@
--- Which places a prefix holds: a run of whole entries, or a run within one entry's group.
+-- Which places a prefix covers: a run of whole entries, or a run within one entry's group.
 use Rattle.std.proofs.Common.{◌≡◌, ℕ, ◌+◌, ◌-◌, ◌*◌, ◌/◌, ◌%◌, ◌^◌, ◌≤◌, ◌<◌, sym, ap, ◌∙◌, subst, arith}
 use Rattle.std.proofs.lemmas.Nat.{pow_pos, pow-add, shl-shr, shr_split, div-mul-add, mod_below, shr_below}
 use Rattle.std.proofs.Math.Nat.{mul_assoc}
@@ -9,7 +9,7 @@ use Rattle.lpm.proofs.GroupOverwrites.{group_span}
 pub first_bits-place : (bits i low : ℕ) → low < size_of bits → first_bits (i * size_of bits + low) bits ≡ i
 first_bits-place bits i low h = div-mul-add i (size_of bits) low h
 
--- a quotient and what it is of
+-- a quotient and its dividend
 quotient_is : (i q t : ℕ) → q * t ≤ i → i < q * t + t → i / t ≡ q
 quotient_is i q t low high =
     let r : ℕ = i - q * t in

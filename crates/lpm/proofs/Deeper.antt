@@ -1,4 +1,4 @@
--- The members deeper than the first level that share their first bits lie between two prefixes.
+-- The members deeper than the first level that share their first bits are between two prefixes.
 use Rattle.std.proofs.Common.{◌≡◌, ℕ, ◌+◌, ◌-◌, ◌*◌, ◌≤◌, ◌<◌, Bool, true, false, Some, refl, sym, ap, ◌∙◌, inl, inr, ◌⊎◌, arith}
 use Rattle.std.proofs.lemmas.Bool.{cases_lt}
 use Rattle.std.proofs.lemmas.Cmp.{ranked}
@@ -16,7 +16,7 @@ use Rattle.lpm.specs.Groups.{has_deeper, HasDeeper}
 use Rattle.lpm.proofs.Masks.{size_pos, first_bits-masked, masked_le, below_next, masked_among, shared_shallower, shared_from_masked}
 use Rattle.lpm.proofs.Firsts.{deeper_has, has_deeper_is}
 
--- a pair is no greater than another where its first part is smaller, or the same and its second no greater
+-- a pair is at most another if its first part is smaller, or the same and its second at most the other's
 abbrev IsLePair : ℕ → ℕ → ℕ → ℕ → Type 0
 IsLePair a b c d = (a < b) ⊎ ((a ≡ b) × (c ≤ d))
 

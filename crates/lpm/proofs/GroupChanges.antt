@@ -11,7 +11,7 @@ use Rattle.lpm.specs.Groups.{deeper_firsts, has_deeper, HasDeeper}
 use Rattle.lpm.proofs.Longest.{ChangesAt, changed_apart, tests_apart}
 use Rattle.lpm.proofs.Firsts.{deeper_has, has_deeper_is}
 
--- two tests of first bits answer alike where each member that one finds is found by the other
+-- two tests of first bits agree if each member that one finds is found by the other
 same_firsts : (bits : ℕ) (m m' : Members) → ((f : ℕ) → HasDeeper bits m' f → has_deeper bits m f ≡ true)
     → ((f : ℕ) → HasDeeper bits m f → has_deeper bits m' f ≡ true)
     → deeper_firsts bits m' ≡ deeper_firsts bits m
@@ -57,7 +57,7 @@ module _ (bits : ℕ) (m m' : Members) (k : Prefix) (w : Option ℕ) (change : C
   firsts_of_shallow shallow = same_firsts bits m m'
       (λ f d. comes f d (apart_by_depth d.prefix shallow d.deeper)) (λ f d. stays f d (apart_by_depth d.prefix shallow d.deeper))
 
-  -- other first bits are as they were
+  -- other first bits are unchanged
   pub has_deeper_other : (f : ℕ) → f ≢ first_bits k.address bits → has_deeper bits m' f ≡ has_deeper bits m f
   has_deeper_other f other = both_ways _ _
       (λ e. let d = has_deeper_is bits m' f e in comes f d (apart_by_first d.prefix f d.among other))
@@ -72,7 +72,7 @@ module _ (bits : ℕ) (m m' : Members) (k : Prefix) (w : Option ℕ) (change : C
         | inr other ↦ has_deeper_other f other ∙ sym (others f other)
       ])
 
-  -- where they need a group afterwards, they are among those that do
+  -- if they need a group afterwards, they are among those that do
   pub firsts_with : has_deeper bits m' (first_bits k.address bits) ≡ true
       → deeper_firsts bits m' ≡ fin_set.insert (deeper_firsts bits m) (first_bits k.address bits)
   firsts_with here = same_except (fin_set.insert (deeper_firsts bits m) (first_bits k.address bits))
@@ -80,7 +80,7 @@ module _ (bits : ℕ) (m m' : Members) (k : Prefix) (w : Option ℕ) (change : C
       (fin_set.contains-insert nat_cmp_total _ _ _ ∙ ap (λ b. b || has_deeper bits m (first_bits k.address bits))
       (tied (first_bits k.address bits)) ∙ sym here)
 
-  -- and where they need none, they are not
+  -- and if they need none, they are not
   pub firsts_without : has_deeper bits m' (first_bits k.address bits) ≡ false
       → deeper_firsts bits m' ≡ fin_set.remove (deeper_firsts bits m) (first_bits k.address bits)
   firsts_without here = same_except (fin_set.remove (deeper_firsts bits m) (first_bits k.address bits))

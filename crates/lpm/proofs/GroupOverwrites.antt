@@ -1,4 +1,4 @@
--- Overwriting a stretch of one group overwrites places of the one entry that names it.
+-- Overwriting a range of one group overwrites places of the one entry that names it.
 use Rattle.std.proofs.Common.{◌≡◌, ◌≢◌, ℕ, ◌+◌, ◌-◌, ◌*◌, ◌<◌, ◌≤◌, true, List, length, get_or, sym, ap, ◌∙◌, inl, inr, arith}
 use Rattle.std.proofs.lemmas.Bool.{cases_order, cases_Bool}
 use Rattle.std.proofs.lemmas.Nat.{mul-add-lt}
@@ -11,14 +11,14 @@ use Rattle.lpm.specs.Allocated.{GroupsAreAllocated, made_of}
 use Rattle.lpm.proofs.Masks.{size_pos}
 use Rattle.lpm.proofs.LevelReads.{entry_at-grouped, entry_at-plain}
 
--- places of a lower-numbered group come before those of a higher
+-- places of a lower-numbered group come before those of a higher-numbered one
 pub group_before : (h g size low : ℕ) → h < g → low < size → h * size + low < g * size
 group_before h g size low less fits = omega (arith, mul-add-lt h size low g less fits, mul_comm size g)
 
 pub group_span : (g h size : ℕ) → g < h → 0 < size → g * size + size ≤ h * size
 group_span g h size less pos = omega (arith, mul-add-lt g size (size - 1) h less (omega arith), mul_comm size h)
 
--- no two entries name one group
+-- no two entries name the same group
 abbrev pub IsAlone : List TableEntry → Type 0
 IsAlone first = (i j : ℕ) → is_group (get_or first i (entry_of 0 0)) ≡ true → is_group (get_or first j (entry_of 0 0)) ≡ true
     → (get_or first i (entry_of 0 0)).number ≡ (get_or first j (entry_of 0 0)).number → i ≡ j
@@ -63,7 +63,7 @@ module _ (p q : TwoLevels) (same_bits : q.bits ≡ p.bits) (same_first : q.first
     ];
   }
 
--- a stretch of a group that has memory
+-- a range of a group that has memory
 pub stretch_fits : {bits limit cap : ℕ} {first groups : List TableEntry} {free : List ℕ} → GroupsAreAllocated bits limit first groups free cap
     → (group to : ℕ) → group < made_of first free → to ≤ size_of bits
     → group * size_of bits + to ≤ length groups

@@ -16,7 +16,7 @@ use Rattle.lpm.specs.Prefixes.{prefix_cmp}
 pub prefix_total : IsTotalOrder prefix_cmp
 prefix_total = then_total (on_total (λ (p : Prefix). p.address) nat_cmp_total) (on_total (λ (p : Prefix). p.depth) nat_cmp_total)
 
--- what two tied parts say
+-- what follows from two equal parts
 both_equal : (a b : Ordering) → ordering_then a b ≡ Equal → (a ≡ Equal) × (b ≡ Equal)
 both_equal Less b e = cc
 both_equal Equal b e = (refl, e)
@@ -54,7 +54,7 @@ remove-tree m n k u = same_map prefix_total prefix_antisymmetric _ _ (λ q.
     get-tree n q ∙ u.0 q ∙ flipped k q None _ ∙ ap (cond (eq_by_cmp prefix_cmp q k) None) (sym (get-tree m q))
     ∙ sym (get-remove prefix_total _ k q))
 
--- what a derived test of two prefixes says
+-- what follows from a derived test of two prefixes
 pub same_prefix : (p q : Prefix) → (eqb p.address q.address && eqb p.depth q.depth) ≡ true → p ≡ q
 same_prefix p q e =
     let parts = and_parts _ _ e in

@@ -1,4 +1,4 @@
--- Overwriting entry after entry, and what a prefix holds.
+-- Overwriting entry after entry, and what a prefix covers.
 use Rattle.std.proofs.Common.{◌≡◌, ◌+◌, ◌-◌, ◌%◌, ◌<◌, ◌≤◌, ◌^◌, sym, subst, inl, inr}
 use Rattle.std.proofs.lemmas.Bool.{cases_lt, cases_eq}
 use Rattle.lpm.specs.declared.prefix.Prefix.{Prefix}
@@ -8,7 +8,7 @@ use Rattle.lpm.specs.TwoLevels.{TwoLevels, entry_at, Overwrites, OverwritesWithi
 use Rattle.lpm.proofs.Cover.{entry_covered, entry_from_covered, within_covered, entry_from_within, low_from_within}
 
 module _ (p q : TwoLevels) (x : Prefix) (c : TableEntry) (is_masked : masked x.address x.depth ≡ x.address) where
-  -- a prefix no deeper than the first level holds whole entries
+  -- a prefix no deeper than the first level covers whole entries
   pub overwrites_shallow : x.depth ≤ p.bits → p.bits ≤ 32 → OverwritesEntries p q (first_bits x.address p.bits)
       (first_bits x.address p.bits + 2 ^ (p.bits - x.depth)) x.depth c → Overwrites p q x c
   overwrites_shallow shallow most a = record {
@@ -25,7 +25,7 @@ module _ (p q : TwoLevels) (x : Prefix) (c : TableEntry) (is_masked : masked x.a
         ];
   }
 
-  -- a deeper one lies within one entry's group
+  -- a deeper one is within one entry's group
   pub overwrites_deep : p.bits < x.depth → x.depth ≤ 32
       → OverwritesWithin p q (first_bits x.address p.bits) (x.address % size_of p.bits)
       (x.address % size_of p.bits + size_of x.depth) x.depth c → Overwrites p q x c

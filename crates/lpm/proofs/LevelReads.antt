@@ -1,4 +1,4 @@
--- What holds of levels as they lie in memory.
+-- What holds for levels as they are laid out in memory.
 use Rattle.std.proofs.Common.{◌≡◌, ℕ, ◌+◌, ◌*◌, ◌%◌, ◌<◌, ◌≤◌, inl, inr, true, false, cond, List, length, get_or, sym, ap, ◌∙◌, subst, arith}
 use Rattle.std.proofs.lemmas.Bool.{cases_eq}
 use Rattle.std.proofs.lemmas.Nat.{mul-add-lt}
@@ -37,7 +37,7 @@ at_most {bits} allocated =
 pub read_is : (xs : List TableEntry) (i : ℕ) (x : TableEntry) → i < length xs → x ≡ get_or xs i x → x ≡ get_or xs i (entry_of 0 0)
 read_is xs i x h e = get_or_read xs i x h e (entry_of 0 0)
 
--- what a read of an entry that names no group, or of a place in its group, says of the place
+-- what a read of an entry that names no group, or of a place in its group, shows about the place
 pub read_plain : (p : TwoLevels) (i low : ℕ) (entry : TableEntry) → i < length p.first → entry ≡ get_or p.first i entry → is_group entry ≡ false
     → entry ≡ entry_at p i low
 read_plain p i low entry h e plain =
@@ -51,13 +51,13 @@ read_grouped p i low k entry x h e grouped at fits read =
     read_is p.groups k x fits read ∙ ap (λ n. get_or p.groups n (entry_of 0 0)) (at ∙ ap (λ (s : TableEntry). s.number * size_of p.bits + low) is)
     ∙ sym (entry_at-grouped p i low (ap is_group (sym is) ∙ grouped))
 
--- what the first place of an entry's group says
+-- what the first place of an entry's group shows
 pub first_place : (p q : TwoLevels) (i number : ℕ) (x : TableEntry) → p ≡ q → is_group (first_at q i) ≡ true
     → number ≡ (first_at p i).number → x ≡ grouped_at q number 0 → x ≡ entry_at q i 0
 first_place p q i number x same grouped named read =
     read ∙ ap (λ n. grouped_at q n 0) (named ∙ ap (λ (s : TwoLevels). (first_at s i).number) same) ∙ sym (entry_at-grouped q i 0 grouped)
 
--- the place of an address, computed by the number of bits that the first level has
+-- the place of an address, computed with the number of bits of the first level
 pub addressed : (p : TwoLevels) (a bits i low : ℕ) → p.bits ≡ bits → i ≡ first_bits a bits → low ≡ a % size_of bits
     → entry_at p i low ≡ entry_for p a
 addressed p a bits i low form at_first at_low =

@@ -27,13 +27,13 @@ pub longest-zero : (m : Members) (a : ℕ) → longest m a 0 ≡ entry_of 0 0
 unfolding longest
 longest-zero m a = refl
 
--- where a member of this depth holds the address, it is the longest of at most this depth
+-- if a member of this depth covers the address, it is the longest of at most this depth
 pub longest-here : (m : Members) (a d h : ℕ) → 0 < d → map.get m (prefix_of a d) ≡ Some h → longest m a d ≡ entry_of d h
 unfolding longest
 longest-here m a zero h pos e = absurd (omega arith)
 longest-here m a (suc d) h pos e = ap (λ w. entry_or w (suc d) (longest m a d)) e
 
--- and where none does, the longest is shorter
+-- and if none does, the longest is shorter
 pub longest-shorter : (m : Members) (a d : ℕ) → 0 < d → map.get m (prefix_of a d) ≡ None → longest m a d ≡ longest m a (d - 1)
 unfolding longest
 longest-shorter m a zero pos e = absurd (omega arith)
@@ -41,7 +41,7 @@ longest-shorter m a (suc d) pos e =
     let same : d ≡ suc d - 1 = omega arith in
     ap (λ w. entry_or w (suc d) (longest m a d)) e ∙ ap (longest m a) same
 
--- addresses that share their first n bits have one longest match of at most n bits
+-- addresses that share their first n bits have the same longest match of at most n bits
 pub longest-shared : (m : Members) (a b n : ℕ) → first_bits a n ≡ first_bits b n → n ≤ 32 → longest m a n ≡ longest m b n
 unfolding longest
 longest-shared m a b zero e h = refl
@@ -80,7 +80,7 @@ module _ (m m' : Members) (x d : ℕ) (w : Option ℕ) (change : ChangesAt m m' 
       let apart : prefix_of a (suc n) ≢ prefix_of x d = λ e. omega (arith, ap (λ (p : Prefix). p.depth) e) in
       λ i. entry_or (changed_apart m m' _ w change (prefix_of a (suc n)) apart i) (suc n) (longest-deeper a n (omega arith) i)
 
-  -- nor has it at an address that it doesn't hold
+  -- nor has it at an address that it doesn't cover
   pub longest-outside : (a n : ℕ) → masked a d ≢ masked x d → longest m' a n ≡ longest m a n
   unfolding longest
   longest-outside a zero h = refl
@@ -107,7 +107,7 @@ module _ (m m' : Members) (x d : ℕ) (w : Option ℕ) (change : ChangesAt m m' 
       ap (λ g. entry_or g (suc n) (longest m' a n)) (changed_apart m m' _ w change (prefix_of a (suc n)) apart)
       ∙ entry_or-overwritten (map.get m (prefix_of a (suc n))) (suc n) d new _ _ h before
 
-  -- at an address that it holds, what was no deeper gives way to it, or to the next shorter member
+  -- at an address that it covers, what was no deeper is replaced by it, or by the next shorter member
   pub longest-covered : (a n : ℕ) → masked a d ≡ masked x d → 0 < d → d ≤ n
       → longest m' a n ≡ overwritten d (entry_or w d (longest m a (d - 1))) (longest m a n)
   longest-covered a zero e pos h = absurd (omega arith)

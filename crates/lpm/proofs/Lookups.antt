@@ -1,4 +1,4 @@
--- What a right table answers.
+-- What a right table returns.
 use Rattle.std.proofs.Common.{◌≡◌, ℕ, zero, suc, ◌+◌, ◌-◌, ◌%◌, ◌^◌, ◌≤◌, ◌<◌, false, cond, Some, None, Option, List, [], length, map, replicate, get_or, refl}
 use Rattle.std.proofs.Common.{sym, ap, ◌∙◌, subst, inl, inr, arith}
 use Rattle.std.proofs.lemmas.Nat.{shr_below, shr_split, mod_below}
@@ -44,13 +44,13 @@ hops_right p m r addresses small =
     get_or-map hop addresses k 0 d inside ∙ ap hop_of (right_at p m r (get_or addresses k 0) (small k))
     ∙ sym (get_or-map (lookup_in m) addresses k 0 d inside))
 
--- the answer at one place of a burst
+-- the result at one index of a burst
 pub hop_at : (m : Members) (addresses : List ℕ) (hops : List (Option ℕ)) → hops ≡ map (lookup_in m) addresses
     → (k : ℕ) → k < length addresses → get_or hops k None ≡ lookup_in m (get_or addresses k 0)
 hop_at m addresses hops e k within =
     ap (λ hs. get_or hs k None) e ∙ get_or-map (lookup_in m) addresses k 0 None within
 
--- an answer is the hop of a member, and so of 24 bits
+-- a result is the hop of a member, and so has 24 bits
 pub small_hop : (m : Members) (a : ℕ) (answer : Option ℕ) → AreMembers m → IsLongestMatch m a answer
     → IfSome answer (λ hop. hop < 2 ^ 24)
 small_hop m a None are matches = tt

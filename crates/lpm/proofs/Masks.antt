@@ -1,4 +1,4 @@
--- What an address's first bits say of each other.
+-- How an address's first bits relate to each other.
 use Rattle.std.proofs.Common.{◌≡◌, ℕ, ◌+◌, ◌-◌, ◌*◌, ◌/◌, ◌^◌, ◌≤◌, ◌<◌, sym, ap, ◌∙◌, arith}
 use Rattle.std.proofs.lemmas.Nat.{pow_pos, shl-shr, shr-shr, shr_split, div-mul-add, mod_below}
 use Rattle.lpm.specs.Prefixes.{size_of, first_bits, masked}
@@ -29,11 +29,11 @@ shared_from_masked a b d e = sym (first_bits-masked a d) ∙ ap (λ n. first_bit
 pub masked_le : (a d : ℕ) → masked a d ≤ a
 masked_le a d = omega (arith, shr_split a (32 - d))
 
--- an address lies among those of its prefix
+-- an address is among those of its prefix
 pub below_next : (a d : ℕ) → a < masked a d + size_of d
 below_next a d = omega (arith, shr_split a (32 - d), mod_below a (size_of d) (size_pos d))
 
--- and what lies among those of a prefix has that prefix
+-- and what is among those of a prefix has that prefix
 pub masked_among : (a x d : ℕ) → masked x d ≤ a → a < masked x d + size_of d → masked a d ≡ masked x d
 masked_among a x d low high =
     let q : ℕ = first_bits x d in

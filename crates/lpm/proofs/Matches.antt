@@ -1,4 +1,4 @@
--- The longest match is what the relation says.
+-- The longest match agrees with the relation.
 use Rattle.std.proofs.Common.{◌≡◌, ◌≢◌, ℕ, zero, suc, ◌≤◌, ◌<◌, Option, Some, None, refl, sym, ap, ◌∙◌, subst, inl, inr, arith}
 use Rattle.std.proofs.lemmas.Bool.{cases_lt, cases_eq}
 use Rattle.std.proofs.lemmas.Bool.Decides.{nat_tests}
@@ -29,7 +29,7 @@ kept_or : (w : Option ℕ) (n d : ℕ) (c : TableEntry) → d ≤ n → d ≤ c.
 kept_or None n d c k e = e
 kept_or (Some x) n d c k e = k
 
--- no member that holds the address is deeper
+-- no member that covers the address is deeper
 pub longest_greatest : (m : Members) (a n d h : ℕ) → Holds m a d h → d ≤ n → d ≤ (longest m a n).depth
 unfolding longest
 longest_greatest m a zero d h holds k = k

@@ -5,12 +5,12 @@ use Rattle.lpm.specs.TableEntry.{TableEntry, entry_of, overwritten}
 use Rattle.lpm.specs.Overwrite.{OverwritesFrom}
 use Rattle.lpm.proofs.Overwritten.{overwritten-deeper, overwritten-covered}
 
--- what holds of each index from `from` to below i, and at i
+-- what holds for each index from `from` up to i, exclusive, and at i
 more_inside : (P : ℕ → Type 0) (from i : ℕ) → ((k : ℕ) → from ≤ k → k < i → P k) → P i → (k : ℕ) → from ≤ k → k < i + 1 → P k
 more_inside P from i so_far here k low high =
     elim (cases_lt k i) [ inl below ↦ so_far k low below | inr last ↦ subst P (let e : i ≡ k = omega arith in e) here ]
 
--- an entry that is deeper stays
+-- an entry that is deeper is unchanged
 pub overwrites_deeper : (old now : List TableEntry) (from i d : ℕ) (c : TableEntry) → OverwritesFrom old now from i d c → from ≤ i → (x : TableEntry)
     → x ≡ get_or now i (entry_of 0 0) → d < x.depth → OverwritesFrom old now from (i + 1) d c
 overwrites_deeper old now from i d c so_far low x read deep =

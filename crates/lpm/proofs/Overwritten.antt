@@ -1,4 +1,4 @@
--- What entries say after a change.
+-- The content of entries after a change.
 use Rattle.std.proofs.Common.{◌≡◌, ℕ, ◌≤◌, ◌<◌, arith}
 use Rattle.std.proofs.lemmas.Bool.Decides.{nat_tests}
 use Rattle.lpm.specs.TableEntry.{TableEntry, overwritten}

@@ -1,4 +1,4 @@
--- What the places say when a group is made, named by an entry or freed.
+-- The content of the places when a group is made, named by an entry or freed.
 use Rattle.std.proofs.Common.{◌≡◌, ◌≢◌, ℕ, ◌+◌, ◌*◌, ◌<◌, true, false, List, ◌++◌, length, get_or, set, refl, sym, ap, ◌∙◌, subst, inl, inr, arith}
 use Rattle.std.proofs.lemmas.Bool.{cases_order, cases_eq, cases_Bool}
 use Rattle.std.proofs.lemmas.List.{get_or_append_left}
@@ -13,7 +13,7 @@ use Rattle.lpm.proofs.LevelReads.{entry_at-grouped, entry_at-plain, place_fits}
 use Rattle.lpm.proofs.EntryOverwrites.{written_here, written_other}
 
 module _ (p : TwoLevels) (i : ℕ) (fits : i < length p.first) where
-  -- a place of another entry, whose group is as it was
+  -- a place of another entry, whose group is unchanged
   other_place : (gs : List TableEntry) (c : TableEntry) (f j low : ℕ) → j ≢ i
       → (is_group (first_at p j) ≡ true → get_or gs ((first_at p j).number * size_of p.bits + low) (entry_of 0 0) ≡ grouped_at p
       (first_at p j).number low)
@@ -73,7 +73,7 @@ module _ (p : TwoLevels) (i : ℕ) (fits : i < length p.first) where
         ];
       }
 
--- memory behind that of the groups that there are
+-- memory after that of the existing groups
 pub grows : (p : TwoLevels) (more : List TableEntry) (free : List ℕ) (cap f : ℕ) → GroupsAreAllocated p.bits p.limit p.first p.groups free cap
     → Grows p (record p { groups = p.groups ++ more; free = f })
 grows p more free cap f allocated =

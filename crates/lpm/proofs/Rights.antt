@@ -29,7 +29,7 @@ inserts m k hop q = get-insert prefix_total m k hop q
 pub removes : (m : Members) (k : Prefix) → ChangesAt m (fin_map.remove m k) k None
 removes m k q = get-remove prefix_total m k q
 
--- a table is right for members that its places and groups say, whatever it said before
+-- a table is right for members that agree with its places and groups, whatever it was right for before
 pub right_for : (p q : TwoLevels) (m m' : Members) → IsRight p m → q.bits ≡ p.bits → q.limit ≡ p.limit → AreMembers m'
     → EachPlace p (λ i low. entry_at q i low ≡ longest m' (address_at p i low) 32)
     → ((i : ℕ) → i < 2 ^ p.bits → is_group (first_at q i) ≡ has_deeper p.bits m' i)
@@ -46,7 +46,7 @@ right_for p q m m' r bits limit are entries grouped used within = record {
   within = subst (λ n. used_of q ≤ n) (sym limit) within;
 }
 
--- places overwritten for one prefix say the new longest match, where the overwrite is what holds there now
+-- places overwritten for one prefix have the new longest match, if the overwrite is what holds there now
 pub overwritten_right : (p q r : TwoLevels) (m m' : Members) (x d : ℕ) (w : Option ℕ) (c : TableEntry) → IsRight p m → q.bits ≡ p.bits
     → EachPlace p (λ i low. entry_at q i low ≡ entry_at p i low)
     → IsDepth d → ChangesAt m m' (prefix_of x d) w → ((a : ℕ) → masked a d ≡ masked x d → c ≡ entry_or w d (longest m a (d - 1)))
@@ -74,7 +74,7 @@ changed_case q k true same h w v e here there = subst (λ n. IsMember n h)
     (sym (prefix_antisymmetric q k ((Equal-is (prefix_cmp q k)).0 same))) (here h e)
 changed_case q k false apart h w v e here there = there e
 
--- what a table keeps of its members stays so with a member changed
+-- what a table keeps of its members still holds after one member changed
 pub members_changed : (m m' : Members) (k : Prefix) (w : Option ℕ) → ChangesAt m m' k w → ((h : ℕ) → w ≡ Some h → IsMember k h)
     → AreMembers m → AreMembers m'
 members_changed m m' k w change here are q h e =
@@ -152,7 +152,7 @@ shallow_fits p m m' x d w right shallow change =
     let same = ap fin_set.len (firsts_of_shallow p.bits m m' (prefix_of x d) w change shallow) in
     omega (arith, right.used, right.within)
 
--- a deeper member needs too many groups exactly where its entry has none and no more may be had
+-- a deeper member needs too many groups exactly if its entry has none and no more are available
 pub deep_needs : (p : TwoLevels) (m m' : Members) (x d hop f : ℕ) → IsRight p m → ChangesAt m m' (prefix_of x d) (Some hop) → p.bits < d
     → f ≡ first_bits (masked x d) p.bits → f < 2 ^ p.bits
     → ((is_group (first_at p f) ≡ false) × (used_of p ≡ p.limit)) ↔ (p.limit < groups_of p.bits m')
@@ -213,7 +213,7 @@ deep_added p q r s m m' x d hop f right is_depth deep change are at fits grows o
     ])
     keeps overwrites
 
--- a member is removed: its places say what is left
+-- a member is removed: its places have what is left
 pub removed_places : (p q : TwoLevels) (m m' : Members) (x d : ℕ) (c : TableEntry) → IsRight p m → IsDepth d → ChangesAt m m' (prefix_of x d) None
     → c ≡ longest m' x (d - 1)
     → Overwrites p q (prefix_of x d) c → EachPlace p (λ i low. entry_at q i low ≡ longest m' (address_at p i low) 32)
@@ -230,7 +230,7 @@ pub still_needed : (m : Members) (x : ℕ) {bits f n : ℕ} {b : Bool} → bits 
     → b ≡ has_deeper n m f
 still_needed m x same at is = is ∙ (λ i. has_deeper (same i) m (sym at i))
 
--- a deep member is there, and this is its entry
+-- a deep member exists, and this is its entry
 pub record HasDeep (p : TwoLevels) (m : Members) (x d f : ℕ) : Type 0 where
   pub right : IsRight p m
   pub is_depth : IsDepth d
@@ -259,7 +259,7 @@ module _ {p : TwoLevels} {m : Members} {x d f : ℕ} (had : HasDeep p m x d f) w
   pub had_group : is_group (first_at p f) ≡ true
   had_group = had.right.grouped f had.fits ∙ needed
 
--- the member is removed, and its places say what is left
+-- the member is removed, and its places have what is left
 pub record LosesDeep (p q : TwoLevels) (m m' : Members) (x d f : ℕ) : Type 0 where
   pub had : HasDeep p m x d f
   pub change : ChangesAt m m' (prefix_of x d) None
@@ -281,7 +281,7 @@ loses_deep {p} {q} {m} {m'} {x} {d} {f} {k} {c} had is after next keeps overwrit
     }
 
 module _ {p q : TwoLevels} {m m' : Members} {x d f : ℕ} (loses : LosesDeep p q m m' x d f) where
-  -- where another member needs the group, the table is right
+  -- if another member needs the group, the table is right
   pub right_kept : has_deeper p.bits m' f ≡ true → IsRight q m'
   right_kept still =
       let right = loses.had.right in
@@ -309,7 +309,7 @@ module _ {p q : TwoLevels} {m m' : Members} {x d f : ℕ} (loses : LosesDeep p q
         ∙ longest-shallow m' (address_at p f low) p.bits 32 (ap (has_deeper p.bits m') first ∙ none) (omega arith) (omega arith)
         ∙ longest-shared m' (address_at p f low) (address_at p f 0) p.bits (first ∙ sym first_0) (omega arith)
 
-    -- else its places say the same, so that the entry can
+    -- otherwise its places have the same content, so that the entry can have it
     pub closes_alike : (low : ℕ) → low < size_of q.bits → entry_at q f low ≡ entry_at q f 0
     closes_alike low place = same_match low (subst (λ n. low < size_of n) loses.keeps.bits place) ∙ sym (same_match 0 (size_pos p.bits))
 

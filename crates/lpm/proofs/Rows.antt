@@ -34,7 +34,7 @@ no_depth_0 d = let h = d.0 in absurd (omega arith)
 pub no_depth_33 : ¬ IsDepth 33
 no_depth_33 d = let h = d.1 in absurd (omega arith)
 
--- a route of the same depth takes the place of the one before, a deeper one stays
+-- a route of the same depth replaces the one before, a deeper one is unchanged
 pub same_depth : overwritten 16 (entry_of 16 4) (entry_of 16 2) ≡ entry_of 16 4
 unfolding overwritten
 same_depth = refl
@@ -57,7 +57,7 @@ greatest_hop = refl
 pub a_group : (group_of (entry_of 33 7) ≡ Some 7) × (is_group (entry_of 32 7) ≡ false)
 a_group = (refl, refl)
 
--- the answers of a burst
+-- the results of a burst
 pub answers : (hop_in_word (word_of_hop (Some 0)) ≡ Some 0) × (hop_in_word (word_of_hop (Some 16777215)) ≡ Some 16777215)
     × (hop_in_word (word_of_hop None) ≡ None)
 answers = (refl, refl, refl)

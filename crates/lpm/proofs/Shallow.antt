@@ -1,4 +1,4 @@
--- Where no deeper member shares an address's first bits, its longest match is that of all such addresses.
+-- If no deeper member shares an address's first bits, its longest match is that of all such addresses.
 use Rattle.std.proofs.Common.{◌≡◌, ℕ, zero, suc, ◌-◌, ◌≤◌, ◌<◌, true, false, Option, Some, None, refl, sym, ap, ◌∙◌, inl, inr, ◌⊎◌, arith}
 use Rattle.std.proofs.lemmas.Bool.{cases_lt}
 use Rattle.std.proofs.lemmas.Bool.Decides.{nat_tests}
@@ -39,7 +39,7 @@ longest-shallow m a bits (suc n) none low high =
 pub longest_plain : (m : Members) (a n : ℕ) → n ≤ 32 → is_group (longest m a n) ≡ false
 longest_plain m a n h = let depth = longest-depth m a n in grind (arith, nat_tests)
 
--- without a member, what takes over where it was is the longest shorter one
+-- without a member, what replaces it where it was is the longest shorter one
 pub next_shorter : (m m' : Members) (x d : ℕ) (w : Option ℕ) → ChangesAt m m' (prefix_of x d) w → 0 < d → d ≤ 32 → (a : ℕ)
     → masked a d ≡ masked x d → longest m' x (d - 1) ≡ longest m a (d - 1)
 next_shorter m m' x d w change pos most a e =

@@ -1,4 +1,4 @@
--- What a range of a search tree says of the members between two prefixes.
+-- What a range of a search tree shows about the members between two prefixes.
 use Rattle.std.proofs.Common.{◌≡◌, ℕ, Bool, List, [], ◌∷◌, Option, Some, None, is_some, sym, ◌∙◌, subst, Bor}
 use Rattle.std.specs.Bool.{OnTrue, OnFalse}
 use Rattle.std.specs.Map.Iter.{TakesFirst, deref_pair}

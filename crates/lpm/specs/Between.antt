@@ -5,7 +5,7 @@ use Rattle.std.specs.BTreeMap.Range.{IsLeBy}
 use Rattle.lpm.specs.declared.prefix.Prefix.{Prefix}
 use Rattle.lpm.specs.Prefixes.{Members, prefix_cmp}
 
--- p is no less than one prefix and no greater than the other
+-- p is at least the first prefix and at most the second
 abbrev pub IsBetween : Prefix → Prefix → Prefix → Type 0
 IsBetween low high p = IsLeBy prefix_cmp low p × IsLeBy prefix_cmp p high
 

@@ -1,4 +1,4 @@
--- The numbers of the refusals.
+-- The error numbers.
 use Rattle.std.specs.Prelude.{ℕ}
 use Rattle.lpm.specs.declared.fault.RouteFault.{RouteFault}
 use Rattle.lpm.specs.declared.fault.RouteFault.TheVariants.{BadDepth, BadHop, NoGroup, Memory, NoRoute}

@@ -1,4 +1,5 @@
--- Which first-level entries need a group: those whose first bits a member deeper than the first level has.
+-- Which first-level entries need a group: those whose first bits are also those of a member deeper than the first
+-- level.
 use Rattle.std.specs.Prelude.{◌≡◌, ℕ, ◌<◌, Bool, List, Some, map, nat_lt}
 use Rattle.std.specs.List.{filter}
 use Rattle.std.specs.Ordering.{nat_cmp}

@@ -1,15 +1,15 @@
--- What a stretch of entries says after a member came to hold its addresses, or ceased to.
+-- The content of a range of entries after a member has been added that covers their addresses, or one was removed.
 use Rattle.std.specs.Prelude.{◌≡◌, ℕ, ◌<◌, ◌≤◌, List, slice_index_or}
 use Rattle.lpm.specs.TableEntry.{TableEntry, entry_of, overwritten}
 
--- the entries from `from` to below `to` that are no deeper have the new entry, and no other entry changes
+-- the entries from `from` up to `to`, exclusive, that are no deeper have the new entry, and no other entry changes
 pub record OverwritesFrom (old new : List TableEntry) (from to depth : ℕ) (entry : TableEntry) : Type 0 where
   pub inside : (k : ℕ) → from ≤ k → k < to
       → slice_index_or new k (entry_of 0 0) ≡ overwritten depth entry (slice_index_or old k (entry_of 0 0))
   pub below : (k : ℕ) → k < from → slice_index_or new k (entry_of 0 0) ≡ slice_index_or old k (entry_of 0 0)
   pub above : (k : ℕ) → to ≤ k → slice_index_or new k (entry_of 0 0) ≡ slice_index_or old k (entry_of 0 0)
 
--- the entries from `from` to below `to` have the entry, and no other entry changes
+-- the entries from `from` up to `to`, exclusive, have the entry, and no other entry changes
 pub record FillsFrom (old new : List TableEntry) (from to : ℕ) (entry : TableEntry) : Type 0 where
   pub inside : (k : ℕ) → from ≤ k → k < to → slice_index_or new k (entry_of 0 0) ≡ entry
   pub below : (k : ℕ) → k < from → slice_index_or new k (entry_of 0 0) ≡ slice_index_or old k (entry_of 0 0)

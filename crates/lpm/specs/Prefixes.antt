@@ -14,7 +14,7 @@ IsDepth depth = (0 < depth) × (depth ≤ 32)
 abbrev pub size_of : ℕ → ℕ
 size_of depth = 2 ^ (32 - depth)
 
--- the number that an address's first `depth` bits make
+-- the number formed by an address's first `depth` bits
 abbrev pub first_bits : ℕ → ℕ → ℕ
 first_bits address depth = address / size_of depth
 
@@ -22,7 +22,7 @@ first_bits address depth = address / size_of depth
 abbrev pub masked : ℕ → ℕ → ℕ
 masked address depth = first_bits address depth * size_of depth
 
--- the prefix of that depth that holds the address
+-- the prefix of that depth that covers the address
 abbrev pub prefix_of : ℕ → ℕ → Prefix
 prefix_of address depth = record { address = masked address depth; depth = depth }
 
@@ -39,7 +39,7 @@ prefix_code =
 abbrev pub Members : Type 0
 Members = map.FinMap prefix_cmp ℕ
 
--- what a table keeps of a member: a prefix of 1 to 32 bits, masked, and a hop of 24 bits
+-- the members that a table may have: a prefix of 1 to 32 bits, masked, and a hop of 24 bits
 pub record IsMember (prefix : Prefix) (hop : ℕ) : Type 0 where
   pub within : IsDepth prefix.depth
   pub cleared : masked prefix.address prefix.depth ≡ prefix.address

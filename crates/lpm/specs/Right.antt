@@ -1,4 +1,4 @@
--- When the levels say what the members say.
+-- When the levels agree with the members.
 use Rattle.std.specs.Prelude.{◌≡◌, ℕ, ◌<◌, ◌≤◌, ◌^◌}
 use Rattle.lpm.specs.TableEntry.{is_group}
 use Rattle.lpm.specs.Prefixes.{Members, AreMembers}
@@ -10,9 +10,9 @@ pub record IsRight (p : TwoLevels) (m : Members) : Type 0 where
   pub some : 0 < p.bits
   pub most : p.bits ≤ 24
   pub members : AreMembers m
-  -- each place says the longest match of its address, with its depth
+  -- the entry at each place is the longest match of its address, with its depth
   pub right : EachPlace p (λ i low. entry_at p i low ≡ longest m (address_at p i low) 32)
-  -- an entry has a group exactly where a deeper member has its first bits
+  -- an entry has a group exactly if a deeper member has its first bits
   pub grouped : (i : ℕ) → i < 2 ^ p.bits → is_group (first_at p i) ≡ has_deeper p.bits m i
   pub used : used_of p ≡ groups_of p.bits m
   pub within : used_of p ≤ p.limit

@@ -6,20 +6,20 @@ use Rattle.lpm.specs.Prefixes.{IsDepth, Members, prefix_code, prefix_of, size_of
 use Rattle.lpm.specs.Groups.{groups_of}
 
 pub record Routes : Type 0 where
-  -- how many first bits of an address number an entry of the first level
+  -- how many of an address's first bits select its first-level entry
   pub bits : ℕ
-  -- how many groups there may be
+  -- the maximum number of groups
   pub limit : ℕ
   -- the routes: from prefixes to next hops
   pub members : Members
-  -- for each entry of the first level, the number of its group, if it has one
+  -- for each first-level entry, the number of its group, if it has one
   pub groups : List (Option ℕ)
 
--- the number of the group of an entry of the first level
+-- the number of the group of a first-level entry
 abbrev pub group_at : Routes → ℕ → Option ℕ
 group_at t first = slice_index_or t.groups first None
 
--- a group that stands for an entry of the first level
+-- a group that is the group of a first-level entry
 abbrev pub IsInUse : Routes → ℕ → Type 0
 IsInUse t group = (first : ℕ) × (first < 2 ^ t.bits) × (group_at t first ≡ Some group)
 
@@ -27,7 +27,7 @@ IsInUse t group = (first : ℕ) × (first < 2 ^ t.bits) × (group_at t first ≡
 abbrev pub address_of : Routes → ℕ → ℕ → ℕ
 address_of t first low = first * size_of t.bits + low
 
--- the members with one more, or with a new hop for one
+-- the members with one more, or with a new hop for an existing one
 abbrev pub with_route : Routes → ℕ → ℕ → ℕ → Members
 with_route t address depth hop = map.insert t.members (prefix_of address depth) hop
 
@@ -35,17 +35,17 @@ with_route t address depth hop = map.insert t.members (prefix_of address depth) 
 abbrev pub without_route : Routes → ℕ → ℕ → Members
 without_route t address depth = map.remove t.members (prefix_of address depth)
 
--- that route would need more groups than there may be
+-- that route would need more groups than the maximum
 abbrev pub NeedsTooMany : Routes → ℕ → ℕ → ℕ → Type 0
 NeedsTooMany t address depth hop = t.limit < groups_of t.bits (with_route t address depth hop)
 
--- these are the members afterwards, of a table of the same form
+-- these are the members afterwards, in a table of the same form
 pub record HasMembers (old new : Routes) (m : Members) : Type 0 where
   pub members : new.members ≡ m
   pub bits : new.bits ≡ old.bits
   pub limit : new.limit ≡ old.limit
 
--- no route, a first level by this many bits, and this many groups
+-- no routes, a first level with this many bits, and this maximum of groups
 pub record IsNew (t : Routes) (bits limit : ℕ) : Type 0 where
   pub empty : t.members ≡ map.empty
   pub level : t.bits ≡ bits
@@ -59,7 +59,7 @@ routes_code =
     (λ c. record { bits = c.0; limit = c.1.0; members = c.1.1.0; groups = c.1.1.1 })
     (λ _. refl)
 
--- a route that a table takes, where memory can be had
+-- a route that a table accepts, if there is memory
 pub record Accepts (t : Routes) (address depth hop : ℕ) : Type 0 where
   pub within : IsDepth depth
   pub small : hop < 2 ^ 24
@@ -69,6 +69,6 @@ pub record Accepts (t : Routes) (address depth hop : ℕ) : Type 0 where
 abbrev pub HasRoute : Routes → ℕ → ℕ → Type 0
 HasRoute t address depth = IsDepth depth × IsSome (map.get t.members (prefix_of address depth))
 
--- the depth is one of a prefix, and the table has no such route
+-- the depth is valid, and the table has no such route
 abbrev pub LacksRoute : Routes → ℕ → ℕ → Type 0
 LacksRoute t address depth = IsDepth depth × (map.get t.members (prefix_of address depth) ≡ None)

@@ -1,4 +1,4 @@
--- What an entry of the first level shows.
+-- What a first-level entry shows.
 use Rattle.std.specs.Prelude.{ℕ, Option, Some, None}
 use Rattle.lpm.specs.declared.entry.Entry.{Entry}
 use Rattle.lpm.specs.declared.entry.Entry.TheVariants as shown

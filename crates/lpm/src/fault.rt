@@ -5,7 +5,7 @@ ghost use Rattle.lpm.specs.Fault.{number_of};
 
 use thiserror::Error;
 
-/// The refusals of `Table::add` and `Table::remove`, with their numbers.
+/// The errors of `Table::add` and `Table::remove`, with their numbers.
 #[derive(Clone, Copy, Debug, PartialEq, Eq, Error)]
 pub enum RouteFault {
     /// The depth is not from 1 to 32.

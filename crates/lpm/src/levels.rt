@@ -1,5 +1,5 @@
 //! The two levels of a table: entries for the first bits of an address (rte_lpm's tbl24), and groups of entries for
-//! what lies deeper (its tbl8). A group's memory is kept when no entry names it any more.
+//! deeper routes (its tbl8). A group's memory is kept when no entry names it any more.
 
 ghost use Rattle.std.specs.Prelude.{◌≡◌, ◌+◌, ◌≤◌, ◌^◌, ◌↔◌, ◌⊎◌, [], replicate, IfOk, IsTrue};
 ghost use Rattle.lpm.specs.TableEntry.{entry_of};
@@ -13,7 +13,7 @@ mod grouping;
 mod overwriting;
 mod reading;
 
-/// The entries of the first level, the groups one after another, and the groups that are free.
+/// The first-level entries, the groups one after another, and the list of free groups.
 #[derive(Drop)]
 pub struct Levels {
     bits: u8,
@@ -43,7 +43,7 @@ impl Model for Levels {
 }
 
 impl Levels {
-    /// Entries that no member holds, and no group. The memory is that of the first level.
+    /// Entries without a route, and no groups. Takes the memory of the first level.
     pub fn new(alloc: Global, bits: u8, limit: u32) -> Result<Levels, AllocError>
         requires { (bits ≡ 16) ⊎ (bits ≡ 24) }
         ensures { IfOk result (λ l. l
@@ -65,7 +65,7 @@ impl Levels {
         })
     }
 
-    /// How many first bits of an address number its entry.
+    /// How many of an address's first bits select its entry.
     pub fn bits(&self) -> u8
         ensures value { result ≡ self.now.bits }
         ensures form { (result ≡ 16) ⊎ (result ≡ 24) }
@@ -80,7 +80,7 @@ impl Levels {
         self.groups.len() >> (32 - self.bits)
     }
 
-    /// Whether each group that there may be stands for an entry.
+    /// Whether the maximum number of groups is in use.
     pub fn is_full(&self) -> bool
         ensures full { IsTrue result ↔ (used_of self.now ≡ self.now.limit) }
         ensures within { used_of self.now ≤ self.now.limit }

@@ -1,9 +1,9 @@
-//! Longest-prefix match over IPv4 addresses, with the behaviour of DPDK's rte_lpm: a first level of entries and groups
+//! Longest-prefix match over IPv4 addresses, with the behaviour of DPDK's rte_lpm: a first level of entries, and groups
 //! below it, so that a lookup is one or two loads. Contracts see a table as the finite map of its members, from
 //! prefixes to next hops.
 //!
-//! A caller, proved in memory_tests (`sole_route`): the one route of a table decides over the address that it was
-//! added with, so `found` is `Some(hop)`.
+//! A caller, proved in memory_tests (`sole_route`): the only route of a table is the longest match for the address it
+//! was added with, so `found` is `Some(hop)`.
 //!
 //! ```text
 //! let mut table = Table::new(alloc, 16, 1)?;

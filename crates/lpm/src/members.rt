@@ -1,4 +1,4 @@
-//! The members of a table in a search tree, so that one is found, added or removed without a look at the others.
+//! The members of a table in a search tree, so a member is found, added or removed without visiting all others.
 
 ghost use Rattle.std.specs.Prelude.{◌≡◌, ℕ, ◌≤◌, ◌<◌, ◌-◌, OnOk, OnErr, IfErr, IsSome};
 ghost use Rattle.std.specs.FinMap as map;
@@ -46,14 +46,14 @@ impl Members {
         }
     }
 
-    /// The hop of the member of just this prefix.
+    /// The hop of the member with exactly this prefix.
     pub fn get(&self, prefix: Prefix) -> Option<u32>
         ensures { result ≡ map.get self.now prefix }
     {
         self.hops.get(&prefix).copied()
     }
 
-    /// Adds a member, or gives it another hop. The only refusal is 4 `Memory`.
+    /// Adds a member, or changes its hop. The only error is 4 `Memory`.
     pub fn insert(&mut self, prefix: Prefix, hop: u32) -> Result<(), RouteFault>
         ensures ok { OnOk result (self.new ≡ map.insert self.old prefix hop) }
         ensures err { OnErr result (self.new ≡ self.old) }
@@ -65,7 +65,7 @@ impl Members {
         Ok(())
     }
 
-    /// Removes a member. The only refusal is 5 `NoRoute`.
+    /// Removes a member. The only error is 5 `NoRoute`.
     pub fn remove(&mut self, prefix: Prefix) -> Result<(), RouteFault>
         ensures ok { OnOk result (self.new ≡ map.remove self.old prefix) }
         ensures was { OnOk result (IsSome (map.get self.old prefix)) }
@@ -79,7 +79,7 @@ impl Members {
         Ok(())
     }
 
-    /// The longest member of at most this depth that holds the address, as an entry says it.
+    /// The longest member of at most this depth that covers the address, as an entry.
     pub fn longest(&self, address: u32, depth: u8) -> PackedEntry
         requires depth { depth ≤ 32 }
         requires members { AreMembers self.now }
@@ -95,7 +95,7 @@ impl Members {
         PackedEntry::none()
     }
 
-    /// Whether a member lies between two prefixes, both included.
+    /// Whether a member is between two prefixes, inclusive.
     fn has_between(&self, low: Prefix, high: Prefix) -> bool
         requires { IsLeBy prefix_cmp low high }
         ensures found { OnTrue result (SomeBetween self.now low high) }

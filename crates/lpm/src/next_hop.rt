@@ -1,15 +1,15 @@
-//! One answer of a burst, in 4 bytes.
+//! One result of a burst lookup, in 4 bytes.
 
 ghost use Rattle.std.specs.Prelude.{◌≡◌, ◌<◌, ◌^◌, None, IfSome};
 ghost use Rattle.lpm.specs.NextHop.{hop_in_word, word_of_hop};
 
 use std::marker::Model;
 
-/// What is set above a hop, and is not set where there is none.
+/// The flag above the hop: set if there is a hop.
 pub const FLAG: u32 = 1 << 24;
 
-/// What a lookup of an address gave: a next hop, or none. Contracts see the `Option` that `hop` gives. Two of them are
-/// equal where their hops are.
+/// The result of a lookup: a next hop, or none. Contracts see the `Option` that `hop` returns. Two of them are equal if
+/// their hops are.
 #[derive(Clone, Copy, Debug, PartialEq, Eq)]
 pub struct NextHop {
     word: u32,
@@ -39,7 +39,7 @@ impl NextHop {
         NextHop { word: 0 }
     }
 
-    /// The answer that has this word.
+    /// The result that has this word.
     pub(crate) fn of_word(word: u32) -> NextHop
         requires { word ≡ word_of_hop (hop_in_word word) }
         ensures { result ≡ hop_in_word word }

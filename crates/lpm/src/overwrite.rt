@@ -1,11 +1,11 @@
-//! Writes of a stretch of entries.
+//! Writes to a range of entries.
 
 ghost use Rattle.std.specs.Prelude.{◌≤◌, length};
 ghost use Rattle.lpm.specs.Overwrite.{FillsFrom, OverwritesFrom};
 
 use crate::packed_entry::PackedEntry;
 
-/// Writes the entry into each entry from `from` to below `to` that is of this depth or less.
+/// Writes `entry` to each entry from `from` up to `to`, exclusive, whose depth is at most `depth`.
 pub fn overwrite(entries: &mut [PackedEntry], from: usize, to: usize, depth: u8, entry: PackedEntry)
     requires ordered { from ≤ to }
     requires within { to ≤ length entries.old }
@@ -18,7 +18,7 @@ pub fn overwrite(entries: &mut [PackedEntry], from: usize, to: usize, depth: u8,
     }
 }
 
-/// Writes the entry into each entry from `from` to below `to`.
+/// Writes the entry to each entry from `from` up to `to`, exclusive.
 pub fn fill(entries: &mut [PackedEntry], from: usize, to: usize, entry: PackedEntry)
     requires ordered { from ≤ to }
     requires within { to ≤ length entries.old }

@@ -6,11 +6,11 @@ ghost use Rattle.lpm.specs.TableEntry.{entry_of, hop_of, is_group};
 use crate::next_hop::{FLAG, NextHop};
 use std::marker::Model;
 
-/// The depth that marks a group: one more than the greatest.
+/// The depth that marks a group: one more than the maximum.
 const GROUP: u32 = 33;
 
-/// A hop or a group's number in the low 24 bits; above them the flag, but where there is no member; and above that the
-/// depth of the member that the hop is of. So the answer of a lookup is an entry without its depth.
+/// A hop or a group's number in the low 24 bits; above them the flag, set unless there is no member; and above that the
+/// depth of the member that the hop belongs to. So the result of a lookup is an entry without its depth.
 #[derive(Clone, Copy)]
 pub struct PackedEntry {
     word: u32,
@@ -25,7 +25,7 @@ impl Model for PackedEntry {
 
     ghost view = { λ s. entry_in s.word };
 
-    // no member: the whole word is 0, so that a lookup need not take it apart to see that
+    // no member: the whole word is 0, so a lookup can test for it without unpacking the word
     ghost invariant = { λ s. s.word ≡ word_of (entry_in s.word) };
 
     ghost inverse = { λ entry. record { word = word_of entry } };
@@ -71,7 +71,7 @@ impl PackedEntry {
         self.word >= GROUP << 25
     }
 
-    /// The depth of the member that the hop is of: 0 where there is none, 33 at a group.
+    /// The depth of the member that the hop belongs to: 0 if there is none, 33 for a group.
     pub fn depth(self) -> u8
         ensures { result ≡ self.depth }
     {
@@ -86,7 +86,7 @@ impl PackedEntry {
         self.word & 0xff_ffff
     }
 
-    /// The hop of the longest match, where the entry names no group.
+    /// The hop of the longest match, if the entry doesn't name a group.
     pub fn hop(self) -> Option<u32>
         ensures value { result ≡ hop_of self }
         ensures small { IfSome result (λ hop. hop < 2 ^ 24) }
@@ -97,7 +97,7 @@ impl PackedEntry {
             Some(self.number())
         }
     }
-    /// The same as an answer of a burst: the entry without its depth.
+    /// The same as a result of a burst lookup: the entry without its depth.
     pub fn next_hop(self) -> NextHop
         ensures { result ≡ hop_of self }
     {

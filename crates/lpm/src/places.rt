@@ -1,4 +1,4 @@
-//! Where an address lies in the two levels: its first bits number a first-level entry, the others a place in that
+//! The place of an address in the two levels: its first bits select a first-level entry, the others a place in that
 //! entry's group.
 
 ghost use Rattle.std.specs.Prelude.{◌≡◌, ◌+◌, ◌*◌, ◌%◌, ◌≤◌, ◌<◌, ◌^◌};
@@ -12,7 +12,7 @@ pub fn size(bits: u8) -> usize
     1usize << (32 - bits)
 }
 
-/// The number that an address's first `bits` bits make.
+/// The number formed by an address's first `bits` bits.
 pub fn first_of(address: u32, bits: u8) -> usize
     requires nonzero { 0 < bits }
     requires most { bits ≤ 32 }
@@ -22,7 +22,7 @@ pub fn first_of(address: u32, bits: u8) -> usize
     (address >> (32 - bits)) as usize
 }
 
-/// What an address's other bits make.
+/// The number formed by an address's other bits.
 pub fn low_of(address: u32, bits: u8) -> usize
     requires nonzero { 0 < bits }
     requires most { bits ≤ 32 }

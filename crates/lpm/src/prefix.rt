@@ -1,8 +1,8 @@
-//! A prefix of IPv4 addresses: the key by which a table keeps its members.
+//! A prefix of IPv4 addresses: the key of a table's members.
 
 ghost use Rattle.std.specs.Prelude.{◌≡◌, ◌<◌};
 
-/// An address whose bits after the first `depth` are cleared.
+/// An address with the bits after the first `depth` cleared.
 #[derive(Clone, Copy, Debug, PartialEq, Eq, PartialOrd, Ord)]
 pub struct Prefix {
     pub address: u32,
@@ -12,7 +12,7 @@ pub struct Prefix {
 impl Prefix {
     ghost use Rattle.lpm.specs.Prefixes.{IsDepth, prefix_of};
 
-    /// The prefix of `depth` that holds `address`.
+    /// The prefix of length `depth` that covers `address`.
     pub fn of(address: u32, depth: u8) -> Prefix
         requires { IsDepth depth }
         ensures { result ≡ prefix_of address depth }

@@ -19,11 +19,11 @@ use std::marker::Model;
 mod adding;
 mod removing;
 
-/// The greatest depth of a route.
+/// The maximum depth of a route.
 const MAX_DEPTH: u8 = 32;
 
-/// Routes to IPv4 prefixes, each with a next hop below 2^24. Of the routes that hold an address the longest decides
-/// (RFC 4632, section 5.1); the two levels are those of the Longest Prefix Match Library chapter of DPDK's Programmer's
+/// Routes to IPv4 prefixes, each with a next hop below 2^24. The longest route that covers an address is its match (RFC
+/// 4632, section 5.1); the two levels are those of the Longest Prefix Match Library chapter of DPDK's Programmer's
 /// Guide.
 #[derive(Drop)]
 pub struct Table {
@@ -53,8 +53,7 @@ impl Model for Table {
 
 impl Table {
     /// An empty table with a first level of 2^`bits` entries, of 4 bytes each, which are made here, and at most
-    /// `groups` groups, each of 2^(32 - `bits`) entries, which are made as they are needed. Only for want of memory
-    /// there is an `Err`.
+    /// `groups` groups, each of 2^(32 - `bits`) entries, which are made as needed. Returns `Err` only if out of memory.
     pub fn new(alloc: Global, bits: u8, groups: u32) -> Result<Table, AllocError>
         requires { (bits ≡ 16) ⊎ (bits ≡ 24) }
         ensures { IfOk result (λ t. IsNew t bits groups) }
@@ -65,7 +64,7 @@ impl Table {
         })
     }
 
-    /// How many first bits of an address number an entry of the first level: 16 or 24, as the table was made with.
+    /// How many of an address's first bits select its first-level entry: 16 or 24, as the table was made.
     pub fn bits(&self) -> u8
         ensures value { result ≡ self.now.bits }
         ensures form { (result ≡ 16) ⊎ (result ≡ 24) }
@@ -73,7 +72,7 @@ impl Table {
         self.levels.bits()
     }
 
-    /// The next hop of the longest route that holds the address. Takes no memory; one read of an entry, or two.
+    /// The next hop of the longest route that covers the address. Takes no memory; reads one or two entries.
     #[inline]
     pub fn lookup(&self, addr: u32) -> Option<u32>
         ensures longest { IsLongestMatch self.now.members addr result }
@@ -83,8 +82,8 @@ impl Table {
         self.levels.entry_for(addr).hop()
     }
 
-    /// The next hops for a burst of addresses: at each place of `hops`, which is as long, what `lookup` gives for the
-    /// address at that place, in 4 bytes. Takes no memory.
+    /// The next hops for a burst of addresses: at each index of `hops`, which has the same length, what `lookup`
+    /// returns for the address at that index, in 4 bytes. Takes no memory.
     pub fn lookup_bulk(&self, addresses: &[u32], hops: &mut [NextHop])
         requires { length addresses.now ≡ length hops.old }
         ensures longest { (k : ℕ) → k < length addresses.now
@@ -96,9 +95,9 @@ impl Table {
         self.levels.hops_for(addresses, hops);
     }
 
-    /// What the first level says of the addresses whose first bits are `first`: the group that they have where a route
-    /// deeper than the first level has these first bits, else the one answer that `lookup` gives for each of them.
-    /// Takes no memory.
+    /// The first-level entry of the addresses whose first bits are `first`: their group if a route deeper than the
+    /// first level has these first bits, otherwise the one result that `lookup` returns for each of them. Takes no
+    /// memory.
     pub fn entry(&self, first: u32) -> Entry
         requires { first < 2 ^ self.now.bits }
         ensures group { group_in result ≡ group_at self.now first }
@@ -119,8 +118,8 @@ impl Table {
         }
     }
 
-    /// What a group that is in use says of its place `low`: what `lookup` gives for the address with the first bits
-    /// that the group stands for and the other bits `low`. Takes no memory.
+    /// Place `low` of a group in use: what `lookup` returns for the address whose first bits are those of the group's
+    /// entry, and whose other bits are `low`. Takes no memory.
     pub fn group_entry(&self, group: u32, low: u32) -> Option<u32>
         requires used { IsInUse self.now group }
         requires place { low < size_of self.now.bits }

@@ -23,7 +23,7 @@ names key entry = one_if (entry.packet == key)
 numbers_at : Slab (List Buffer) → ℕ → List ℕ
 numbers_at packets key = numbers_of (packet_at packets key)
 
--- a number that no share mentions stands in no stored packet
+-- a number that no share mentions is in no stored packet
 unmentioned_apart : (packets : Slab (List Buffer)) (entries : List Entry) → IsTable packets entries → (number key : ℕ)
     → mentions_of number (live_of packets entries) ≡ 0 → times number (numbers_of (packet_at packets key)) ≡ 0
 unmentioned_apart packets entries is number key none = by_packet (get packets key) refl

@@ -29,7 +29,7 @@ bytes_few chain is = let few = is.few in omega (arith, length-map chain fresh, b
 pub space_few : (chain : List Buffer) → IsChain (fresh_of chain) → space_of chain ≤ 8388608
 space_few chain is = let few = is.few in omega (arith, length-map chain fresh, space_small chain is.small)
 
--- what keeps the segments keeps the numbers, and that it is a chain
+-- what keeps the segments keeps the numbers, and the fact that it is a chain
 pub numbers_kept : (old new : List Buffer) → HasSameSegments new old → numbers_of new ≡ numbers_of old
 numbers_kept old new e = of_fresh new ∙ ap numbers_of e ∙ sym (of_fresh old)
   where
@@ -66,7 +66,7 @@ chain_join one other is also apart few =
       small = subst (All IsSmall) (sym both) (All-append IsSmall (fresh_of one) (fresh_of other) is.small also.small);
     }
 
--- the parts of a chain are chains, where they have a segment
+-- the parts of a chain are chains, if they have a segment
 pub chain_front : (one other : List Buffer) → IsChain (fresh_of (one ++ other)) → 0 < length one → IsChain (fresh_of one)
 chain_front one other is some =
     let both : fresh_of (one ++ other) ≡ fresh_of one ++ fresh_of other = map-append fresh one other in
@@ -130,7 +130,7 @@ bytes_rewritten zero w (b ∷ chain) =
 bytes_rewritten (suc i) w (b ∷ chain) =
     omega (arith, length-append b.bytes (bytes_of (at_segment i (rewritten w) chain)), length-append b.bytes (bytes_of chain), bytes_rewritten i w chain)
 
--- the bytes that are lent of a segment, in the packet
+-- the borrowed bytes of a segment, in the packet
 pub part_is : (i : ℕ) (chain : List Buffer) → part_of chain i ≡ take (length (part_of chain i)) (drop (place_of_part chain i) (bytes_of chain))
 part_is i [] = refl
 part_is zero (b ∷ chain) = sym (take_at b.bytes (bytes_of chain) (length b.bytes) refl)
@@ -144,7 +144,7 @@ part_within zero (b ∷ chain) there = omega (arith, length-append b.bytes (byte
 part_within (suc i) (b ∷ chain) there =
     omega (arith, length-append b.bytes (bytes_of (take i chain)), length-append b.bytes (bytes_of chain), part_within i chain (omega arith))
 
--- and once they were written over
+-- and after they were written over
 pub packet_rewritten : (i : ℕ) (w : List ℕ) (chain : List Buffer) → i < length chain → length w ≡ length (part_of chain i)
     → bytes_of (at_segment i (rewritten w) chain) ≡ overwritten (place_of_part chain i) w (bytes_of chain)
 packet_rewritten i w [] there e = absurd (omega arith)

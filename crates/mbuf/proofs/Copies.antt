@@ -27,7 +27,7 @@ module _ {X : Type 0} where
   drop_split (x ∷ xs) ys zero = let e : 0 ≡ 0 - suc (length xs) = omega arith in ap (λ k. x ∷ (xs ++ drop k ys)) e
   drop_split (x ∷ xs) ys (suc m) = drop_split xs ys m ∙ (let e : m - length xs ≡ suc m - suc (length xs) = omega arith in ap (λ k. drop m xs ++ drop k ys) e)
 
-  -- m bytes from place `at` on: those in the first segment, and the others behind it
+  -- m bytes from index `at` on: those in the first segment, and the others after it
   pub copied : (xs ys : List X) (at m start n : ℕ) → start ≡ min at (length xs) → n ≡ min m (length xs - start)
       → take n (drop start xs) ++ take (m - n) (drop (at - start) ys) ≡ take m (drop at (xs ++ ys))
   copied xs ys at m start n e f =
@@ -44,7 +44,7 @@ module _ {X : Type 0} where
       → front ≡ take n (drop start xs) → rest ≡ take (m - n) (drop (at - start) ys) → front ++ rest ≡ take m (drop at (xs ++ ys))
   copied_as xs ys front rest at m start n e f is_front is_rest = (λ k. is_front k ++ is_rest k) ∙ copied xs ys at m start n e f
 
-  -- all but the last n of two lists, where the second has that many
+  -- all but the last n of two lists, if the second has that many
   pub take_past : (xs ys : List X) (n : ℕ) → n ≤ length ys → take (length (xs ++ ys) - n) (xs ++ ys) ≡ xs ++ take (length ys - n) ys
   take_past xs ys n fits =
       (let more : length (xs ++ ys) - n ≡ length xs + (length ys - n) = omega (arith, length-append xs ys) in ap (λ k. take k (xs ++ ys)) more)
@@ -59,7 +59,7 @@ module _ {X : Type 0} where
   front_written (x ∷ xs) ys (w ∷ ws) zero e = absurd (omega arith)
   front_written (x ∷ xs) ys (w ∷ ws) (suc n) e = ap (λ (l : List X). w ∷ l) (front_written xs ys ws n (omega arith))
 
-  -- what is written over two lists: the first n over those of the first, the others behind
+  -- what is written over two lists: the first n over those of the first, the others after them
   both_written : (xs ys ws : List X) (at start n more : ℕ) → start ≡ min at (length xs) → n ≡ min (length ws) (length xs - start) → more ≡ at - start
       → overwritten start (take n ws) xs ++ overwritten more (drop n ws) ys ≡ overwritten at ws (xs ++ ys)
   both_written [] ys ws at zero zero more e f g = let same : more ≡ at = omega arith in ap (λ k. overwritten k ws ys) same
@@ -80,7 +80,7 @@ module _ {X : Type 0} where
       (λ k. is_first k ++ is_others k) ∙ (λ k. overwritten start (is_front k) xs ++ overwritten (at - start) (is_rest k) ys)
       ∙ both_written xs ys ws at start n (at - start) e f refl
 
-  -- what is written behind the first of two lists
+  -- what is written after the first of two lists
   pub written_past : (xs ys ws : List X) (at more : ℕ) → at ≡ length xs + more → overwritten at ws (xs ++ ys) ≡ xs ++ overwritten more ws ys
   written_past [] ys ws at more e = let same : at ≡ more = omega arith in ap (λ k. overwritten k ws ys) same
   written_past (x ∷ xs) ys ws zero more e = absurd (omega arith)
@@ -155,7 +155,7 @@ of_shape (b ∷ chain) =
       of_shape chain,
     )
 
--- chains of one shape have packets of one length
+-- chains with the same shape have packets of the same length
 pub length_of_shape : (one other : List Buffer) → shape_of one ≡ shape_of other → length (bytes_of one) ≡ length (bytes_of other)
 length_of_shape one other e = of_shape one ∙ ap (λ (l : List Buffer). length (bytes_of l)) e ∙ sym (of_shape other)
 

@@ -1,5 +1,5 @@
--- Worked rows of packets and shares, computed by the definitions. What is expected is what DPDK's guide says of headroom, tailroom and
--- reference counts, and the order of the refusals
+-- Worked rows of packets and shares, computed by the definitions. What is expected is what DPDK's guide states about
+-- headroom, tailroom and reference counts, and the order of the errors
 use Rattle.std.proofs.Common.{ℕ, ◌≡◌, List, [], ◌∷◌, refl}
 use Rattle.std.specs.Prelude.{Some, None}
 use Rattle.mbuf.specs.Buffer.{Buffer, made, appended, prepended, cut_front, cut_back}
@@ -12,7 +12,7 @@ abbrev buffer : ℕ → ℕ → ℕ → List ℕ → ℕ → Buffer
 buffer number reserve headroom bytes tailroom =
     record { number = number; reserve = reserve; headroom = headroom; bytes = bytes; tailroom = tailroom }
 
--- segments 4 and 7, of two bytes of headroom and room for two, with bytes 1, 2 and 3
+-- segments 4 and 7, with two bytes of headroom and room for two, with bytes 1, 2 and 3
 abbrev packet : List Buffer
 packet = buffer 4 2 2 (1 ∷ 2 ∷ []) 0 ∷ buffer 7 2 2 (3 ∷ []) 1 ∷ []
 
@@ -38,14 +38,14 @@ behind_and_before = refl
 pub cut_at_both_ends : cut_back 1 (cut_front 1 (buffer 5 2 1 (8 ∷ 9 ∷ 7 ∷ []) 1)) ≡ buffer 5 2 2 (9 ∷ []) 2
 cut_at_both_ends = refl
 
--- 2^32 - 1 ids are given, and then none
+-- 2^32 - 1 ids are given, and then no more
 pub last_id : share_refusal (deck 4294967294 []) ≡ None
 last_id = refl
 
 pub no_id : share_refusal (deck 4294967295 []) ≡ Some NoId
 no_id = refl
 
--- a share that isn't there is told first
+-- a share that doesn't exist is reported first
 pub again_unknown : again_refusal 1 (deck 4294967295 (shared 0 packet ∷ [])) ≡ Some NoSuchShare
 again_unknown = refl
 
@@ -55,7 +55,7 @@ again_no_id = refl
 pub cut_unknown : cut_refusal 1 0 4 (deck 1 (shared 0 packet ∷ [])) ≡ Some NoSuchShare
 cut_unknown = refl
 
--- the last byte may be among those that are left, and none behind it
+-- the last byte may be among those that are left, and none after it
 pub cut_to_the_end : cut_refusal 0 1 2 (deck 1 (shared 0 packet ∷ [])) ≡ None
 cut_to_the_end = refl
 
@@ -75,14 +75,14 @@ copy_that_fits = refl
 pub copy_that_is_too_long : copy_refusal 0 (made 9 2 9 ∷ []) (deck 1 (shared 0 packet ∷ [])) ≡ Some NoTailroom
 copy_that_is_too_long = refl
 
--- a share of what is left of another one shows that, and mentions all segments; a part is taken of what is shown
+-- a share of what is left of another one shows that, and mentions all segments; a part is taken from what is shown
 pub again_of_a_part : again 1 (narrowed 1 2 (shared 0 packet)) ≡ record { id = 1; mentions = fresh_of packet; bytes = 2 ∷ 3 ∷ [] }
 again_of_a_part = refl
 
 pub part_of_a_part : (narrowed 1 1 (narrowed 1 2 (shared 0 packet))).bytes ≡ 3 ∷ []
 part_of_a_part = refl
 
--- each live share counts, and a segment comes back fresh, with its last mention
+-- each live share counts, and a segment is returned fresh, with its last mention
 pub mentioned_twice : mentions_of 7 (shared 0 packet ∷ again 1 (shared 0 packet) ∷ []) ≡ 2
 mentioned_twice = refl
 

@@ -57,7 +57,7 @@ module _ {X : Type 0} where
   pub map_remove : {Y : Type 0} (f : X → Y) (xs : List X) (i : ℕ) → map f (remove xs i) ≡ remove (map f xs) i
   map_remove f xs i = map-append f (take i xs) (drop (suc i) xs) ∙ (λ k. sym (take-map f i xs) k ++ sym (drop-map f (suc i) xs) k)
 
--- ---- what a entry keeps depends on its own packet alone
+-- ---- what an entry stores depends only on its own packet
 module _ (packets later : Slab (List Buffer)) where
   pub same_share : (entry : Entry) → get later entry.packet ≡ get packets entry.packet → kept_by later entry ≡ kept_by packets entry
   same_share entry e = λ k. record { id = entry.id; mentions = fresh_of (rest_of (e k)); bytes = take entry.len (drop entry.from (bytes_of (rest_of (e k)))) }
@@ -87,11 +87,11 @@ module _ (packets later : Slab (List Buffer)) where
 abbrev pub naming : ℕ → List Entry → ℕ
 naming key entries = count_by (λ entry. entry.packet == key) entries
 
--- whether a entry names the packet
+-- whether an entry names the packet
 abbrev pub one_if : Bool → ℕ
 one_if b = cond b 1 0
 
--- a packet that a entry names is mentioned by its share
+-- a packet that an entry names is mentioned by its share
 pub mentioned : (packets : Slab (List Buffer)) (entries : List Entry) (i number : ℕ) (d : Entry) → i < length entries
     → times number (numbers_of (packet_at packets (get_or entries i d).packet)) ≤ mentions_of number (live_of packets entries)
 mentioned packets entries i number d there =
@@ -157,7 +157,7 @@ module _ (packets : Slab (List Buffer)) (entries : List Entry) (place : ℕ) (en
         apart = is.apart;
       }
 
--- a entry that was read at a place of the shares
+-- an entry that was read at an index of the shares
 pub record IsRead (packets : Slab (List Buffer)) (entries : List Entry) (live : List Share) (place : ℕ) (entry : Entry) : Type 0 where
   pub there : place < length entries
   pub share : share_at live place ≡ kept_by packets entry

@@ -75,7 +75,7 @@ module _ (id : ℕ) where
     | inr else ↦ (else.0, omega (arith, sum_by-cons (is_id id) share.id (ids live)))
   ]
 
-  -- the first of two lists in which the id stands at most once
+  -- the first of two lists in which the id occurs at most once
   only_first : (share : Share) (live : List Share) → times id (ids (share ∷ live)) ≤ 1 → share.id ≡ id → (has id share ≡ true) × (times id (ids live) ≡ 0)
   only_first share live once e = elim (eqb_tells share.id id) [
     | inl here ↦ (here.0, omega (arith, sum_by-cons (is_id id) share.id (ids live), ap one_if here.0))
@@ -131,7 +131,7 @@ module _ (id : ℕ) where
       let found = find_at (has id) live ∙ slice_get-get_or live (position_or_len (has id) live) no_share (omega (arith, first)) in
       record { there = there; is = subst (λ k. share_of id live ≡ Some (share_at live k)) first found; has_id = e }
 
-  -- what is found among entries, of their shares
+  -- what is found among entries, for their shares
   module _ (packets : Slab (List Buffer)) (entries : List Entry) (o : Option ℕ) where
     pub absent : IfNone o (All (λ (entry : Entry). entry.id ≢ id) entries) → IfNone o (share_of id (live_of packets entries) ≡ None)
     absent = by_case o

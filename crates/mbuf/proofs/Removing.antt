@@ -53,7 +53,7 @@ module _ (packets : Slab (List Buffer)) (entries : List Entry) (place : ℕ) (en
   kept_left : All (IsKept packets) left
   kept_left = All-remove (IsKept packets) entries place there is.kept
 
-  -- where another entry names the packet
+  -- if another entry names the packet
   pub keeps_table : list_any (λ (s : Entry). s.packet == entry.packet) left ≡ true → IsTable packets left
   keeps_table some = record {
     kept = kept_left;
@@ -76,7 +76,7 @@ module _ (packets : Slab (List Buffer)) (entries : List Entry) (place : ℕ) (en
       omega (arith, mentioned packets left at.0 number at.1 at.2, ap (λ j. times number (numbers_of (packet_at packets j))) at.3) in
       elim (eqb_tells (mentions_of number (live_of packets left)) 0) [ inl none ↦ absurd (omega (arith, none.1)) | inr else ↦ else.0 ])
 
-  -- where none does, and the packet is taken out
+  -- if none does, and the packet is taken out
   module _ (later : Slab (List Buffer)) (updates : Updates packets later entry.packet None)
       (none : list_any (λ (s : Entry). s.packet == entry.packet) left ≡ false) where
     left_differ : All (λ (s : Entry). s.packet ≢ entry.packet) left

@@ -1,4 +1,4 @@
--- The way over a row of links, and what stands behind it once a link was lent.
+-- The walk over a row of links, and what comes after it once a link was borrowed.
 use Rattle.std.proofs.Common.{◌≡◌, ◌+◌, ◌-◌, ◌<◌, ◌≤◌, ℕ, zero, suc, List, [], ◌∷◌, ◌++◌, length, take, drop, refl, sym, ap, ◌∙◌, arith, append_assoc}
 use Rattle.std.proofs.Math.Seq.{take-add}
 use Rattle.std.proofs.lemmas.List.{length-drop, drop-drop}

@@ -1,4 +1,4 @@
--- What a search by halves finds among entries whose ids don't fall.
+-- What a binary search finds among entries whose ids don't decrease.
 use Rattle.std.proofs.Common.{◌≡◌, ◌≢◌, ◌+◌, ◌<◌, ℕ, List, [], ◌∷◌, length, map, sym, refl, ap, inl, inr, arith}
 use Rattle.std.proofs.Common.{Ok, Err}
 use Rattle.std.specs.Prelude.{All, remove}
@@ -16,7 +16,7 @@ use Rattle.mbuf.specs.Deck.{Share}
 use Rattle.mbuf.specs.Entries.{HasIdAt, live_of}
 
 module _ (entries : List Entry) (rising : IsNonDecreasingBy (λ (entry : Entry). entry.id) entries) (id : ℕ) where
-  -- the comparisons with the id rise along the entries
+  -- the comparisons with the id increase along the entries
   comparisons_rise : IsNonDecreasingBy (λ (entry : Entry). ordering_index (nat_cmp entry.id id)) entries
   comparisons_rise i j d le below = let up = rising i j d le below in grind (arith, nat_tests)
 
@@ -37,7 +37,7 @@ pub kept_ids : (packets : Slab (List Buffer)) (entries : List Entry)
 kept_ids packets [] = refl
 kept_ids packets (entry ∷ entries) = ap (λ (ns : List ℕ). entry.id ∷ ns) (kept_ids packets entries)
 
--- a list doesn't fall by f where its values of f don't fall
+-- a list doesn't decrease by f if its values of f don't decrease
 pub rising_by : {X : Type 0} (f : X → ℕ) (xs : List X) → IsNonDecreasing (map f xs) → IsNonDecreasingBy f xs
 rising_by f xs up i j d le below =
     let long = length-map xs f in

@@ -1,5 +1,5 @@
--- A window of a list, as a segment is of its buffer: `take len (drop start items)`, when what is written lies in it,
--- before it or behind it.
+-- A window of a list, as a segment is a window of its buffer: `take len (drop start items)`, when what is written is in
+-- it, before it or after it.
 use Rattle.std.proofs.Common.{◌≡◌, ◌+◌, ◌-◌, ◌<◌, ◌≤◌, ℕ, zero, suc, List, [], ◌∷◌, ◌++◌, length, take, drop, set, sym, refl, ap, ◌∙◌, arith, append_assoc}
 use Rattle.std.specs.List.{refill}
 use Rattle.std.proofs.Math.Seq.{take-set-lt}
@@ -8,7 +8,7 @@ use Rattle.std.proofs.lemmas.List.{drop-append-le, drop_all, append-nil, drop-se
 use Rattle.mbuf.specs.Buffer.{Buffer, overwritten}
 
 module _ {X : Type 0} where
-  -- ws written over as many of xs from i on, as `with_items_from` has it
+  -- ws written over as many elements of xs from i on, as `with_items_from` has it
   abbrev pub over : ℕ → List X → List X → List X
   over i xs ws = overwritten i ws xs
 
@@ -40,7 +40,7 @@ module _ {X : Type 0} where
   take_more (x ∷ xs) ys m =
       (let e : suc (length xs) + m ≡ suc (length xs + m) = omega arith in ap (λ k. take k (x ∷ (xs ++ ys))) e) ∙ ap (λ (l : List X). x ∷ l) (take_more xs ys m)
 
-  -- what is written behind the window joins it
+  -- what is written after the window joins it
   pub window_append : (n start len : ℕ) (items xs : List X) → n ≡ length items → start + len + length xs ≤ n
       → take (len + length xs) (drop start (written n (start + len) items xs)) ≡ take len (drop start items) ++ xs
   window_append n start len items xs e fits =
@@ -68,7 +68,7 @@ module _ {X : Type 0} where
       ∙ ap (take (len + length xs)) (drop_at (take i items) (xs ++ rest) i (length-take-le i items (omega arith)))
       ∙ ap (λ k. take k (xs ++ rest)) more ∙ take_more xs rest len ∙ ap (λ (l : List X). xs ++ take len l) behind
 
-  -- what is written inside the window stands in it
+  -- what is written inside the window is in it
   pub window_write : (n start len at : ℕ) (items xs : List X) → n ≡ length items → start + len ≤ n → at + length xs ≤ len
       → take len (drop start (written n (start + at) items xs)) ≡ overwritten at xs (take len (drop start items))
   window_write n start len at items xs e fits inside =
@@ -108,7 +108,7 @@ module _ {X : Type 0} where
   refilled_front (suc n) (w ∷ ws) [] = refl
   refilled_front (suc n) (w ∷ ws) (y ∷ ys) = ap (λ (l : List X). w ∷ l) (refilled_front n ws ys)
 
-  -- what is written from the beginning of the window on, however long it is, fills the window as far as it goes
+  -- what is written from the start of the window on, however long it is, fills the window as far as it goes
   pub window_refill : (n start len : ℕ) (items ws : List X) → n ≡ length items → start + len ≤ n
       → take len (drop start (written n start items ws)) ≡ refill (length (take len (drop start items))) (take len (drop start items)) ws
   window_refill n start len items ws e fits =
@@ -126,7 +126,7 @@ module _ {X : Type 0} where
       ∙ refilled_front len ws (drop start items)
       ∙ ap (λ k. refill k (take len (drop start items)) ws) (sym (length_window n start len items e fits))
 
--- two buffers of one number and reserve that have the same headroom, bytes and tailroom
+-- two buffers with the same number and reserve that have the same headroom, bytes and tailroom
 pub same_buffer : (number reserve h h' t t' : ℕ) (xs xs' : List ℕ) → h ≡ h' → xs ≡ xs' → t ≡ t'
     → ◌≡◌ {A = Buffer} (record { number = number; reserve = reserve; headroom = h; bytes = xs; tailroom = t })
     (record { number = number; reserve = reserve; headroom = h'; bytes = xs'; tailroom = t' })

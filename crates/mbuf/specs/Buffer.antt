@@ -2,7 +2,7 @@
 use Rattle.std.specs.Prelude.{ℕ, ◌+◌, ◌-◌, List, [], ◌++◌, length, take, drop, slice_set, replicate}
 use Rattle.std.specs.List.{refill}
 
--- a numbered buffer: the bytes of a packet that lie in it, and the free bytes before and behind them
+-- a numbered buffer: the bytes of a packet that are in it, and the free bytes before and after them
 pub record Buffer : Type 0 where
   pub number : ℕ
   -- the headroom that it has when fresh
@@ -11,7 +11,7 @@ pub record Buffer : Type 0 where
   pub bytes : List ℕ
   pub tailroom : ℕ
 
--- how many bytes it has in all
+-- its total number of bytes
 abbrev pub size_of : Buffer → ℕ
 size_of b = b.headroom + length b.bytes + b.tailroom
 
@@ -19,7 +19,7 @@ size_of b = b.headroom + length b.bytes + b.tailroom
 abbrev pub room_of : Buffer → ℕ
 room_of b = size_of b - b.reserve
 
--- without bytes, and with its headroom as it was made
+-- without bytes, and with its original headroom
 abbrev pub fresh : Buffer → Buffer
 fresh b = record b { headroom = b.reserve; bytes = []; tailroom = room_of b }
 
@@ -46,19 +46,19 @@ cut_back n b = record b { bytes = take (length b.bytes - n) b.bytes; tailroom = 
 abbrev pub with_byte : ℕ → ℕ → Buffer → Buffer
 with_byte i v b = record b { bytes = slice_set b.bytes i v }
 
--- a list of bytes with others written over those from place `at` on: what lies before, what is written, what lies
--- behind
+-- a list of bytes with others written over those from index `at` on: what comes before, what is written, what comes
+-- after
 abbrev pub overwritten : {X : Type 0} → ℕ → List X → List X → List X
 overwritten at ws bytes = take at bytes ++ (ws ++ drop (length ws) (drop at bytes))
 
--- with xs written over its bytes from place `at` on
+-- with xs written over its bytes from index `at` on
 abbrev pub written : ℕ → List ℕ → Buffer → Buffer
 written at xs b = record b { bytes = overwritten at xs b.bytes }
 
--- with xs written over its bytes, of which there stay as many
+-- with xs written over its bytes, whose number is unchanged
 abbrev pub rewritten : List ℕ → Buffer → Buffer
 rewritten xs b = record b { bytes = refill (length b.bytes) b.bytes xs }
 
--- with each of its bytes 0: what stays of a buffer where only the values of its bytes change
+-- with each of its bytes 0: what is unchanged in a buffer when only the values of its bytes change
 abbrev pub blanked : Buffer → Buffer
 blanked b = record b { bytes = replicate (length b.bytes) 0 }

@@ -12,15 +12,15 @@ numbers_of chain = map (λ b. b.number) chain
 abbrev pub bytes_of : List Buffer → List ℕ
 bytes_of chain = flat_map (λ b. b.bytes) chain
 
--- the chain without bytes, each segment with the headroom that it was made with
+-- the chain without bytes, each segment with its original headroom
 abbrev pub fresh_of : List Buffer → List Buffer
 fresh_of chain = map fresh chain
 
--- a chain has the segments that another has, as they were made: their numbers, headroom, sizes and links
+-- two chains have the same segments, as they were made: their numbers, headroom, sizes and links
 abbrev pub HasSameSegments : List Buffer → List Buffer → Type 0
 HasSameSegments chain other = fresh_of chain ≡ fresh_of other
 
--- how many bytes it takes when fresh
+-- how many bytes it can take when fresh
 abbrev pub space_of : List Buffer → ℕ
 space_of chain = sum_by room_of chain
 
@@ -58,19 +58,19 @@ last_bytes (b ∷ next ∷ chain) = last_bytes (next ∷ chain)
 abbrev pub without_last : ℕ → List Buffer → List ℕ
 without_last n chain = take (length (bytes_of chain) - n) (bytes_of chain)
 
--- with f at segment i
+-- with f applied to segment i
 abbrev pub at_segment : ℕ → (Buffer → Buffer) → List Buffer → List Buffer
 at_segment i f [] = []
 at_segment zero f (b ∷ chain) = f b ∷ chain
 at_segment (suc i) f (b ∷ chain) = b ∷ at_segment i f chain
 
--- with f at the last segment
+-- with f applied to the last segment
 abbrev pub at_last : (Buffer → Buffer) → List Buffer → List Buffer
 at_last f [] = []
 at_last f (b ∷ []) = f b ∷ []
 at_last f (b ∷ next ∷ chain) = b ∷ at_last f (next ∷ chain)
 
--- what stays where only the values of bytes change: each segment's number, headroom, length and tailroom
+-- what is unchanged when only the values of bytes change: each segment's number, headroom, length and tailroom
 abbrev pub shape_of : List Buffer → List Buffer
 shape_of chain = map blanked chain
 
@@ -83,7 +83,7 @@ filled bytes (b ∷ chain) = appended (take (room_of b) bytes) (fresh b) ∷ fil
 abbrev pub singles : List Buffer → List (List Buffer)
 singles buffers = map (λ b. b ∷ []) buffers
 
--- the numbers of several chains, one after the other
+-- the numbers of several chains, one after another
 abbrev pub all_numbers : List (List Buffer) → List ℕ
 all_numbers chains = flat_map numbers_of chains
 
@@ -91,13 +91,13 @@ all_numbers chains = flat_map numbers_of chains
 abbrev pub made_all : ℕ → ℕ → ℕ → List (List Buffer)
 made_all headroom room count = map (λ number. made headroom room number ∷ []) (range_with_len 0 count)
 
--- what a fresh chain is: 1 to 64 segments, none twice, and none larger than can be made
+-- a fresh chain: 1 to 64 segments, none twice, and none larger than can be made
 pub record IsChain (chain : List Buffer) : Type 0 where
   pub some : 0 < length chain
   pub few : length chain ≤ 64
   pub distinct : AreDistinct (numbers_of chain)
   pub small : All (λ b. size_of b ≤ 131072) chain
 
--- a chain that knows how many bytes and how many segments it has
+-- a chain with this number of bytes and of segments
 abbrev pub IsCounted : List Buffer → ℕ → ℕ → Type 0
 IsCounted chain len segments = IsChain (fresh_of chain) × (len ≡ length (bytes_of chain)) × (segments ≡ length chain)

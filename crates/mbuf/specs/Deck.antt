@@ -1,5 +1,5 @@
 -- A deck as contracts see it: its live shares, and the reference counts of their segments (DPDK Programmer's Guide,
--- "Mbuf Library", indirect buffers: a buffer goes back when its reference count reaches 0).
+-- "Mbuf Library", indirect buffers: a buffer is returned when its reference count reaches 0).
 use Rattle.std.specs.Prelude.{◌≡◌, ◌+◌, ◌<◌, All, None, nat_lt, length, ◌==◌, ℕ, not, if◌then◌else◌, List, [], ◌∷◌}
 use Rattle.std.specs.Prelude.{◌++◌, map, take, drop, filter, find, Option, Some, IfSome, slice_index_or}
 use Rattle.std.specs.List.{sum_by}
@@ -28,11 +28,11 @@ mentions_of number live = sum_by (λ share. times number (numbers_of share.menti
 abbrev pub share_of : ℕ → List Share → Option Share
 share_of id live = find (λ share. share.id == id) live
 
--- the share at place i
+-- the share at index i
 abbrev pub share_at : List Share → ℕ → Share
 share_at live i = slice_index_or live i record { id = 0; mentions = []; bytes = [] }
 
--- the share of this id stands at place i
+-- the share with this id is at index i
 pub record StandsAt (id : ℕ) (live : List Share) (i : ℕ) : Type 0 where
   pub there : i < length live
   pub is : share_of id live ≡ Some (share_at live i)
@@ -54,24 +54,24 @@ again id share = record share { id = id }
 abbrev pub narrowed : ℕ → ℕ → Share → Share
 narrowed from n share = record share { bytes = take n (drop from share.bytes) }
 
--- the shares, with f at the one of this id
+-- the shares, with f applied to the one with this id
 abbrev pub at_id : ℕ → (Share → Share) → List Share → List Share
 at_id id f live = map (λ share. if share.id == id then f share else share) live
 
--- the shares but the one of this id
+-- the shares without the one with this id
 abbrev pub without : ℕ → List Share → List Share
 without id live = filter (λ share. not (share.id == id)) live
 
--- of these segments those that no live share mentions
+-- those of these segments that no live share mentions
 abbrev pub unmentioned : List Share → List Buffer → List Buffer
 unmentioned live buffers = filter (λ b. mentions_of b.number live == 0) buffers
 
--- the segments that a share gave back, with the shares that are still live
+-- the segments that a share returned, given the shares that are still live
 abbrev pub freed_by : Option Share → List Share → List (List Buffer)
 freed_by None live = []
 freed_by (Some share) live = singles (unmentioned live share.mentions)
 
--- what holds of the live share of this id
+-- what holds for the live share with this id
 abbrev pub IfShare : ℕ → Shares → (Share → Type 0) → Type 0
 IfShare id deck holds = IfSome (share_of id deck.live) holds
 
@@ -89,12 +89,12 @@ pub record HasIds (next : ℕ) (live : List Share) : Type 0 where
   pub rising : IsNonDecreasing (map (λ share. share.id) live)
   pub below : All (λ share. share.id < next) live
 
--- what is refused for a share that isn't there, before anything else is
+-- the error for a share that doesn't exist, which is tested before anything else
 abbrev pub of_share : Option Share → (Share → Option DeckFault) → Option DeckFault
 of_share None later = Some NoSuchShare
 of_share (Some share) later = later share
 
--- after 2^32 - 1 ids no further one is given
+-- after 2^32 - 1 ids there are no more
 abbrev pub share_refusal : Shares → Option DeckFault
 share_refusal deck = if deck.next == 4294967295 then Some NoId else None
 

@@ -1,4 +1,4 @@
--- The numbers of the refusals: one row for both kinds, so that a number means the same wherever it is printed.
+-- The error numbers: the same for both kinds, so that a number means the same wherever it is printed.
 use Rattle.std.specs.Prelude.{ℕ}
 use Rattle.mbuf.specs.declared.fault.ChainFault.{ChainFault}
 use Rattle.mbuf.specs.declared.fault.DeckFault.{DeckFault}

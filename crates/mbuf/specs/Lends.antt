@@ -1,4 +1,4 @@
--- What the bytes of a segment and the links of a row are once a part of them was lent for writing.
+-- The bytes of a segment and the links of a row after a part of them was borrowed for writing.
 use Rattle.std.specs.Prelude.{ℕ, zero, suc, List, ◌++◌, take}
 use Rattle.std.specs.Borrow.{Lends, MutBor, Fml, u8, Array}
 use Rattle.std.specs.Global.{Box}
@@ -22,11 +22,11 @@ LendsSegment s r = Lends link_row segment_row s r (λ w. (w, s.now.1))
 abbrev pub box_row : RattleType
 box_row = boxed link_row global_row ghosts
 
--- behind a link's first segment and n more stands what was written
+-- after a link's first segment and n more comes what was written
 abbrev pub LendsBehind : MutBor (Buffer × List Buffer) → ℕ → MutBor (Box (Buffer × List Buffer)) → Fml
 LendsBehind s n r = Lends link_row box_row s r (λ w. (s.now.0, take n s.now.1 ++ row w.value))
 
--- a link with f at the segment i further on
+-- a link with f applied to the segment i further on
 abbrev pub at_link : ℕ → (Buffer → Buffer) → Buffer × List Buffer → Buffer × List Buffer
 at_link zero f link = (f link.0, link.1)
 at_link (suc i) f link = (link.0, at_segment i f link.1)

@@ -1,4 +1,4 @@
-//! Where segments come from. There is no other way to make one, so that a number names one buffer for ever.
+//! Where segments come from. There is no other way to make one, so a number names the same buffer for ever.
 ghost use Rattle.std.specs.Prelude.{◌≡◌, ◌≤◌, IfOk};
 ghost use Rattle.std.specs.List.{range_with_len};
 ghost use Rattle.burst.specs.Numbers.{AreDistinct};
@@ -8,10 +8,10 @@ use crate::chain::Chain;
 use std::alloc::{AllocError, Global};
 
 /// Makes `count` fresh segments, each a chain of its own, numbered from 0 in the order of the list: with `headroom`
-/// free bytes before and `room` free bytes behind the place of its first byte. Asked: each of the three numbers is at
-/// most 65,536.
+/// free bytes before the place of its first byte and `room` free bytes from there on. Requires: each of the three
+/// numbers is at most 65,536.
 ///
-/// It takes all the memory that chains ever need, and answers `AllocError` where that isn't there.
+/// Takes all the memory that chains ever need. Errors: `AllocError` if out of memory.
 pub fn make(
     alloc: Global,
     count: u32,

@@ -1,4 +1,4 @@
-//! The bytes of a packet, wherever its segments divide them.
+//! The bytes of a packet, wherever the segment boundaries are.
 ghost use Rattle.std.specs.Prelude.{◌≡◌, ◌+◌, ◌<◌, ◌≤◌, ◌++◌, ◌↔◌, length, take, drop, slice_get, slice_set};
 ghost use Rattle.std.specs.Prelude.{IfOk, IsErrOf, OnOk, OnErr};
 ghost use Rattle.mbuf.specs.Buffer.{overwritten};
@@ -8,7 +8,7 @@ use crate::chain::Chain;
 use crate::fault::ChainFault;
 
 impl Chain {
-    /// Byte `i` of the packet, where it has one.
+    /// Byte `i` of the packet, if it has one.
     pub fn byte(&self, i: usize) -> Option<u8>
         ensures { result ≡ slice_get (bytes_of self.now) i }
     {
@@ -20,7 +20,7 @@ impl Chain {
 
     /// Replaces byte `i` of the packet.
     ///
-    /// Refused with 3 `TooShort`, and then unchanged, where the packet has no byte `i`.
+    /// Errors: 3 `TooShort` if the packet has no byte `i`; it is then unchanged.
     pub fn set(&mut self, i: usize, v: u8) -> Result<(), ChainFault>
         ensures packet { OnOk result (bytes_of self.new ≡ slice_set (bytes_of self.old) i v) }
         ensures shape { shape_of self.new ≡ shape_of self.old }
@@ -35,9 +35,9 @@ impl Chain {
         Ok(())
     }
 
-    /// Copies bytes of the packet into the whole of `out`, from byte `at` on.
+    /// Copies the bytes of the packet from byte `at` on to `out`, filling all of it.
     ///
-    /// Refused with 3 `TooShort`, and `out` then unchanged, where the packet has too few bytes from there on.
+    /// Errors: 3 `TooShort` if the packet has too few bytes from there on; `out` is then unchanged.
     pub fn bytes(&self, at: usize, out: &mut [u8]) -> Result<(), ChainFault>
         ensures done { OnOk result (out.new ≡ take (length out.old) (drop at (bytes_of self.now))) }
         ensures refused { IsErrOf result ChainFault.TooShort ↔ (length (bytes_of self.now) < at + length out.old) }
@@ -50,9 +50,9 @@ impl Chain {
         Ok(())
     }
 
-    /// Writes `bytes` over those of the packet from byte `at` on: what `bytes` reads back.
+    /// Writes `bytes` over those of the packet from byte `at` on: what `bytes` then reads back.
     ///
-    /// Refused with 3 `TooShort`, and then unchanged, where the packet has too few bytes from there on.
+    /// Errors: 3 `TooShort` if the packet has too few bytes from there on; it is then unchanged.
     pub fn write(&mut self, at: usize, bytes: &[u8]) -> Result<(), ChainFault>
         ensures packet { OnOk result (bytes_of self.new ≡ overwritten at bytes.now (bytes_of self.old)) }
         ensures shape { shape_of self.new ≡ shape_of self.old }
@@ -67,9 +67,9 @@ impl Chain {
         Ok(())
     }
 
-    /// Copies the whole packet to the front of `out`, and tells how many bytes it has.
+    /// Copies the whole packet to the front of `out`, and returns its length.
     ///
-    /// Refused with 3 `TooShort`, and `out` then unchanged, where `out` is shorter than the packet.
+    /// Errors: 3 `TooShort` if `out` is shorter than the packet; it is then unchanged.
     pub fn linear_copy(&self, out: &mut [u8]) -> Result<usize, ChainFault>
         ensures done { IfOk result (λ n. n ≡ length (bytes_of self.now)) }
         ensures copied { OnOk result (out.new ≡ bytes_of self.now ++ drop (length (bytes_of self.now)) out.old) }

@@ -1,7 +1,6 @@
-//! The packet: a chain of 1 to 64 segments, none twice. What is done to it is done to its first segment or its last
-//! (`ends`), or to the bytes of the packet as a whole (`bytes`, `fill`). As they are written, these calls ask for no
-//! memory. No clause says so, since a collection carries its allocator; a test makes them where every request is
-//! refused.
+//! The packet: a chain of 1 to 64 segments, none twice. Operations work on its first or last segment (`ends`), or on
+//! the bytes of the packet as a whole (`bytes`, `fill`). As written, these calls take no memory. No clause states this,
+//! since a collection carries its allocator; a test makes the calls while every request is refused.
 ghost use Rattle.std.specs.Prelude.{◌≡◌, ◌<◌, ◌≤◌, ◌^◌, ◌==◌, ◌∷◌, [], length, IfOk};
 ghost use Rattle.mbuf.specs.Buffer.{made};
 ghost use Rattle.mbuf.specs.Chain.{numbers_of, bytes_of, headroom_of, tailroom_of};
@@ -13,11 +12,11 @@ use burst::Tagged;
 use std::alloc::{AllocError, Global};
 use std::marker::Model;
 
-/// The most segments of a chain.
+/// The maximum number of segments of a chain.
 pub const MAX_SEGMENTS: u32 = 64;
 
-/// A packet in boxed segments, two words wide, so that it is passed on by value at little cost. Contracts see it as the
-/// list of its segments.
+/// A packet in boxed segments, two words wide, so it is cheap to pass by value. Contracts see it as the list of its
+/// segments.
 #[derive(Drop)]
 pub struct Chain {
     pub(crate) first: Box<Link>,
@@ -60,7 +59,7 @@ impl Chain {
         })
     }
 
-    /// How many bytes the packet has.
+    /// The length of the packet in bytes.
     #[inline]
     pub fn len(&self) -> usize
         ensures value { result ≡ length (bytes_of self.now) }
@@ -69,7 +68,7 @@ impl Chain {
         self.len as usize
     }
 
-    /// Whether the packet has no byte.
+    /// Whether the packet has no bytes.
     #[inline]
     pub fn is_empty(&self) -> bool
         ensures { result ≡ (length (bytes_of self.now) == 0) }
@@ -77,7 +76,7 @@ impl Chain {
         self.len == 0
     }
 
-    /// How many segments it has, from 1 to 64.
+    /// The number of segments, from 1 to 64.
     #[inline]
     pub fn segments(&self) -> usize
         ensures value { result ≡ length self.now }
@@ -95,7 +94,7 @@ impl Chain {
         self.first.headroom()
     }
 
-    /// The free bytes behind those of the last segment.
+    /// The free bytes after those of the last segment.
     #[inline]
     pub fn tailroom(&self) -> usize
         ensures { result ≡ tailroom_of self.now }

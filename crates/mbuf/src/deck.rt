@@ -1,8 +1,8 @@
-//! Shares of packets. A share mentions every segment of a chain and shows some of its bytes; a segment goes back when
-//! the last share that mentions it goes (DPDK Programmer's Guide, "Mbuf Library", indirect buffers). A deck belongs to
-//! one worker: it has no lock, and its counts are plain numbers. As they are written, `share` and `again` alone ask for
-//! memory, of the allocator that `new` was given. No clause says so of the other calls; a test makes them where every
-//! request is refused.
+//! Shares of packets. A share mentions every segment of a chain and shows some of its bytes; a segment is returned when
+//! the last share that mentions it ends (DPDK Programmer's Guide, "Mbuf Library", indirect buffers). A deck belongs to
+//! one worker: it has no lock, and its counts are plain numbers. As written, only `share` and `again` take memory, from
+//! the allocator given to `new`. No clause states this for the other calls; a test makes them while every request is
+//! refused.
 ghost use Rattle.std.specs.Prelude.{◌≡◌, ◌+◌, ◌<◌, [], Some, IsNone, IfSome, IfOk, IfErr};
 ghost use Rattle.std.specs.Prelude.{OnOk, OnErr};
 ghost use Rattle.std.specs.Result.{result_err};
@@ -47,10 +47,10 @@ impl Deck {
     }
 
     /// Makes a share of `chain`: it mentions each of its segments and shows all of its bytes. Ids count up from 0 and
-    /// aren't used again. Asked: no live share mentions any of its segments.
+    /// aren't reused. Requires: no live share mentions any of its segments.
     ///
-    /// Refused with 7 `NoId` after 2^32 - 1 ids, 6 `Memory`, tested in this order. The chain then comes back, and the
-    /// deck is unchanged.
+    /// Errors, in this order: 7 `NoId` after 2^32 - 1 ids, 6 `Memory`. The chain is then handed back, and the deck is
+    /// unchanged.
     pub fn share(&mut self, chain: Chain) -> Result<u32, (Chain, DeckFault)>
         requires unmentioned { AreUnmentioned (numbers_of chain) self.old.live }
         ensures id { IfOk result (λ id. id ≡ self.old.next) }
@@ -72,8 +72,8 @@ impl Deck {
 
     /// Makes another share with the mentions and the bytes that share `id` has now.
     ///
-    /// Refused with 5 `NoSuchShare` where no live share has this id, 7 `NoId` after 2^32 - 1 ids, 6 `Memory`, tested in
-    /// this order. The deck is then unchanged.
+    /// Errors, in this order: 5 `NoSuchShare` if no live share has this id, 7 `NoId` after 2^32 - 1 ids, 6 `Memory`.
+    /// The deck is then unchanged.
     pub fn again(&mut self, id: u32) -> Result<u32, DeckFault>
         ensures id { IfOk result (λ new. new ≡ self.old.next) }
         ensures done { OnOk result (IfShare id self.old (λ old. self.new ≡ added (again self.old.next old) self.old)) }
@@ -95,10 +95,10 @@ impl Deck {
         Ok(new)
     }
 
-    /// Narrows share `id` to `n` of its bytes, from its byte `from` on. It keeps its mentions.
+    /// Narrows share `id` to `n` of its bytes, from its byte `from` on. Its mentions are kept.
     ///
-    /// Refused with 5 `NoSuchShare` where no live share has this id, 3 `TooShort` where it shows too few bytes, tested
-    /// in this order. The deck is then unchanged.
+    /// Errors, in this order: 5 `NoSuchShare` if no live share has this id, 3 `TooShort` if it shows too few bytes. The
+    /// deck is then unchanged.
     pub fn cut(&mut self, id: u32, from: usize, n: usize) -> Result<(), DeckFault>
         ensures done { OnOk result (self.new ≡ on_live (at_id id (narrowed from n)) self.old) }
         ensures refused { result_err result ≡ cut_refusal id from n self.old }
@@ -115,10 +115,10 @@ impl Deck {
         Ok(())
     }
 
-    /// Ends share `id`, and puts into `into` the segments whose last mention went, in the order of the chain: each a
-    /// fresh chain of its own. Asked: `into` is empty.
+    /// Ends share `id`, and puts into `into` the segments whose last mention has gone, in the order of the chain: each
+    /// a fresh chain of its own. Requires: `into` is empty.
     ///
-    /// Refused with 5 `NoSuchShare` where no live share has this id; the deck is then unchanged, and `into` empty.
+    /// Errors: 5 `NoSuchShare` if no live share has this id; the deck is then unchanged, and `into` empty.
     pub fn release_into(&mut self, id: u32, into: &mut Burst<Chain, 64>) -> Result<(), DeckFault>
         requires empty { into.old ≡ [] }
         ensures done { OnOk result (self.new ≡ on_live (without id) self.old) }
@@ -133,7 +133,7 @@ impl Deck {
         Ok(())
     }
 
-    /// `release_into` a list of its own.
+    /// Like `release_into`, with a new list.
     pub fn release(&mut self, id: u32) -> Result<Burst<Chain, 64>, DeckFault>
         ensures done { OnOk result (self.new ≡ on_live (without id) self.old) }
         ensures given { IfOk result (λ given. given ≡ freed_by (share_of id self.old.live) self.new.live) }
@@ -145,10 +145,11 @@ impl Deck {
         Ok(given)
     }
 
-    /// Fills `chain` with the bytes of share `id`, from its first segment on. What was in the chain is overwritten.
+    /// Fills `chain` with the bytes of share `id`, from its first segment on. The chain's previous bytes are
+    /// overwritten.
     ///
-    /// Refused with 5 `NoSuchShare` where no live share has this id, 2 `NoTailroom` where the bytes are more than the
-    /// chain's `space`, tested in this order. The chain is then unchanged.
+    /// Errors, in this order: 5 `NoSuchShare` if no live share has this id, 2 `NoTailroom` if the bytes are more than
+    /// the chain's `space`. The chain is then unchanged.
     pub fn copy_into(&self, id: u32, chain: &mut Chain) -> Result<(), DeckFault>
         ensures done { OnOk result (IfShare id self.now (λ share. chain.new ≡ filled share.bytes chain.old)) }
         ensures packet { OnOk result (IfShare id self.now (λ share. bytes_of chain.new ≡ share.bytes)) }

@@ -1,4 +1,4 @@
-//! Bytes that are put before and behind a packet, and cut off again: what a header is to a stack of protocols.
+//! Bytes added before and after a packet, and cut off again, as protocol layers do with their headers.
 ghost use Rattle.std.specs.Prelude.{◌≡◌, ◌<◌, ◌++◌, ◌↔◌, length, drop, IsErrOf, OnOk, OnErr};
 ghost use Rattle.mbuf.specs.Buffer.{prepended, appended, cut_front, cut_back};
 ghost use Rattle.mbuf.specs.Chain.{bytes_of, HasSameSegments, without_last, headroom_of, tailroom_of, first_bytes};
@@ -10,7 +10,7 @@ use crate::fault::ChainFault;
 impl Chain {
     /// Puts `bytes` before those of the first segment.
     ///
-    /// Refused with 1 `NoHeadroom`, and then unchanged, where the first segment has too little headroom.
+    /// Errors: 1 `NoHeadroom` if the first segment has too little headroom; the packet is then unchanged.
     #[inline]
     pub fn prepend(&mut self, bytes: &[u8]) -> Result<(), ChainFault>
         ensures done { OnOk result (self.new ≡ at_segment 0 (prepended bytes.now) self.old) }
@@ -27,9 +27,9 @@ impl Chain {
         Ok(())
     }
 
-    /// Puts `bytes` behind those of the last segment.
+    /// Puts `bytes` after those of the last segment.
     ///
-    /// Refused with 2 `NoTailroom`, and then unchanged, where the last segment has too little tailroom.
+    /// Errors: 2 `NoTailroom` if the last segment has too little tailroom; the packet is then unchanged.
     #[inline]
     pub fn append(&mut self, bytes: &[u8]) -> Result<(), ChainFault>
         ensures done { OnOk result (self.new ≡ at_last (appended bytes.now) self.old) }
@@ -45,7 +45,7 @@ impl Chain {
 
     /// Cuts `n` bytes off the front of the first segment.
     ///
-    /// Refused with 3 `TooShort`, and then unchanged, where that segment has fewer.
+    /// Errors: 3 `TooShort` if that segment has fewer; the packet is then unchanged.
     #[inline]
     pub fn adj(&mut self, n: usize) -> Result<(), ChainFault>
         ensures done { OnOk result (self.new ≡ at_segment 0 (cut_front n) self.old) }
@@ -64,7 +64,7 @@ impl Chain {
 
     /// Cuts `n` bytes off the end of the last segment.
     ///
-    /// Refused with 3 `TooShort`, and then unchanged, where that segment has fewer.
+    /// Errors: 3 `TooShort` if that segment has fewer; the packet is then unchanged.
     #[inline]
     pub fn trim(&mut self, n: usize) -> Result<(), ChainFault>
         ensures done { OnOk result (self.new ≡ at_last (cut_back n) self.old) }

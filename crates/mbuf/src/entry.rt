@@ -1,10 +1,10 @@
-//! What a deck keeps of a share.
+//! What a deck stores for a share.
 ghost use Rattle.std.specs.Prelude.{◌≡◌, ◌≢◌, ◌<◌, ◌==◌, All, IfNone, IfSome};
 ghost use Rattle.std.specs.List.{list_any};
 ghost use Rattle.std.specs.List.Sorted.{IsNonDecreasingBy};
 ghost use Rattle.mbuf.specs.Entries.{HasIdAt};
 
-/// The id of a share, the key of the packet that it mentions, and the part of the packet's bytes that it shows.
+/// The id of a share, the key of the packet it mentions, and which of the packet's bytes it shows.
 #[derive(Clone, Copy)]
 pub struct Entry {
     pub id: u32,
@@ -13,7 +13,7 @@ pub struct Entry {
     pub len: usize,
 }
 
-/// Where an entry of `id` stands, found by halves. Asked: ids don't fall from entry to entry.
+/// The index of the entry of `id`, by binary search. Requires: ids don't decrease from entry to entry.
 pub fn place_of(entries: &[Entry], id: u32) -> Option<usize>
     requires rising { IsNonDecreasingBy (λ entry. entry.id) entries.now }
     ensures absent { IfNone result (All (λ entry. entry.id ≢ id) entries.now) }

@@ -7,13 +7,13 @@ use thiserror::Error;
 /// Why a call on a chain is refused.
 #[derive(Clone, Copy, Debug, PartialEq, Eq, Error)]
 pub enum ChainFault {
-    /// The first segment has less headroom than the bytes take.
+    /// The first segment has less headroom than the bytes need.
     #[error("NoHeadroom")]
     NoHeadroom = 1,
-    /// The last segment has less tailroom than the bytes take, or the chain less space.
+    /// The last segment has less tailroom than the bytes need, or the chain too little space.
     #[error("NoTailroom")]
     NoTailroom = 2,
-    /// The segment, or the packet, has too few bytes from there on; or what it is copied to is too short.
+    /// The segment, or the packet, has too few bytes from there on; or the destination of a copy is too short.
     #[error("TooShort")]
     TooShort = 3,
     /// The two chains have more than 64 segments together.
@@ -45,7 +45,7 @@ pub enum DeckFault {
     /// There was no memory for one more share.
     #[error("Memory")]
     Memory = 6,
-    /// All of the 2^32 - 1 ids were given.
+    /// All of the 2^32 - 1 ids have been used.
     #[error("NoId")]
     NoId = 7,
 }

@@ -1,4 +1,4 @@
-//! Packets that are emptied, and filled from the first segment on.
+//! Emptying packets, and filling them from the first segment on.
 ghost use Rattle.std.specs.Prelude.{◌≡◌, ◌+◌, ◌<◌, ◌≤◌, ◌↔◌, [], length, take, drop, replicate, IsErrOf, OnOk, OnErr};
 ghost use Rattle.mbuf.specs.Chain.{bytes_of, fresh_of, HasSameSegments, space_of, shape_of, filled};
 
@@ -6,7 +6,7 @@ use crate::chain::Chain;
 use crate::fault::ChainFault;
 
 impl Chain {
-    /// Makes each segment fresh: without bytes, and with the headroom that it was made with. The links stay.
+    /// Makes each segment fresh: without bytes, and with its original headroom. The links are kept.
     pub fn reset(&mut self)
         ensures done { self.new ≡ fresh_of self.old }
         ensures packet { bytes_of self.new ≡ [] }
@@ -23,10 +23,10 @@ impl Chain {
         self.first.space()
     }
 
-    /// Makes the packet `n` zero bytes long, filled from the first segment on, each with the headroom that it was made
-    /// with. What was in the chain is overwritten.
+    /// Makes the packet `n` zero bytes long, filled from the first segment on, each with its original headroom. The
+    /// chain's previous bytes are overwritten.
     ///
-    /// Refused with 2 `NoTailroom`, and then unchanged, where `n` is above `space`.
+    /// Errors: 2 `NoTailroom` if `n` is above `space`; the packet is then unchanged.
     pub fn stretch(&mut self, n: usize) -> Result<(), ChainFault>
         ensures done { OnOk result (self.new ≡ filled (replicate n 0) self.old) }
         ensures packet { OnOk result (bytes_of self.new ≡ replicate n 0) }
@@ -42,10 +42,10 @@ impl Chain {
         Ok(())
     }
 
-    /// Makes the packet `n` bytes long as `stretch` does, and writes none of them: what they are isn't said. For a
-    /// caller that then fills its segments by `part_mut`.
+    /// Makes the packet `n` bytes long as `stretch` does, without writing any of them: their values are not specified.
+    /// For a caller that then fills its segments by `part_mut`.
     ///
-    /// Refused with 2 `NoTailroom`, and then unchanged, where `n` is above `space`.
+    /// Errors: 2 `NoTailroom` if `n` is above `space`; the packet is then unchanged.
     pub fn resize(&mut self, n: usize) -> Result<(), ChainFault>
         ensures len { OnOk result (length (bytes_of self.new) ≡ n) }
         ensures shape { OnOk result (shape_of self.new ≡ filled (replicate n 0) self.old) }
@@ -61,10 +61,10 @@ impl Chain {
         Ok(())
     }
 
-    /// Makes the packet these bytes, filled from the first segment on, each with the headroom that it was made with.
-    /// What was in the chain is overwritten.
+    /// Replaces the packet by these bytes, filled from the first segment on, each with its original headroom. The
+    /// chain's previous bytes are overwritten.
     ///
-    /// Refused with 2 `NoTailroom`, and then unchanged, where they are more than `space`.
+    /// Errors: 2 `NoTailroom` if they are more than `space`; the packet is then unchanged.
     pub fn fill(&mut self, bytes: &[u8]) -> Result<(), ChainFault>
         ensures done { OnOk result (self.new ≡ filled bytes.now self.old) }
         ensures packet { OnOk result (bytes_of self.new ≡ bytes.now) }

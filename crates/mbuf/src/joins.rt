@@ -1,4 +1,4 @@
-//! Segments that are linked to one packet, and taken off it.
+//! Linking segments to one packet, and taking them off.
 ghost use Rattle.std.specs.Prelude.{◌≡◌, ◌+◌, ◌<◌, ◌≤◌, ◌++◌, ◌↔◌, length, IsSome, IsErr, IfOk, IfErr};
 ghost use Rattle.mbuf.specs.Chain.{numbers_of, bytes_of, fresh_of, singles};
 ghost use Rattle.mbuf.specs.Links.{rest_of};
@@ -9,9 +9,9 @@ use crate::fault::ChainFault;
 use burst::Burst;
 
 impl Chain {
-    /// Links the segments of `other` behind those of `self`. Asked: the two have no number in common.
+    /// Links the segments of `other` after those of `self`. Requires: the two have no number in common.
     ///
-    /// Refused with 4 `TooManySegments`, and both are given back, where they have more than 64 segments together.
+    /// Errors: 4 `TooManySegments` if they have more than 64 segments together; both are handed back.
     pub fn chain(mut self, other: Chain) -> Result<Chain, (Chain, Chain, ChainFault)>
         requires apart { AreDistinct (numbers_of self ++ numbers_of other) }
         ensures done { IfOk result (λ whole. whole ≡ self ++ other) }
@@ -33,7 +33,7 @@ impl Chain {
         Ok(self)
     }
 
-    /// Takes the first segment off the others, where there are others.
+    /// Takes the first segment off the others, if there are others.
     pub fn take_first(self) -> (Chain, Option<Chain>)
         ensures first { length result.0 ≡ 1 }
         ensures whole { result.0 ++ rest_of result.1 ≡ self }
@@ -65,8 +65,7 @@ impl Chain {
         (alone, Some(rest))
     }
 
-    /// Gives each segment as a chain of its own, fresh, behind those that stand in `into`, in order. Asked: there is
-    /// room for as many.
+    /// Appends each segment to `into` as a chain of its own, fresh, in order. Requires: there is room for all of them.
     pub fn take_apart<const N: usize>(mut self, into: &mut Burst<Chain, N>)
         requires room { length into.old + length self ≤ N }
         ensures { into.new ≡ into.old ++ singles (fresh_of self) }

@@ -1,7 +1,7 @@
 //! Packet buffers (DPDK Programmer's Guide, "Mbuf Library"): segments with headroom and tailroom, packets as chains of
-//! them, and shares of packets whose segments go back with their last mention.
+//! them, and shares of packets whose segments are returned with their last mention.
 //!
-//! A caller, as it stands proved in memory_tests:
+//! A caller, proved in memory_tests:
 //!
 //! ```text
 //! fn with_header(packet: &mut Chain, header: &[u8]) -> Result<(), ChainFault>

@@ -1,5 +1,5 @@
-//! Segments in a row, each boxed with the link to the next one, as an mbuf holds its `next`. What is asked of the last
-//! segment is passed on from link to link.
+//! Segments in a row, each boxed with the link to the next one, as an mbuf holds its `next`. Operations on the last
+//! segment are passed on from link to link.
 ghost use Rattle.std.specs.Prelude.{◌≡◌, ◌+◌, ◌-◌, ◌<◌, ◌≤◌, ◌++◌, ◌↔◌, [], List, length, drop};
 ghost use Rattle.std.specs.Prelude.{IsErrOf, OnOk, OnErr};
 ghost use Rattle.mbuf.specs.Buffer.{prepended, appended, cut_front, cut_back};
@@ -13,7 +13,7 @@ use crate::segment::Segment;
 use arrayvec::ArrayVec;
 use std::marker::Model;
 
-/// A segment, and those behind it.
+/// A segment, and those after it.
 #[derive(Drop)]
 pub struct Link {
     pub(crate) segment: Segment,
@@ -64,7 +64,7 @@ impl Link {
         self.segment.headroom()
     }
 
-    /// How many bytes lie in the first segment.
+    /// The number of bytes in the first segment.
     #[inline]
     pub fn first_len(&self) -> usize
         ensures { result ≡ length (first_bytes (row self.now)) }
@@ -93,8 +93,8 @@ impl Link {
         self.segment.prepend(bytes);
     }
 
-    /// Appends `bytes` to the last segment. The recursion is a loop once it is built, so that
-    /// the one segment of most packets is reached without a call.
+    /// Appends `bytes` to the last segment. The recursion compiles to a loop, so the one segment of most packets is
+    /// reached without a call.
     #[inline]
     pub fn append(&mut self, bytes: &[u8]) -> Result<(), ChainFault>
         ensures done { OnOk result (row self.new ≡ at_last (appended bytes.now) (row self.old)) }
@@ -137,7 +137,7 @@ impl Link {
         }
     }
 
-    /// Links `tail` behind the last segment.
+    /// Links `tail` after the last segment.
     pub fn join(&mut self, tail: Box<Link>)
         ensures { row self.new ≡ row self.old ++ row tail.value }
     {
@@ -147,7 +147,7 @@ impl Link {
         }
     }
 
-    /// Takes off the segments behind the first.
+    /// Takes off the segments after the first.
     pub fn take_next(&mut self) -> Option<Box<Link>>
         ensures rest { row self.old ≡ row self.new ++ behind result }
         ensures first { length (row self.new) ≡ 1 }
@@ -165,7 +165,7 @@ impl Link {
         }
     }
 
-    /// Writes the numbers of the segments behind those that stand in `out`.
+    /// Appends the numbers of the segments to those already in `out`.
     pub fn tags(&self, out: &mut ArrayVec<u32, 64>)
         requires { array_vec_len out.old + length (row self.now) ≤ 64 }
         ensures { out.new.items ≡ out.old.items ++ numbers_of (row self.now) }

@@ -1,4 +1,4 @@
-//! Bytes that are read from a row of segments and written to it, from link to link.
+//! Reading bytes from a row of segments and writing them to it, from link to link.
 ghost use Rattle.std.specs.Prelude.{◌≡◌, ◌+◌, ◌-◌, ◌<◌, ◌≤◌, ◌^◌, length, take, drop, replicate, slice_index};
 ghost use Rattle.std.specs.Prelude.{slice_set};
 ghost use Rattle.mbuf.specs.Buffer.{room_of, fresh, appended, overwritten};
@@ -42,7 +42,7 @@ impl Link {
         }
     }
 
-    /// Copies bytes of the packet into `out`, from byte `at` on.
+    /// Copies bytes of the packet to `out`, from byte `at` on.
     pub fn copy_out(&self, at: usize, out: &mut [u8])
         requires { at + length out.old ≤ length (bytes_of (row self.now)) }
         ensures { out.new ≡ take (length out.old) (drop at (bytes_of (row self.now))) }
@@ -91,7 +91,7 @@ impl Link {
         self.copy_out(at, segment.bytes_mut());
     }
 
-    /// How many bytes the segments take when fresh.
+    /// How many bytes the segments can take when fresh.
     pub fn space(&self) -> usize
         requires { space_of (row self.now) < 2 ^ 63 }
         ensures { result ≡ space_of (row self.now) }
@@ -119,7 +119,7 @@ impl Link {
         }
     }
 
-    /// Makes the packet `n` bytes long, from the first segment on. Its bytes are then any.
+    /// Makes the packet `n` bytes long, from the first segment on. The values of its bytes are not specified.
     #[tactic(auto, using(crate::proofs::Copies::filled_zeros))]
     pub fn resize(&mut self, n: usize)
         requires { n ≤ space_of (row self.old) }
@@ -135,7 +135,7 @@ impl Link {
         }
     }
 
-    /// Makes the packet these bytes, from the first segment on.
+    /// Replaces the packet by these bytes, from the first segment on.
     #[tactic(auto, using(crate::proofs::Copies::filled_front))]
     pub fn fill(&mut self, bytes: &[u8])
         requires { length bytes.now ≤ space_of (row self.old) }

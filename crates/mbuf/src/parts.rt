@@ -1,11 +1,12 @@
-//! The bytes of one segment, lent to be read or written in place.
+//! The bytes of one segment, borrowed to be read or written in place.
 ghost use Rattle.std.specs.Prelude.{◌≡◌, ◌+◌, ◌<◌, ◌≤◌, length, take, drop};
 ghost use Rattle.mbuf.specs.Chain.{bytes_of, part_of, place_of_part};
 
 use crate::chain::Chain;
 
 impl Chain {
-    /// The bytes of segment `i`, counted from 0: those of the packet from the segment's place on. Asked: there is one.
+    /// The bytes of segment `i`, counted from 0: those of the packet from the segment's start on. Requires: there is
+    /// one.
     #[inline]
     pub fn part(&self, i: usize) -> &[u8]
         requires { i < length self.now }
@@ -19,8 +20,8 @@ impl Chain {
     ghost use Rattle.std.specs.Borrow.{sem};
     ghost use Rattle.mbuf.specs.ChainLends.{LendsPart, IsWrittenBack, KeepsSegments};
 
-    /// The bytes of segment `i`, counted from 0, for writing: those of the packet from the segment's place on. What is
-    /// written stands in the packet at their place, and nothing else changes. Asked: there is one.
+    /// The bytes of segment `i`, counted from 0, for writing: those of the packet from the segment's start on. What is
+    /// written appears in the packet at their place, and nothing else changes. Requires: there is one.
     #[inline]
     pub fn part_mut(&mut self, i: usize) -> &mut [u8]
         requires { i < length self.old }

@@ -1,4 +1,4 @@
-//! One numbered buffer with the part of a packet that lies in it, and free bytes before and behind: a caller can add
+//! One numbered buffer with the part of a packet that is in it, and free bytes before and after it: a caller can add
 //! and remove headers in place. It is the only code that moves bytes.
 ghost use Rattle.std.specs.Prelude.{◌≡◌, ◌+◌, ◌-◌, ◌<◌, ◌≤◌, ◌^◌, ◌↔◌, length, replicate, slice_index, IfOk};
 ghost use Rattle.std.specs.Prelude.{IsErrOf, OnOk, OnErr};
@@ -9,7 +9,7 @@ use crate::fault::ChainFault;
 use std::alloc::{AllocError, Global};
 use std::marker::Model;
 
-/// A buffer, and where in it the bytes of the packet lie.
+/// A buffer, and where in it the bytes of the packet are.
 #[derive(Drop)]
 pub struct Segment {
     number: u32,
@@ -92,7 +92,7 @@ impl Segment {
         self.store.len() - self.reserve
     }
 
-    /// Appends `bytes` where there is tailroom for them.
+    /// Appends `bytes` if there is tailroom for them.
     #[inline]
     pub fn append(&mut self, bytes: &[u8]) -> Result<(), ChainFault>
         ensures done { OnOk result (self.new ≡ appended bytes.now self.old) }
@@ -133,7 +133,7 @@ impl Segment {
         self.len -= n;
     }
 
-    /// Cuts `n` bytes off the end where there are as many.
+    /// Cuts `n` bytes off the end if it has that many.
     #[inline]
     pub fn cut_back(&mut self, n: usize) -> Result<(), ChainFault>
         ensures done { OnOk result (self.new ≡ cut_back n self.old) }
@@ -155,7 +155,7 @@ impl Segment {
         self.len = 0;
     }
 
-    /// Makes the segment `n` bytes long, from where its bytes begin when it is fresh. Its bytes are then any.
+    /// Makes the segment `n` bytes long, from where its bytes begin when it is fresh. Their values are not specified.
     #[inline]
     pub fn resize(&mut self, n: usize)
         requires { n ≤ room_of self.old }
@@ -196,7 +196,7 @@ impl Segment {
             .copy_from_slice(bytes);
     }
 
-    /// Makes the segment hold `bytes` alone, from where its bytes begin when it is fresh.
+    /// Makes the segment hold only `bytes`, from where its bytes begin when it is fresh.
     #[inline]
     pub fn fill(&mut self, bytes: &[u8])
         requires { length bytes.now ≤ room_of self.old }

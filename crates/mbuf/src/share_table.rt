@@ -1,5 +1,5 @@
-//! Where a deck keeps the packets that its shares show. All shares that come of one chain mention the same segments, so
-//! the chain is stored once; it is given back as a whole when no share names it any more.
+//! Where a deck stores the packets that its shares show. All shares made from one chain mention the same segments, so
+//! the chain is stored once; it is returned as a whole when no share names it any more.
 ghost use Rattle.std.specs.Prelude.{◌≡◌, ◌+◌, ◌<◌, ◌≤◌, ◌++◌, [], ◌∷◌, None, length, map, remove, slice_set, IfNone};
 ghost use Rattle.std.specs.Prelude.{IfSome, IfErr, OnOk, OnErr};
 ghost use Rattle.mbuf.specs.Chain.{numbers_of, bytes_of, HasSameSegments, space_of, singles, filled};
@@ -76,7 +76,7 @@ impl ShareTable {
         }
     }
 
-    /// Where the share of `id` stands. Asked: each id is above those before it.
+    /// The index of the share with `id`. Requires: each id is above those before it.
     pub fn place(&self, id: u32) -> Option<usize>
         requires distinct { AreDistinct (map (λ share. share.id) self.now) }
         requires rising { IsNonDecreasing (map (λ share. share.id) self.now) }
@@ -94,7 +94,7 @@ impl ShareTable {
         self.entries[place].len
     }
 
-    /// Adds a share of `chain`, or hands it back where there is no memory.
+    /// Adds a share of `chain`, or hands it back if out of memory.
     pub fn add(&mut self, id: u32, chain: Chain) -> Result<(), Chain>
         requires unmentioned { AreUnmentioned (numbers_of chain) self.old }
         ensures done { OnOk result (self.new ≡ self.old ++ shared id chain ∷ []) }
@@ -135,7 +135,7 @@ impl ShareTable {
         };
     }
 
-    /// Removes the share at `place`, and gives the segments that no share mentions any more.
+    /// Removes the share at `place`, and returns the segments that no share mentions any more.
     pub fn release(&mut self, place: usize, into: &mut Burst<Chain, 64>)
         requires there { place < length self.old }
         requires empty { into.old ≡ [] }

@@ -1,8 +1,8 @@
-//! The way to one segment of a row, which is then lent for writing.
+//! Walking to one segment of a row, which is then borrowed for writing.
 //!
-//! It takes one step a segment, as a loop would: a way over at most 64 links is two over at most 32, and so on down to
-//! single steps. After a loop or a recursion a proof wouldn't know, once the loan is over, that every other segment
-//! stayed as it was.
+//! It takes one step per segment, as a loop would: a walk over at most 64 links is two walks over at most 32, and so on
+//! down to single steps. After a loop or a recursion a proof wouldn't know, once the borrow has ended, that every other
+//! segment is unchanged.
 ghost use Rattle.std.specs.Prelude.{◌≡◌, ◌-◌, ◌<◌, ◌≤◌, length, drop};
 ghost use Rattle.mbuf.specs.Chain.{part_of};
 ghost use Rattle.mbuf.specs.Links.{row};
@@ -11,7 +11,7 @@ ghost use Rattle.std.specs.Borrow.{sem};
 use crate::link::Link;
 use crate::segment::Segment;
 
-/// A way over `$i` links by two ways over half of them.
+/// A walk over `$i` links by two walks over half of them.
 macro_rules! halved {
     ($link:expr, $i:expr, $half:ident) => {{
         if $i == 1 {
@@ -34,7 +34,7 @@ impl Link {
         &mut self.segment
     }
 
-    /// The next link, for writing. There must be one.
+    /// The next link, for writing. Requires: there is one.
     #[inline]
     fn skip_1(&mut self) -> &mut Box<Link>
         requires { 1 < length (row self.old) }
@@ -44,7 +44,7 @@ impl Link {
         self.next.as_mut().unwrap()
     }
 
-    /// The link `i` further on, from 1 to 2. There must be one.
+    /// The link `i` further on, from 1 to 2. Requires: there is one.
     fn within_2(&mut self, i: usize) -> &mut Box<Link>
         requires nonzero { 0 < i }
         requires at_most { i ≤ 2 }
@@ -58,7 +58,7 @@ impl Link {
         self.skip_1().as_mut().skip_1()
     }
 
-    /// The link `i` further on, from 1 to 4. There must be one.
+    /// The link `i` further on, from 1 to 4. Requires: there is one.
     fn within_4(&mut self, i: usize) -> &mut Box<Link>
         requires nonzero { 0 < i }
         requires at_most { i ≤ 4 }
@@ -69,7 +69,7 @@ impl Link {
         halved!(self, i, within_2)
     }
 
-    /// The link `i` further on, from 1 to 8. There must be one.
+    /// The link `i` further on, from 1 to 8. Requires: there is one.
     fn within_8(&mut self, i: usize) -> &mut Box<Link>
         requires nonzero { 0 < i }
         requires at_most { i ≤ 8 }
@@ -80,7 +80,7 @@ impl Link {
         halved!(self, i, within_4)
     }
 
-    /// The link `i` further on, from 1 to 16. There must be one.
+    /// The link `i` further on, from 1 to 16. Requires: there is one.
     fn within_16(&mut self, i: usize) -> &mut Box<Link>
         requires nonzero { 0 < i }
         requires at_most { i ≤ 16 }
@@ -91,7 +91,7 @@ impl Link {
         halved!(self, i, within_8)
     }
 
-    /// The link `i` further on, from 1 to 32. There must be one.
+    /// The link `i` further on, from 1 to 32. Requires: there is one.
     fn within_32(&mut self, i: usize) -> &mut Box<Link>
         requires nonzero { 0 < i }
         requires at_most { i ≤ 32 }
@@ -102,7 +102,7 @@ impl Link {
         halved!(self, i, within_16)
     }
 
-    /// The link `i` further on, from 1 to 64. There must be one.
+    /// The link `i` further on, from 1 to 64. Requires: there is one.
     fn within_64(&mut self, i: usize) -> &mut Box<Link>
         requires nonzero { 0 < i }
         requires at_most { i ≤ 64 }

@@ -1,4 +1,4 @@
--- An address as the first bits and the others by which a caller reads the entries.
+-- An address as the first bits and the others, with which a caller reads the entries.
 use Rattle.std.proofs.Common.{◌≡◌, ℕ, ◌+◌, ◌-◌, ◌*◌, ◌%◌, ◌^◌, ◌<◌, sym, ap, ◌∙◌, subst}
 use Rattle.std.proofs.lemmas.Nat.{shr_split, mod_below}
 use Rattle.lpm.specs.Prefixes.{first_bits, size_of}

@@ -17,7 +17,7 @@ sole_here : (p : Prefix) (hop : ℕ) → map.get (sole p hop) p ≡ Some hop
 sole_here p hop = get-insert prefix_total map.empty p hop p ∙ ap
     (λ b. cond b (Some hop) (map.get (map.empty {K = Prefix} {X = ℕ} {R = prefix_cmp}) p)) (ap is_eq (tied_itself prefix_total p))
 
--- what is found under a key of which only one hop can be found
+-- what is found under a key if only one hop can be found
 only : (b : Bool) (hop h : ℕ) → cond b (Some hop) None ≡ Some h → hop ≡ h
 only true hop h e = cc
 only false hop h e = cc

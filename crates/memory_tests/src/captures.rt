@@ -13,7 +13,7 @@ use std::io::{self, Read, Write};
 use std::process::Abort;
 use std::test::Fail;
 
-/// A big-endian capture of nanoseconds: a record of 34 bytes, and one that ends after its header and 10 of 34 bytes.
+/// A big-endian nanosecond capture: a record of 34 bytes, and one that ends after its header and 10 of 34 bytes.
 const FILE: [u8; 100] = [
     0xa1, 0xb2, 0x3c, 0x4d, 0, 2, 0, 4, 0, 0, 0, 0, 0, 0, 0, 0, 0, 4, 0, 0, 0, 0, 0, 1, 0, 0, 0, 1,
     0, 0, 0, 5, 0, 0, 0, 34, 0, 0, 0, 34, 0, 0, 0, 0, 0, 0, 0, 0, 0, 0, 0, 0, 8, 0, 0x45, 0, 0,
@@ -35,7 +35,7 @@ const FIRST: [u8; 16] = [2, 0, 0, 0, 0, 1, 2, 0, 0, 0, 0, 2, 8, 0, 0x45, 0];
 
 const SECOND: [u8; 14] = [0xff, 0xff, 0xff, 0xff, 0xff, 0xff, 2, 0, 0, 0, 0, 2, 8, 6];
 
-/// The header of a capture of nanoseconds that is written.
+/// The header of a nanosecond capture, as it is written.
 const NANO: [u8; 24] = [
     0x4d, 0x3c, 0xb2, 0xa1, 2, 0, 4, 0, 0, 0, 0, 0, 0, 0, 0, 0, 0, 0, 4, 0, 1, 0, 0, 0,
 ];
@@ -43,7 +43,8 @@ const NANO: [u8; 24] = [
 /// Records: more bytes of them than both buffers hold, several times over.
 const RECORDS: u32 = 600;
 
-/// The bytes of a record: mostly few, now and then more than go through a buffer, or more than the chain has space for.
+/// The length of a record: mostly short, now and then more than goes through a buffer, or more than the chain has space
+/// for.
 fn size_of(number: u32) -> u32 {
     match number % 100 {
         7 => 40_000,
@@ -52,7 +53,7 @@ fn size_of(number: u32) -> u32 {
     }
 }
 
-/// A little-endian capture of the records of at most so many bytes.
+/// A little-endian capture of the records of at most `most` bytes.
 fn capture(alloc: Global, most: u32) -> Result<Vec<u8>, AllocError> {
     let mut file = Vec::from_slice(alloc, &NANO)?;
     for number in 0..RECORDS {
@@ -61,7 +62,7 @@ fn capture(alloc: Global, most: u32) -> Result<Vec<u8>, AllocError> {
             for field in [number, 5, size, size] {
                 file.extend_from_slice(&field.to_le_bytes())?;
             }
-            // Saturating here: no clause bounds it, and it stays small.
+            // Saturating here: no clause bounds it, and it is always small.
             let len = file.len().saturating_add(size as usize);
             file.resize(len, (number % 251) as u8)?;
         }
@@ -69,7 +70,7 @@ fn capture(alloc: Global, most: u32) -> Result<Vec<u8>, AllocError> {
     Ok(file)
 }
 
-/// A chain of one segment with room for so many bytes.
+/// A chain of one segment with room for `room` bytes.
 fn chain(alloc: Global, room: u16) -> Result<Chain, Fail> {
     let chain = make(alloc, 1, 0, room as usize)?.pop();
     Ok(chain.ok_or("no segment")?)
@@ -83,7 +84,7 @@ struct Watched {
 
 impl Read for Watched {
     fn read(&mut self, _buf: &mut [u8]) -> io::Result<usize> {
-        // Saturating here: no clause bounds it, and it stays small.
+        // Saturating here: no clause bounds it, and it is always small.
         self.calls = self.calls.saturating_add(1);
         Ok(0)
     }
@@ -101,7 +102,7 @@ impl Write for Watched {
     }
 }
 
-/// Copies with all memory taken: what the copy and the flush answer.
+/// Copies while all memory is taken: the results of the copy and the flush.
 fn copy_starved(
     rt: &impl Abort,
     alloc: Global,
@@ -140,7 +141,7 @@ fn copies_while_every_request_is_refused(rt: HostRuntime) -> Result<(), Fail> {
 }
 
 /// Reads a capture to its end by `head` and `body`: its heads and their bytes are those of the rows. A row without
-/// bytes stands for a record that is cut off. Answers whether the end is torn.
+/// bytes is for a record that is cut off. Returns whether the end is torn.
 fn stream_rows<R: Read>(
     rt: &impl Abort,
     reader: &mut Reader<R>,
@@ -180,7 +181,7 @@ fn stream_starved(
     Ok(torn?)
 }
 
-/// The head of a record, by its four numbers.
+/// The head of a record, from its four numbers.
 fn head(seconds: u32, fraction: u32, captured: u32, wire: u32) -> Head {
     Head {
         seconds,

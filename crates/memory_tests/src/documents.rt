@@ -10,8 +10,8 @@ const TEXT: &str =
     "buffers = 256\nbits = 16\n[[port]]\nmac = \"02:00:00:00:00:10\"\n[[route]]\nport = 0\n\
     to = \"02:00:00:00:00:20\"\nprefix = \"10.1.2.3/25\"\n";
 
-/// Reads, with one more piece of memory given back each time that it is refused: how often it was, and what was
-/// answered then.
+/// Reads, with one more piece of memory given back each time that it is refused: returns how often it was, and the last
+/// result.
 fn read_at_last(
     alloc: Global,
     text: &[u8],

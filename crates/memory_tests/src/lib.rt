@@ -1,5 +1,5 @@
-//! What is left where every request for memory is refused, and short callers of libraries. All of it is proved: memory
-//! can't be used up in a build without proofs, and a caller shows what contracts alone say.
+//! What works while every request for memory is refused, and short callers of libraries. All of it is proved: memory
+//! can't be used up in a build without proofs, and a caller shows what follows from contracts alone.
 #![tactic(auto)]
 
 pub mod callers;

@@ -13,10 +13,10 @@ use std::alloc::{AllocError, Global};
 use std::process::Abort;
 use std::test::Fail;
 
-/// More shares than a deck has memory for that was enough for the first.
+/// More shares than a deck has memory for when it had enough for the first.
 const MANY: u32 = 2000;
 
-/// The fresh segment, of 128 bytes of headroom and room for 64, of this number.
+/// The fresh segment with this number, with 128 bytes of headroom and room for 64.
 fn segment(alloc: Global, number: u32) -> Result<Chain, AllocError>
     requires { number < 65536 }
     ensures { IfOk result (λ chain. chain ≡ made 128 64 number ∷ []) }
@@ -25,7 +25,7 @@ fn segment(alloc: Global, number: u32) -> Result<Chain, AllocError>
     Ok(segments.swap_remove(number as usize))
 }
 
-/// The chain of both, one after the other.
+/// The chain of both, one after another.
 fn both(one: Chain, other: Chain) -> Result<Chain, Fail>
     requires apart { AreDistinct (numbers_of one ++ numbers_of other) }
     ensures { IfOk result (λ whole. whole ≡ one ++ other) }
@@ -89,7 +89,7 @@ fn shape(chain: &Chain) -> [usize; 3] {
     [chain.headroom(), chain.len(), chain.tailroom()]
 }
 
-/// Makes calls, each of which is to be answered so, and to leave a packet of this shape.
+/// Makes calls, each of which has to return this and leave a packet of this shape.
 fn go(rt: &impl Abort, chain: &mut Chain, rows: &[(Call, Result<(), ChainFault>, [usize; 3])]) {
     for (i, (next, answer, left)) in rows.iter().enumerate() {
         assert_eq!(rt; make_call(chain, *next), *answer, "row {i}");
@@ -107,19 +107,19 @@ fn number_of(chain: &Chain) -> Option<u32> {
     }
 }
 
-/// The two bytes from place `at` on.
+/// The two bytes from index `at` on.
 fn two_at(chain: &Chain, at: usize) -> Result<[u8; 2], ChainFault> {
     let mut two = [0; 2];
     chain.bytes(at, &mut two)?;
     Ok(two)
 }
 
-/// The bytes at these places.
+/// The bytes at these indexes.
 fn bytes_at(chain: &Chain, places: [usize; 2]) -> [Option<u8>; 2] {
     [chain.byte(places[0]), chain.byte(places[1])]
 }
 
-/// Releases share `id` into a list: how many segments come back.
+/// Releases share `id` into a list: how many segments are returned.
 fn released(deck: &mut Deck, id: u32) -> Result<usize, DeckFault> {
     let mut freed = Burst::new();
     deck.release_into(id, &mut freed)?;
@@ -141,8 +141,8 @@ fn copy_into(deck: &Deck, id: u32, chain: &mut Chain) -> Result<(), DeckFault> {
     deck.copy_into(id, chain)
 }
 
-/// Shares a chain in a deck without shares, with one more piece of memory given back each time that it is refused: how
-/// often it was, and the id.
+/// Shares a chain in a deck without shares, with one more piece of memory given back each time that it is refused:
+/// returns how often it was, and the id.
 fn share_at_last(deck: &mut Deck, mut chain: Chain, held: &mut Vec<Vec<u8>>) -> Option<(usize, u32)>
     requires { deck.old.live ≡ [] }
 {
@@ -157,7 +157,7 @@ fn share_at_last(deck: &mut Deck, mut chain: Chain, held: &mut Vec<Vec<u8>>) -> 
     None
 }
 
-/// Makes one more share, in the same way: how often memory was refused, each time with the shares as they were.
+/// Makes one more share, in the same way: returns how often memory was refused, each time with the shares unchanged.
 fn again_at_last(deck: &mut Deck, new: u32, held: &mut Vec<Vec<u8>>) -> Option<usize> {
     for refused in 0..held.len() {
         match again(deck, 0) {
@@ -173,11 +173,11 @@ fn again_at_last(deck: &mut Deck, new: u32, held: &mut Vec<Vec<u8>>) -> Option<u
     None
 }
 
-/// Makes shares up to `MANY`: how often memory was refused.
+/// Makes shares up to `MANY`: returns how often memory was refused.
 fn many_at_last(deck: &mut Deck, held: &mut Vec<Vec<u8>>) -> Option<usize> {
     let mut all = 0usize;
     for id in 1..MANY {
-        // Saturating here: no clause bounds it, and it stays small.
+        // Saturating here: no clause bounds it, and it is always small.
         all = all.saturating_add(again_at_last(deck, id, held)?);
     }
     Some(all)
@@ -200,7 +200,7 @@ fn is_as_it_was_without_memory(rt: HostRuntime) -> Result<(), Fail> {
     Ok(())
 }
 
-/// The calls of a packet that change its bytes, and those that look at them.
+/// The calls that change a packet's bytes, and those that look at them.
 fn changes(rt: &impl Abort, chain: &mut Chain) {
     let rows = [
         (Call::Append(&[9; 60]), Ok(()), [128, 60, 4]),
@@ -233,7 +233,7 @@ fn looks(rt: &impl Abort, chain: &Chain) {
     assert_eq!(rt; (chain.space(), chain.is_empty()), (64, false));
 }
 
-/// How many segments come apart of one.
+/// How many segments one chain is taken apart into.
 fn apart_of(one: Chain) -> usize
     requires { length one ≡ 1 }
 {
@@ -242,7 +242,7 @@ fn apart_of(one: Chain) -> usize
     apart.len()
 }
 
-/// Links two segments, and takes them apart again: how many come of the first, and whether there is another.
+/// Links two segments, and takes them apart again: how many the first has, and whether there is another.
 fn parts(one: Chain, other: Chain) -> Result<(usize, bool), Fail>
     requires { AreDistinct (numbers_of one ++ numbers_of other) }
 {
@@ -268,7 +268,7 @@ fn cuts_and_copies(rt: &impl Abort, deck: &mut Deck, target: &mut Chain) {
     assert_eq!(rt; released(deck, 0), Ok(1));
 }
 
-/// Every request is refused, and the calls of packets and decks that make none go on.
+/// Every request is refused, and the calls on packets and decks that make none work.
 #[test]
 fn goes_on_without_memory(rt: HostRuntime) -> Result<(), Fail> {
     let mut deck = deck_of(rt.alloc(), three_bytes(rt.alloc())?)?;

@@ -11,10 +11,10 @@ use std::sync::Wait;
 use std::test::Fail;
 use std::thread::Threads;
 
-/// How many bytes a `Sheet` has: more than the replies of a test's file.
+/// The size of a `Sheet` in bytes: more than the replies to a test's file.
 const SHEET: usize = 32_768;
 
-/// What was written, in a room that was there before.
+/// What was written, in memory that was there before.
 #[derive(Drop)]
 struct Sheet {
     bytes: [u8; SHEET],
@@ -59,7 +59,7 @@ fn words_of(alloc: Global, words: &[&str]) -> Result<Vec<String>, AllocError> {
     Ok(texts)
 }
 
-/// Runs the program on sheets that were blank, and returns its status.
+/// Runs the program on blank sheets, and returns its status.
 fn go<R: Files + AllocGlobal + Threads + Wait + Sync>(
     rt: &R,
     words: &[String],
@@ -74,17 +74,17 @@ where
     program(rt, rt, words, b"".as_slice(), out, err)
 }
 
-/// What a file has in front of its questions, and the replies to that.
+/// What a file has before its questions, and the replies to that.
 const PUT: &str =
     "ring power 4 multi\nactors 1\ngive 0 0\n0 look 0 put\n0 room 0 put\n0 reserve 0 put bulk 1\n0 settle 0 put b0\n";
 
 const HAS_PUT: &str = "seen 0\nseen 0\ngranted 0 1 left 2\ndone 1\n";
 
-/// How many questions it asks, whose answers are longer than they are, so that replies grow when the file is read.
+/// How many questions it asks. Their replies are longer than they are, so the replies grow as the file is read.
 const QUESTIONS: usize = 2000;
 
-/// Runs the program with more memory each time, until it is enough: whether it ever told a part of the replies and then
-/// that memory was refused. What it told each time is a beginning of the replies.
+/// Runs the program with more memory each time, until it is enough: whether it ever printed a part of the replies and
+/// then that memory was refused. What it printed each time is a prefix of the replies.
 fn run_at_last<R: Abort + Files + AllocGlobal + Threads + Wait + Sync>(
     rt: &R,
     words: &[String],
@@ -109,7 +109,7 @@ where
     None
 }
 
-/// From no memory at all, which the reading of the command line already lacks, up to enough.
+/// From no memory at all, which isn't enough even to read the command line, up to enough.
 #[test]
 fn a_beginning_of_the_replies(rt: HostRuntime) -> Result<(), Fail> {
     let name = "pktkit_a_beginning_of_the_replies.steps";

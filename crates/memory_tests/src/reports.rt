@@ -5,8 +5,8 @@ use crate::memory::taken;
 use std::alloc::Global;
 use std::test::Fail;
 
-/// Reports, with one more piece of memory given back after each time that it is refused: how often it was, each time
-/// with the text as it was.
+/// Reports, with one more piece of memory given back after each time that it is refused: returns how often it was, each
+/// time with the text unchanged.
 fn refusals(alloc: Global, held: &mut Vec<Vec<u8>>, text: &mut Vec<u8>) -> Option<usize> {
     let (counts, before) = (two_verdicts(), text.len());
     for refused in 0..held.len() {

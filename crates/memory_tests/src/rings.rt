@@ -1,4 +1,4 @@
-//! The ring of one thread (ringcore).
+//! The ring for one thread (ringcore).
 
 use crate::memory::taken;
 use geom::{Geometry, How};
@@ -17,14 +17,14 @@ fn list(alloc: Global, items: &[u32]) -> Result<VecDeque<u32>, AllocError> {
     Ok(all)
 }
 
-/// A ring of these items' kind, of five at most.
+/// A ring for such items, at most five.
 fn of_five(alloc: Global) -> Result<OneRing<u32>, Fail> {
     let geometry = Geometry::exact(5).ok().ok_or("exact 5")?;
     let ring = OneRing::new(alloc, geometry)?;
     Ok(ring)
 }
 
-/// As the ring's call, without its clauses: what it answers a test sees as it runs.
+/// The ring's call, without its clauses: the test checks its result as it runs.
 fn put(ring: &mut OneRing<u32>, how: How, items: &mut VecDeque<u32>) -> Moved {
     ring.put(how, items)
 }
@@ -65,7 +65,7 @@ fn take_six(
     Ok(())
 }
 
-/// Every request for memory is refused once the ring, its items and the list that takes them are there.
+/// Every request for memory is refused once the ring, its items and the list that they go to exist.
 #[test]
 fn goes_on_without_memory(rt: HostRuntime) -> Result<(), Fail> {
     let mut items = list(rt.alloc(), &[1, 2, 3, 4, 5, 6])?;

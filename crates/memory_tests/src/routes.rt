@@ -6,13 +6,13 @@ use lpm::{NextHop, RouteFault, Table};
 use std::process::Abort;
 use std::test::Fail;
 
-/// The address that each route of these tests holds.
+/// The address that each route of these tests covers.
 const ADDR: u32 = 0x0a01_0203;
 
-/// How many addresses a burst has.
+/// The number of addresses of a burst.
 const BURST: usize = 4;
 
-/// As the table's call, without its contract: a test sees the answer when it runs.
+/// The table's call, without its contract: the test checks its result as it runs.
 fn add(table: &mut Table, addr: u32, depth: u8, hop: u32) -> Result<(), RouteFault> {
     table.add(addr, depth, hop)
 }
@@ -27,7 +27,7 @@ fn lookup(table: &Table, addr: u32) -> Option<u32> {
     table.lookup(addr)
 }
 
-/// Looks an address up, alone, in a burst of its own and by the entries.
+/// Looks an address up: alone, in a burst of its own, and by the entries.
 fn look_up(rt: &impl Abort, table: &Table, addr: u32, expected: Option<u32>) {
     let mut hops = [NextHop::none(); BURST];
     table.lookup_bulk(&[addr; BURST], &mut hops);
@@ -40,8 +40,8 @@ fn look_up(rt: &impl Abort, table: &Table, addr: u32, expected: Option<u32>) {
     assert_eq!(rt; read(table, addr), expected, "entry of {addr:08x}");
 }
 
-/// Adds a route, with one more piece of memory given back each time that it is refused: how often it was, each time
-/// with the table as it was.
+/// Adds a route, with one more piece of memory given back each time that it is refused: returns how often it was, each
+/// time with the table unchanged.
 fn add_at_last(
     rt: &impl Abort,
     table: &mut Table,
@@ -62,13 +62,13 @@ fn add_at_last(
     0
 }
 
-/// Adds routes of depths 9 to 32, of which each holds the address: how often memory was refused.
+/// Adds routes of depths 9 to 32, each of which covers the address: returns how often memory was refused.
 fn add_depths(rt: &impl Abort, table: &mut Table, held: &mut Vec<Vec<u8>>) -> usize {
     let mut all = 0usize;
     for hop in 1..25 {
         let refused = add_at_last(rt, table, (ADDR, 8 + hop as u8, hop), held);
         assert_eq!(rt; lookup(table, ADDR), Some(hop), "hop {hop}");
-        // Saturating here: no clause bounds it, and it stays small.
+        // Saturating here: no clause bounds it, and it is always small.
         all = all.saturating_add(refused);
     }
     all
@@ -84,7 +84,7 @@ fn is_as_it_was_without_memory(rt: HostRuntime) -> Result<(), Fail> {
     Ok(())
 }
 
-/// The greatest of the depths up to `depth` that are there, which is the hop as well.
+/// The greatest of the existing depths up to `depth`, which is the hop as well.
 fn deepest(there: &[bool; 33], depth: u8) -> Option<u32> {
     let mut found = None;
     for (i, there) in there.iter().enumerate() {
@@ -96,7 +96,7 @@ fn deepest(there: &[bool; 33], depth: u8) -> Option<u32> {
 }
 
 /// Adds what may be added without memory to the routes that are `there`, and removes all of them again: lookups and
-/// bursts tell the deepest that is left.
+/// bursts return the deepest that is left.
 fn take_apart(rt: &impl Abort, table: &mut Table, there: &mut [bool; 33]) {
     for depth in 1..33 {
         if !there[depth as usize] {
@@ -111,8 +111,8 @@ fn take_apart(rt: &impl Abort, table: &mut Table, there: &mut [bool; 33]) {
     look_up(rt, table, ADDR, None);
 }
 
-/// Every request for memory is refused once each second depth has its route: lookups, bursts and removals go on, since
-/// they make none.
+/// Every request for memory is refused once every second depth has its route: lookups, bursts and removals still work,
+/// since they make none.
 #[test]
 fn goes_on_without_memory(rt: HostRuntime) -> Result<(), Fail> {
     let mut table = Table::new(rt.alloc(), 16, 8)?;

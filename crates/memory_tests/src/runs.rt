@@ -20,12 +20,12 @@ const TWO_PORTS: &str =
     mac = \"02:00:00:00:00:11\"\n[[route]]\nprefix = \"10.0.0.0/16\"\nport = 0\nto = \"02:00:00:00:00:20\"\n[[route]]\n\
     prefix = \"10.1.0.0/16\"\nport = 1\nto = \"02:00:00:00:00:21\"\n";
 
-/// The header of a little-endian capture of microseconds, and that of a file that is written for it.
+/// The header of a little-endian microsecond capture, and that of a file that is written for it.
 const MICRO: [u8; 24] = [
     0xd4, 0xc3, 0xb2, 0xa1, 2, 0, 4, 0, 0, 0, 0, 0, 0, 0, 0, 0, 0, 0, 4, 0, 1, 0, 0, 0,
 ];
 
-/// The frames of a capture, and as the two ports get them: to 10.0.2.3 and 10.1.2.3, with a time to live of one less.
+/// The frames of a capture, and as the two ports receive them: to 10.0.2.3 and 10.1.2.3, with a time to live one less.
 const FRAMES: [[u8; 34]; 2] = [
     [
         0, 0, 0, 0, 0, 0, 0, 0, 0, 0, 0, 0, 8, 0, 0x45, 0, 0, 0x14, 0, 0, 0, 0, 0x40, 0x11, 0x64,
@@ -60,7 +60,7 @@ fn capture(alloc: Global, frames: &[[u8; 34]]) -> Result<Vec<u8>, AllocError> {
     Ok(file)
 }
 
-/// A capture, and the bytes that each port has to get from it.
+/// A capture, and the bytes that each port has to receive from it.
 #[derive(Drop)]
 struct Case {
     capture: Vec<u8>,
@@ -80,12 +80,12 @@ fn three_records(alloc: Global) -> Result<Case, AllocError> {
     })
 }
 
-/// A port that keeps no bytes, so it takes no memory: it looks whether they are those that it waits for.
+/// A port that keeps no bytes, so it takes no memory: it compares them with those that it expects.
 #[derive(Drop)]
 struct Port<'a> {
-    /// What it still waits for.
+    /// What it still expects.
     rest: &'a [u8],
-    /// Whether other bytes came.
+    /// Whether different bytes came.
     wrong: bool,
 }
 
@@ -103,15 +103,15 @@ impl Write for Port<'_> {
     }
 }
 
-/// What a run left.
+/// The outcome of a run.
 #[derive(Drop)]
 struct Left {
     answer: Result<Summary, RunFault>,
-    /// How often devices failed.
+    /// How many times devices failed.
     failures: u64,
-    /// Whether a port got anything other than a beginning of what it waits for.
+    /// Whether a port received anything other than a prefix of what it expects.
     wrong: bool,
-    /// Whether each port got everything.
+    /// Whether each port received everything.
     whole: bool,
 }
 
@@ -154,7 +154,7 @@ fn run<R: Abort + AllocGlobal + Threads + Wait + Sync>(
     Ok(left)
 }
 
-/// Tests a run without a fault: each port got everything, and so many records were counted.
+/// Tests a run without a fault: each port received everything, and `records` records were counted.
 fn is_whole<R: Abort>(rt: &R, left: &Left, records: u64, torn: bool) {
     assert!(rt; left.whole && !left.wrong);
     match &left.answer {
@@ -183,7 +183,7 @@ impl Read for Greedy<'_> {
     }
 }
 
-/// Tests a run that was refused memory: each port has a beginning, and no device failed.
+/// Tests a run that was refused memory: each port has a prefix, and no device failed.
 fn is_refused(rt: &impl Abort, left: &Left, workers: usize) {
     assert_eq!(rt; (left.wrong, left.failures), (false, 0));
     match &left.answer {
@@ -195,8 +195,8 @@ fn is_refused(rt: &impl Abort, left: &Left, workers: usize) {
     }
 }
 
-/// Runs over a case, with one more piece of memory given back each time that it is refused: how often it was, each
-/// time with a beginning at each port and no device that failed, and what the first run with enough of it left.
+/// Runs over a case, with one more piece of memory given back each time that it is refused: returns how often it was,
+/// each time with a prefix at each port and no device that failed, and the outcome of the first run with enough memory.
 fn run_at_last<R: Abort + AllocGlobal + Threads + Wait + Sync>(
     rt: &R,
     settings: &Settings,
@@ -213,7 +213,7 @@ fn run_at_last<R: Abort + AllocGlobal + Threads + Wait + Sync>(
                 return (refused, Some(left));
             }
             is_refused(rt, &left, workers);
-            // Saturating here: no clause bounds it, and it stays small.
+            // Saturating here: no clause bounds it, and it is always small.
             refused = refused.saturating_add(1);
         }
         held.pop();
@@ -248,7 +248,7 @@ fn threads_tell_memory_until_there_is_enough(rt: HostRuntime) -> Result<(), Fail
     has_memory_at_last(&rt, 2)
 }
 
-/// There is memory for the input's buffer, and then none: no thread was asked for yet.
+/// There is memory for the input's buffer, and then none: no thread has been requested yet.
 #[test]
 fn memory_is_not_told_as_a_thread(rt: HostRuntime) -> Result<(), Fail> {
     let settings = Settings::read(rt.alloc(), TWO_PORTS.as_bytes())?;

@@ -21,12 +21,12 @@ use std::test::Fail;
 #[derive(Drop)]
 struct Ticket {
     number: Box<u32>,
-    /// How often it was moved.
+    /// How many times it was moved.
     load: u64,
 }
 
 impl Ticket {
-    /// A ticket with this number that was not moved yet. It takes memory for the number.
+    /// A ticket with this number that hasn't been moved yet. Takes memory for the number.
     fn new(alloc: Global, number: u32) -> Result<Ticket, AllocError> {
         Ok(Ticket {
             number: Box::new(alloc, number)?,
@@ -45,24 +45,24 @@ impl Tagged for Ticket {
     }
 }
 
-/// The most items of a call: a cache needs 64 places and its threshold.
+/// The maximum number of items of a call: a cache needs 64 places and its threshold.
 const MOST: usize = 72;
 
 type Rings = Fabric<Ticket, MOST>;
 
 type Items = Burst<Ticket, MOST>;
 
-/// How many buffers there are.
+/// The number of buffers.
 const BUFFERS: u32 = 6;
 
-/// A free ring for all buffers, and two rings that take any items.
+/// A free ring for all buffers, and two rings for any items.
 const POOL: usize = 0;
 
 const FIRST: usize = 1;
 
 const SECOND: usize = 2;
 
-/// So many rings, each for so many items; the second is a free ring.
+/// `count` rings, each for `capacity` items; the second is a free ring.
 fn plans(alloc: Global, capacity: u64, count: usize) -> Option<Vec<RingPlan>> {
     let geometry = Geometry::exact(capacity).ok()?;
     let mut rings = Vec::new(alloc);
@@ -79,7 +79,7 @@ fn plans(alloc: Global, capacity: u64, count: usize) -> Option<Vec<RingPlan>> {
     Some(rings)
 }
 
-/// Tickets of these numbers.
+/// Tickets with these numbers.
 fn tickets(alloc: Global, numbers: &[u32]) -> Option<Vec<Ticket>> {
     let mut made = Vec::new(alloc);
     for number in numbers {
@@ -88,7 +88,7 @@ fn tickets(alloc: Global, numbers: &[u32]) -> Option<Vec<Ticket>> {
     Some(made)
 }
 
-/// The plans of a free ring and of two rings that take any items, each for all buffers.
+/// The plans of a free ring and of two rings for any items, each with room for all buffers.
 fn planned(alloc: Global, modes: (Mode, Mode)) -> Result<Vec<RingPlan>, Fail>
     ensures { IfOk result (λ r. 2 < length r.items) }
 {
@@ -118,7 +118,7 @@ fn planned(alloc: Global, modes: (Mode, Mode)) -> Result<Vec<RingPlan>, Fail>
     Ok(rings)
 }
 
-/// Empty rings of these modes, a hand that has all buffers, and their tickets, in order.
+/// Empty rings with these modes, a hand that has all buffers, and their tickets, in order.
 fn opened(alloc: Global, modes: (Mode, Mode)) -> Result<Opened<Ticket, MOST>, Fail>
     ensures { IfOk result (λ o. IsHandOf o.fabric o.hand × (2 < length (rings_of o.fabric))) }
 {
@@ -133,7 +133,7 @@ fn opened(alloc: Global, modes: (Mode, Mode)) -> Result<Opened<Ticket, MOST>, Fa
     }
 }
 
-/// A second hand beside the first.
+/// A second hand besides the first.
 fn split(
     f: &Rings,
     alloc: Global,
@@ -168,7 +168,7 @@ fn stocked(f: &Rings, hand: Hand<Ticket>, tickets: Vec<Ticket>) -> Result<Hand<T
     )
 }
 
-/// Whether a list has tickets of just these numbers, in order.
+/// Whether a list has tickets with exactly these numbers, in order.
 fn shows(list: &Items, numbers: &[u32]) -> bool {
     if list.len() != numbers.len() {
         return false;
@@ -182,7 +182,8 @@ fn shows(list: &Items, numbers: &[u32]) -> bool {
     true
 }
 
-/// Every call that takes no memory: spans, whole calls, peeks and a cache. The items are on the free ring again then.
+/// Every call that takes no memory: spans, whole calls, peeks and a cache. Afterwards the items are on the free ring
+/// again.
 fn all_calls<R: Wait>(
     rt: &R,
     f: &Rings,
@@ -220,8 +221,8 @@ fn starved<R: Wait>(
     hand
 }
 
-/// Whether all hands are joined, and the free ring gives all items. All calls keep their order, but those of the cache:
-/// of 0 to 5 it gives 0, 1 and 2 and keeps 3 and 4; then 2, 1 and 5, the newest of its own first, and keeps 3 and 4
+/// Whether all hands are joined, and the free ring returns all items. All calls keep their order, except those of the
+/// cache: from 0 to 5 it returns 0, 1 and 2 and keeps 3 and 4; then 2, 1 and 5, its own newest first, and keeps 3 and 4
 /// again.
 fn has_all<R: Wait>(rt: &R, f: &Rings, hand: Hand<Ticket>) -> Result<bool, Wrong>
     requires hand { IsHandOf f.now hand }
@@ -233,7 +234,7 @@ fn has_all<R: Wait>(rt: &R, f: &Rings, hand: Hand<Ticket>) -> Result<bool, Wrong
     Ok(whole && shows(&list, &[0, 3, 4, 2, 1, 5]))
 }
 
-/// Every request for memory is refused once the rings are there and their hand is split.
+/// Every request for memory is refused once the rings exist and their hand is split.
 fn goes_on<R: Wait>(rt: &R, alloc: Global, modes: (Mode, Mode)) -> Result<bool, Fail> {
     let Opened {
         fabric,

@@ -5,7 +5,7 @@ use reorder::{InsertFault, Window};
 use std::process::Abort;
 use std::test::Fail;
 
-/// A call of a window, and last what it has to answer; of an insert, why the item comes back.
+/// A call on a window, with the expected result last; for an insert, why the item is handed back.
 #[derive(Clone, Copy)]
 enum Call {
     Insert(u64, char, Option<InsertFault>),
@@ -14,7 +14,7 @@ enum Call {
     Next(u64),
 }
 
-/// As the window's call, without its clauses.
+/// The window's call, without its clauses.
 fn insert(window: &mut Window<char>, seq: u64, item: char) -> Result<(), (char, InsertFault)> {
     window.insert(seq, item)
 }
@@ -36,7 +36,7 @@ fn go(rt: &impl Abort, window: &mut Window<char>, calls: &[Call]) {
     }
 }
 
-/// Inserts, refusals, pops and a slide of a fresh window of four numbers.
+/// Inserts, errors, pops and a slide of a fresh window of four numbers.
 fn goes_through(rt: &impl Abort, window: &mut Window<char>) {
     let calls = [
         Call::Insert(1, 'b', None),

@@ -8,7 +8,7 @@ use std::alloc::{AllocError, Global};
 use std::mem::replace;
 use std::test::Fail;
 
-/// A world of one ring of 4 slots and two actors, of which the first has buffers 0 and 1.
+/// A world of one ring of 4 slots and two actors, the first of which has buffers 0 and 1.
 fn opened(alloc: Global) -> Result<World, Fail> {
     let geometry = Geometry::power(4).ok().ok_or("power 4")?;
     let mut rings = Vec::new(alloc);
@@ -26,7 +26,7 @@ fn opened(alloc: Global) -> Result<World, Fail> {
 /// The kind of a reply and its numbers. Its items are left out.
 type Told = (&'static str, [u64; 3]);
 
-/// What stands for replies that no row has.
+/// The value for replies that no row has.
 const ANOTHER: Told = ("another", [0; 3]);
 
 fn told(reply: &Reply) -> Told {
@@ -39,7 +39,7 @@ fn told(reply: &Reply) -> Told {
     }
 }
 
-/// What is compared of one step.
+/// The part of a step's reply that is compared.
 fn step(world: &mut World, actor: usize, step: Step) -> Result<Told, AllocError> {
     if !world.has(actor, &step) {
         return Ok(ANOTHER);
@@ -48,17 +48,17 @@ fn step(world: &mut World, actor: usize, step: Step) -> Result<Told, AllocError>
     Ok(told(&reply))
 }
 
-/// An actor, its step, and what its reply has to be.
+/// An actor, its step, and the expected reply.
 type Row = (usize, Step, Told);
 
-/// Makes the steps up to the first with another reply, and returns how many had the right one.
+/// Makes the steps up to the first with a different reply, and returns how many had the right one.
 fn go(world: &mut World, rows: &mut [Row]) -> Result<usize, AllocError> {
     let mut count = 0usize;
     for (actor, next, wanted) in rows {
         if step(world, *actor, replace(next, LOOK))? != *wanted {
             return Ok(count);
         }
-        // Saturating here: no clause bounds it, and it stays small.
+        // Saturating here: no clause bounds it, and it is always small.
         count = count.saturating_add(1);
     }
     Ok(count)
@@ -74,7 +74,7 @@ fn granted(start: u64, count: u64, left: u64) -> Told {
     ("granted", [start, count, left])
 }
 
-/// A buffer as the one item of a list.
+/// A buffer as the only item of a list.
 fn buffer(alloc: Global, b: u64) -> Result<Items, AllocError> {
     let mut numbers = Vec::new(alloc);
     numbers.push(b)?;
@@ -109,7 +109,7 @@ fn put_one(world: &mut World, item: Items) -> Result<usize, AllocError> {
     go(world, &mut rows)
 }
 
-/// A put of the buffer that stands on the ring.
+/// A put of the buffer that is on the ring.
 fn put_twice(world: &mut World, twice: Items) -> Result<usize, AllocError> {
     let mut rows = [
         (0, LOOK, seen(pack(1, 0))),
@@ -120,8 +120,8 @@ fn put_twice(world: &mut World, twice: Items) -> Result<usize, AllocError> {
     go(world, &mut rows)
 }
 
-/// Lists that are known and unknown, looks, reserves, a put that is settled, one that is refused, a stash and its end,
-/// and places: whether the replies are those of the rows.
+/// Lists that are known and unknown, looks, reserves, a put that is settled, one that is refused, a stash and an
+/// unstash, and places: whether the replies are those of the rows.
 fn goes_on(world: &mut World, item: Items, twice: Items) -> Result<bool, AllocError> {
     let known = [(0, LOOK), (1, ROOM)];
     let unknown = [(0, LOOK), (2, LOOK)];

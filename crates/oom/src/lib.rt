@@ -1,22 +1,22 @@
-//! All memory that a process can get, taken by a test, so that every request that follows is refused. For tests alone.
+//! Takes all memory that a process can get, so that every later request in a test is refused. For tests alone.
 #![tactic(auto)]
 
 use std::alloc::{AllocError, Global};
 
-/// More pieces than all are: the addresses of a process, by pieces of at most the memory of the machine.
+/// More than the number of pieces there can be: a process's addresses, in pieces of at most the machine's memory.
 const PIECES: usize = 262_144;
 
-/// A piece that no process gets, and how often it is halved until pieces are small.
+/// A piece that no process gets; it is halved until pieces are small.
 const MAX_REQUEST: usize = 1 << 47;
 
 const HALVINGS: usize = 37;
 
-/// Pieces up to this size are asked for byte by byte, since an allocator keeps small ones that came back for requests
-/// of their own size.
+/// Pieces up to this size are requested byte by byte, since an allocator keeps small freed pieces for requests of their
+/// own size.
 const SMALL: usize = 2_048;
 
-/// Takes all memory until the answer is dropped. Nothing is written there, so it is addresses that run out, of this
-/// process alone. `None` where requests are served none the less, as in the checked build of `rt try`.
+/// Takes all memory until the result is dropped. Nothing is written there, so what runs out is this process's own
+/// addresses. Returns `None` if requests are still served, as in the checked build of `rt try`.
 pub fn exhaust_memory(alloc: Global) -> Result<Option<Vec<Vec<u8>>>, AllocError> {
     let mut held = Vec::with_capacity(alloc, PIECES)?;
     let mut size = MAX_REQUEST;
@@ -49,15 +49,15 @@ pub fn refuses(alloc: Global) -> bool {
         .all(|size| Vec::<u8>::with_capacity(alloc, *size).is_err())
 }
 
-/// Writes to a mebibyte of the stack, which is more than a test needs: it can't grow any more once all memory is taken.
-/// Gives what was written.
+/// Writes to a mebibyte of the stack, which is more than a test needs: the stack can't grow once all memory is taken.
+/// Returns what was written.
 #[inline(never)]
 pub fn grow_stack() -> u8 {
     let mut room = [[0u8; 65_536]; 16];
     touch(&mut room)
 }
 
-/// Writes to each of these bytes, and gives the last.
+/// Writes to each of these bytes, and returns the last.
 #[inline(never)]
 fn touch(room: &mut [[u8; 65_536]]) -> u8 {
     let mut last = 0u8;

@@ -14,7 +14,7 @@ use Rattle.pcapio.specs.Copy.{fitting, copied_text, IfEnded, StopsBy, ExplainsRe
 use Rattle.pcapio.specs.Reader.{Refuses}
 use Rattle.pcapio.proofs.Begins.{begins_self, begins-more, begins-after}
 
--- a device that was told nothing was told a beginning
+-- a device to which nothing was written has received a prefix
 pub untold : (a told : Option (List ℕ)) (space : ℕ)
     → IfSome a (λ bytes. (order : ByteOrder) (resolution : Resolution) (packets : List Packet) (end : End) → HasHeader bytes order resolution
     → AreRecords order (drop 24 bytes) packets end → Begins told (append_known told (file_text resolution (fitting space packets))))
@@ -76,7 +76,7 @@ bad-captured order resolution (Some x) rest header behind bad =
     let found = subst Q behind bad in
     record { order = order; resolution = resolution; packets = found.0; header = header; records = found.1 }
 
--- why a copy stopped, of the records and of the file
+-- why a copy stopped, for the records and for the file
 pub stopped : (fault : CapFault) (a : Option (List ℕ)) (B F V G W : Type 0) → StopsBy fault B F V → (B → IfSome a (λ known. IsRefused known BadRecord))
     → (F → G) → (V → W)
     → ExplainsRefusal fault a G W
@@ -97,7 +97,7 @@ not_opened Read a F W h = h
 not_opened Write a F W h = absurd h
 not_opened Memory a F W h = tt
 
--- the same of what a copy answered
+-- the same for the result of a copy
 pub ended-captured : {E : Type 0} (answer : Result (Option Bool) E) (space : ℕ) (order : ByteOrder) (resolution said : Resolution)
     (a rest old text new : Option (List ℕ))
     → said ≡ resolution → IfSome a (λ bytes. HasHeader bytes order resolution) → IfSome a (λ bytes. rest ≡ Some (drop 24 bytes))

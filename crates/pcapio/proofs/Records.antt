@@ -54,7 +54,7 @@ ends-short order (Some x) None xs k h e = absurd k
 ends-short order (Some x) (Some y) xs k h e =
     subst (λ bytes. EndsSo order (Some bytes) (nat_lt 0 (length xs))) (sym (append-nil xs) ∙ (ap (λ l. xs ++ l) (sym e) ∙ k)) (short_end order xs h)
 
--- a field of the header, where the text goes on with other bytes
+-- a field of the header, if the bytes continue with others
 field-header : (order : ByteOrder) (offset : ℕ) (xs ys : List ℕ) → 16 ≤ length xs → offset + 4 ≤ 16
     → field order offset (take 16 xs ++ ys) ≡ field order offset xs
 field-header order offset xs ys whole h =

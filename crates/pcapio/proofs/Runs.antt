@@ -1,4 +1,4 @@
--- Records taken one after the other.
+-- Records taken one after another.
 use Rattle.std.proofs.Common.{◌≡◌, if◌then◌else◌, ℕ, ◌+◌, ◌-◌, ◌^◌, ◌<◌, ◌≤◌, List, [], ◌∷◌, ◌++◌, Bool, Option, Some, None, IfSome, IfNone, nat_le, Result, Ok}
 use Rattle.std.proofs.Common.{Err, IfErr, IsErrAnd, min, refl, sym, ap, ◌∙◌, subst, append_assoc, append-nil, length, length-append, map, arith}
 use Rattle.std.proofs.lemmas.Bool.{le-leb, lt-leb}
@@ -40,7 +40,7 @@ took order (Some x) (Some y) packet more end t h = (t.0, y, t.1, t.2, h)
 pub one_stands : (order : ByteOrder) (a b : Option (List ℕ)) (packet : Packet) → TakesRecord order a b packet → Stand order a b (packet ∷ [])
 one_stands order a b packet t more end h = took order a b packet more end t h
 
--- those of one step behind those of the steps before
+-- those of one step after those of the steps before
 pub more-stand : (order now : ByteOrder) (a b c : Option (List ℕ)) (packets others : List Packet) → now ≡ order → Stand order a b packets → Stand now b c others
     → Stand order a c (packets ++ others)
 more-stand order now a b c packets others same s t more end h =
@@ -117,7 +117,7 @@ prefix order x (Some y) packets all e s r =
     let found = exists order (length y) y (omega arith) in
     (found.0, (one order all (packets ++ found.0) x e found.1 r (s found.0 found.1 found.2)).0)
 
--- where n were taken, there are not fewer
+-- if n were taken, there are at least as many
 pub as_many : (order : ByteOrder) (a b : Option (List ℕ)) (packets : List Packet) (n : ℕ) → Stand order a b packets → n ≤ length packets
     → IfSome a (λ bytes. (all : List Packet) × (e : End) × AreRecords order bytes all e × (n ≤ length all))
 as_many order None b packets n s h = tt
@@ -131,7 +131,7 @@ begins-same told None new bs p h = ([], tt)
 begins-same told (Some x) None bs p h = absurd p
 begins-same told (Some x) (Some y) bs p h = subst (λ l. Begins told (Some l)) p h
 
--- what was told of the packets so far is a beginning of what all would be
+-- what was written for the packets so far is a prefix of what all would write
 pub begins-all : (space : ℕ) (order : ByteOrder) (a b told old new : Option (List ℕ)) (packets : List Packet) → Stand order a b packets
     → Appends old new (copied_text space packets) → Begins told new
     → IfSome a (λ bytes. (all : List Packet) (e : End) → AreRecords order bytes all e → Begins told (append_known old (copied_text space all)))
@@ -174,7 +174,7 @@ stops-one Memory B F G V W h f w = h
 pub failed-later : (a b c : ℕ) → b ≡ a → c ≡ min (b + 1) (2 ^ 64 - 1) → c ≡ min (a + 1) (2 ^ 64 - 1)
 failed-later a b c same failed = failed ∙ ap (λ n. min (n + 1) (2 ^ 64 - 1)) same
 
--- one step behind those before, where the chain's space is as it was
+-- one step after those before, if the chain's space is unchanged
 pub written-on : (space here : ℕ) (a b c : Option (List ℕ)) (packets others : List Packet) → here ≡ space → Appends a b (copied_text space packets)
     → Appends b c (copied_text here others) → Appends a c (copied_text space (packets ++ others))
 written-on space here a b c packets others same p q =
@@ -190,7 +190,7 @@ begins-on space here order now a b c after told old text packets others same ali
     (written-more space old text _ packets others w (Appends-self text (copied_text space others)))
     (subst (λ n. Begins told (append_known text (copied_text n others))) same h)
 
--- what was told of what was put
+-- what has been written of what was put
 pub part-told : (space : ℕ) (order : ByteOrder) (a told part old : Option (List ℕ)) → Begins told part
     → IfSome a (λ bytes. (all : List Packet) (e : End) → AreRecords order bytes all e → Begins part (append_known old (copied_text space all)))
     → IfSome a (λ bytes. (all : List Packet) (e : End) → AreRecords order bytes all e → Begins told (append_known old (copied_text space all)))

@@ -1,4 +1,4 @@
--- The bytes of a buffer from a start to an end, after a step of the start or a write behind the end.
+-- The bytes of a buffer from a start to an end, after a step of the start or a write after the end.
 use Rattle.std.proofs.Common.{◌≡◌, ℕ, ◌+◌, ◌-◌, ◌≤◌, List, ◌++◌, length, take, drop, slice_range, Option, Some, None, refl, sym, ap, ◌∙◌, arith, append_assoc}
 use Rattle.std.proofs.Common.{take-append-drop, subst}
 use Rattle.std.proofs.lemmas.List.{drop-take, drop-drop, take_at, drop_at, take-append-le, length-take-le}
@@ -33,7 +33,7 @@ pub kept : (xs ys : List ℕ) (start end : ℕ) → start ≤ end → take end y
     → slice_range ys start end ≡ slice_range xs start end
 kept xs ys start end ordered same = behind ys start end ordered ∙ ap (drop start) same ∙ sym (behind xs start end ordered)
 
--- what stands behind the read bytes came from the device
+-- what comes after the read bytes came from the device
 pub prepend_known-grown : (a b : Option (List ℕ)) (old new more : List ℕ) → new ≡ old ++ more → Consumes a b more
     → Keeps (prepend_known old a) (prepend_known new b)
 prepend_known-grown None b old new more e h = tt
@@ -47,7 +47,7 @@ prepend_known-same None b old new e h = tt
 prepend_known-same (Some x) None old new e h = absurd h
 prepend_known-same (Some x) (Some y) old new e h = ap (λ l. l ++ y) e ∙ ap (λ l. old ++ l) h
 
--- what is given from the front is taken from what is unread
+-- what is returned from the front is taken from what is unread
 pub prepend_known-dropped : (a : Option (List ℕ)) (xs ys : List ℕ) (n : ℕ) → ys ≡ drop n xs
     → Consumes (prepend_known xs a) (prepend_known ys a) (take n xs)
 prepend_known-dropped None xs ys n e = tt
@@ -60,7 +60,7 @@ kept-Consumes (Some x) None c bs p q = absurd p
 kept-Consumes (Some x) (Some y) None bs p q = absurd q
 kept-Consumes (Some x) (Some y) (Some z) bs p q = sym p ∙ q
 
--- what was read behind the first bytes
+-- what was read after the first bytes
 pub read_more : (a b c : Option (List ℕ)) (xs ys : List ℕ) (at k n : ℕ) → at ≤ length xs → n ≤ length ys
     → Consumes a b (take at xs) → Consumes b c (take n ys) → Consumes a c (take (at + n) (put_mid at k xs ys))
 read_more a b c xs ys at k n within fits p q =

@@ -1,4 +1,4 @@
--- A fact for one answer of a call that tells whether all bytes were there.
+-- A fact for one result of a call that returns whether all bytes were there.
 use Rattle.std.specs.Prelude.{◌≡◌, Bool, true, false, Result, IfOk}
 
 abbrev pub OnAll : {E : Type 0} → Result Bool E → Type 0 → Type 0

@@ -10,12 +10,12 @@ use Rattle.pcapio.specs.declared.reader.Reader.{Reader}
 use Rattle.pcapio.specs.declared.record.Record.{Record}
 
 module _ {R : Type 0} (remaining : R → Option (List ℕ)) where
-  -- behind those that there were stand all records that were to come, and this is how the file ends
+  -- after the existing records come all remaining ones, and this is how the file ends
   abbrev pub Collects : Reader R → List Record → List Record → Bool → Type 0
   Collects r old new torn = (given : List Record) × (new ≡ old ++ given)
       × IfSome (rest remaining r) (λ bytes. AreRecords r.order bytes (map view given) (end_of torn))
 
-  -- behind those that there were stand the first of the records that were to come
+  -- after the existing records come the first of the remaining ones
   abbrev pub CollectsPart : Reader R → List Record → List Record → Type 0
   CollectsPart r old new = (given : List Record) × (new ≡ old ++ given)
       × IfSome (rest remaining r) (λ bytes. (packets : List Packet) (end : End) → AreRecords r.order bytes packets end

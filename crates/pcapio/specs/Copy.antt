@@ -1,4 +1,4 @@
--- What a copy of a capture is: the records that a chain has space for, one after the other.
+-- A copy of a capture: the records that a chain has space for, one after another.
 use Rattle.std.specs.Prelude.{◌≡◌, ℕ, ◌-◌, ◌^◌, ◌≤◌, List, [], ◌∷◌, ◌++◌, Bool, Option, Result, IfOk, IfSome, IfNone}
 use Rattle.std.specs.Prelude.{nat_le, length, drop, filter, ⊤}
 use Rattle.std.specs.List.{flat_map}
@@ -19,20 +19,20 @@ use Rattle.pcapio.specs.declared.counted.Counted.{Counted}
 use Rattle.pcapio.specs.declared.reader.Reader.{Reader}
 use Rattle.pcapio.specs.declared.writer.Writer.{Writer}
 
--- the packets that have at most so many bytes
+-- the packets that have at most this many bytes
 abbrev pub fitting : ℕ → List Packet → List Packet
 fitting space packets = filter (λ packet. nat_le (length packet.bytes) space) packets
 
--- the texts of those packets
+-- the bytes of those packets' records
 abbrev pub copied_text : ℕ → List Packet → List ℕ
 copied_text space packets = flat_map record_text (fitting space packets)
 
--- these packets stand in the bytes a, and then what stands in b
+-- the records in the bytes a are these packets', followed by those in b
 abbrev pub Stand : ByteOrder → Option (List ℕ) → Option (List ℕ) → List Packet → Type 0
 Stand order a b packets = (more : List Packet) (end : End) → IfSome b (λ bytes. AreRecords order bytes more end)
     → IfSome a (λ bytes. AreRecords order bytes (packets ++ more) end)
 
--- what a copy answers: Some of whether the file ended inside a record, or None, where it has too many records
+-- the result of a copy: Some of whether the file ended inside a record, or None if it has too many records
 module _ {E : Type 0} where
   abbrev pub IfEnded : Result (Option Bool) E → (Bool → Type 0) → Type 0
   IfEnded answer P = IfOk answer (λ it. IfSome it P)
@@ -41,50 +41,50 @@ module _ {E : Type 0} where
   IfEndless answer P = IfOk answer (λ it. IfNone it P)
 
 module _ {R W : Type 0} (remaining : R → Option (List ℕ)) (contents : W → Option (List ℕ)) (chain : List Buffer) where
-  -- the next record was taken, and its text added if it fits
+  -- the next record was taken, and its bytes were added if it fits
   abbrev pub CopiesOne : Reader R → Reader R → Writer W → Writer W → Type 0
   CopiesOne r r' w w' = (packet : Packet) × Takes remaining r r' packet
       × Appends (text contents w) (text contents w') (copied_text (space_of chain) (packet ∷ []))
 
-  -- the device was told a beginning of what it would have been told of the next record
+  -- a prefix of what was to be written for the next record has been written to the device
   abbrev pub BeginsOne : Reader R → Writer W → Writer W → Type 0
   BeginsOne r w w' = (packets : List Packet) × (after : Option (List ℕ))
       × Stand r.order (rest remaining r) after packets
       × Begins (told contents w'.device) (append_known (text contents w) (copied_text (space_of chain) packets))
 
-  -- all records that were to come were copied, and this is how the file ends
+  -- all remaining records were copied, and this is how the file ends
   abbrev pub Copies : Reader R → Writer W → Writer W → Bool → Type 0
   Copies r w w' torn = IfSome (rest remaining r) (λ bytes. (packets : List Packet)
       × AreRecords r.order bytes packets (end_of torn)
       × Appends (text contents w) (text contents w') (copied_text (space_of chain) packets))
 
-  -- this is a beginning of what a copy of all records that were to come puts
+  -- this is a prefix of what a copy of all remaining records puts
   abbrev pub BeginsCopy : Reader R → Writer W → Option (List ℕ) → Type 0
   BeginsCopy r w part = IfSome (rest remaining r) (λ bytes. (packets : List Packet) (end : End)
       → AreRecords r.order bytes packets end
       → Begins part (append_known (text contents w) (copied_text (space_of chain) packets)))
 
-  -- the device was told such a beginning
+  -- such a prefix has been written to the device
   abbrev pub BeginsToCopy : Reader R → Writer W → Writer W → Type 0
   BeginsToCopy r w w' = BeginsCopy r w (told contents w'.device)
 
-  -- what was put is such a beginning
+  -- what was put is such a prefix
   abbrev pub CopiesPart : Reader R → Writer W → Writer W → Type 0
   CopiesPart r w w' = BeginsCopy r w (text contents w')
 
-  -- the same, and the device was told all of it
+  -- the same, and all of it has been written to the device
   abbrev pub CopiesOut : Reader R → Writer W → Writer W → Bool → Type 0
   CopiesOut r w w' torn = IfSome (rest remaining r) (λ bytes. (packets : List Packet)
       × AreRecords r.order bytes packets (end_of torn)
       × Appends (text contents w) (told contents w'.device) (copied_text (space_of chain) packets))
 
-  -- the capture of the one device was copied to the other, and this is how it ends
+  -- the capture on one device was copied to the other, and this is how it ends
   abbrev pub CopiesCapture : Counted R → Counted W → Counted W → Bool → Type 0
   CopiesCapture from to to' torn = IfSome (to_come remaining from) (λ bytes. (capture : Capture)
       × IsCapture bytes capture × (capture.torn ≡ torn)
       × Tells contents to to' (file_text capture.resolution (fitting (space_of chain) capture.packets)))
 
-  -- the one device was told a beginning of what a copy of the other's records tells
+  -- a prefix of what a copy of one device's records writes has been written to the other
   abbrev pub BeginsCapture : Counted R → Counted W → Counted W → Type 0
   BeginsCapture from to to' = IfSome (to_come remaining from)
       (λ bytes. (order : ByteOrder) (resolution : Resolution) (packets : List Packet) (end : End)
@@ -99,12 +99,12 @@ StopsBy Write bad read written = written
 StopsBy _ bad read written = ⊥
 
 module _ {R : Type 0} (remaining : R → Option (List ℕ)) where
-  -- more records are to come than can be counted
+  -- there are more records left than can be counted
   abbrev pub IsEndless : Reader R → Type 0
   IsEndless r = IfSome (rest remaining r) (λ bytes. (packets : List Packet) × (end : End)
       × AreRecords r.order bytes packets end × (2 ^ 64 - 1 ≤ length packets))
 
-  -- the records that were to come end with a header that no record has
+  -- the remaining records end with an invalid record header
   abbrev pub EndsBad : Reader R → Type 0
   EndsBad r = IfSome (rest remaining r) (λ bytes. (packets : List Packet) × AreRecords r.order bytes packets Bad)
 

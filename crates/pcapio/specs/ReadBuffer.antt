@@ -5,12 +5,12 @@ use Rattle.pcapio.specs.declared.read_buffer.ReadBuffer.{ReadBuffer}
 use Rattle.pcapio.specs.declared.counted.Counted.{Counted}
 use Rattle.pcapio.specs.Counted.{to_come}
 
--- the bytes that were read and not yet given
+-- the bytes that were read and not yet consumed
 abbrev pub items : ReadBuffer → List ℕ
 items ahead = slice_range ahead.buffer.items ahead.start ahead.end
 
 module _ {R : Type 0} (remaining : R → Option (List ℕ)) where
-  -- the bytes that were not yet given, where those that the device has are known
+  -- the bytes that were not yet consumed, if those of the device are known
   abbrev pub unread : ReadBuffer → Counted R → Option (List ℕ)
   unread ahead device = prepend_known (items ahead) (to_come remaining device)
 
@@ -18,18 +18,18 @@ module _ {R : Type 0} (remaining : R → Option (List ℕ)) where
   abbrev pub HasFewer : ℕ → ReadBuffer → Counted R → Type 0
   HasFewer n ahead device = IfSome (unread ahead device) (λ bytes. length bytes < n)
 
-  -- none of them was given
+  -- none of them was consumed
   abbrev pub KeepsAll : ReadBuffer → Counted R → ReadBuffer → Counted R → Type 0
   KeepsAll a d a' d' = Keeps (unread a d) (unread a' d')
 
-  -- these were given
+  -- these were returned
   abbrev pub Gives : ReadBuffer → Counted R → ReadBuffer → Counted R → List ℕ → Type 0
   Gives a d a' d' bytes = Consumes (unread a d) (unread a' d') bytes
 
-  -- n of them were let go
+  -- n of them were skipped
   abbrev pub LetsGo : ReadBuffer → Counted R → ReadBuffer → Counted R → ℕ → Type 0
   LetsGo a d a' d' n = (bytes : List ℕ) × (length bytes ≡ n) × Gives a d a' d' bytes
 
-  -- as many as the answer says were read into a buffer, none only where there are none or it has no room
+  -- as many as the result says were read into a buffer; 0 only if there are none or it has no room
   abbrev pub ReadGives : {E : Type 0} → ReadBuffer → Counted R → ReadBuffer → Counted R → Result ℕ E → List ℕ → Type 0
   ReadGives a d a' d' answer buffer = ReadConsumes (unread a d) (unread a' d') answer buffer

@@ -1,10 +1,10 @@
--- How far a reader is.
+-- How far a reader has got.
 use Rattle.std.specs.Prelude.{Option, Some, None, ⊤, Bool, true, false}
 use Rattle.pcapio.specs.declared.record.Head.{Head}
 use Rattle.pcapio.specs.declared.reader_state.ReaderState.{ReaderState}
 use Rattle.pcapio.specs.declared.reader_state.ReaderState.TheVariants.{Between, Pending, Ended}
 
--- the head that was told and whose bytes are still to come
+-- the head that was returned, whose bytes are still to come
 abbrev pub head_of : ReaderState → Option Head
 head_of (Pending head) = Some head
 head_of _ = None
@@ -15,7 +15,7 @@ GoesOn Between = ⊤
 GoesOn (Pending head) = ⊤
 GoesOn _ = ⊥
 
--- where a reader is once it read the bytes of a record, all of them or those that there are
+-- the state of a reader after it read the bytes of a record, all of them or those that there are
 abbrev pub after_bytes : Bool → ReaderState
 after_bytes true = Between
 after_bytes false = Ended true

@@ -1,4 +1,4 @@
--- A packet as the header of its record, its record, or a chain has it.
+-- A packet as it is in the header of its record, in its record, or in a chain.
 use Rattle.std.specs.Prelude.{◌≡◌, ℕ, ◌≤◌, max, List, length}
 use Rattle.mbuf.specs.Buffer.{Buffer}
 use Rattle.mbuf.specs.Chain.{bytes_of}
@@ -7,7 +7,7 @@ use Rattle.pcapio_laws.specs.declared.format.ByteOrder.{ByteOrder}
 use Rattle.pcapio.specs.declared.record.Head.{Head}
 use Rattle.pcapio.specs.declared.record.Record.{Record}
 
--- the bytes begin with the header of a record, which says this
+-- the bytes begin with the header of a record, with these fields
 pub record IsHead (order : ByteOrder) (bytes : List ℕ) (head : Head) : Type 0 where
   pub whole : 16 ≤ length bytes
   pub small : head.captured ≤ 262144
@@ -24,7 +24,7 @@ packet_of head bytes = record { seconds = head.seconds; fraction = head.fraction
 abbrev pub view : Record → Packet
 view r = record { seconds = r.seconds; fraction = r.fraction; wire = r.wire; bytes = r.bytes.items }
 
--- the packet whose bytes lie in a chain
+-- the packet whose bytes are in a chain
 abbrev pub packet_in : ℕ → ℕ → ℕ → List Buffer → Packet
 packet_in seconds fraction wire chain =
     record { seconds = seconds; fraction = fraction; wire = wire; bytes = bytes_of chain }

@@ -1,4 +1,4 @@
--- A writer of a capture: what it was told to write so far, and its fault.
+-- A writer of a capture: what was put so far, and its fault.
 use Rattle.std.specs.Prelude.{◌≡◌, ℕ, List, Option, None}
 use Rattle.std.specs.Io.KnownBytes.{Keeps, Appends, append_known}
 use Rattle.mbuf.specs.Buffer.{Buffer}
@@ -13,7 +13,7 @@ use Rattle.pcapio.specs.declared.counted.Counted.{Counted}
 use Rattle.pcapio.specs.declared.writer.Writer.{Writer}
 
 module _ {W : Type 0} where
-  -- the device that it writes
+  -- the device that it writes to
   abbrev pub sink_of : Writer W → Counted W
   sink_of w = w.device
 
@@ -29,28 +29,28 @@ module _ {W : Type 0} where
   Fails old new = HasFailed old.device new.device
 
 module _ {W : Type 0} (contents : W → Option (List ℕ)) where
-  -- what the device was told, and behind it what still stands in the buffer, where the first is known
+  -- what was written to the device, followed by what is still in the buffer, if the first is known
   abbrev pub text : Writer W → Option (List ℕ)
   text w = unsent contents w.behind w.device
 
-  -- what was told is what the device had, and behind it the header of a file
+  -- what was put is what the device had, followed by the header of a file
   abbrev pub Opens : Counted W → Resolution → Writer W → Type 0
   Opens device resolution w = Appends (told contents device) (text w) (file_header resolution)
 
-  -- the record of a packet was added whose bytes lie in a chain
+  -- the record of a packet whose bytes are in a chain was added
   abbrev pub Puts : Writer W → Writer W → ℕ → ℕ → ℕ → List Buffer → Type 0
   Puts old new seconds fraction wire chain =
       Appends (text old) (text new) (record_text (packet_in seconds fraction wire chain))
 
-  -- the device was told a beginning of what there was with that record behind it
+  -- a prefix of what there was, followed by that record, has been written to the device
   abbrev pub BeginsToPut : Writer W → Writer W → ℕ → ℕ → ℕ → List Buffer → Type 0
   BeginsToPut old new seconds fraction wire chain =
       Begins (told contents new.device) (append_known (text old) (record_text (packet_in seconds fraction wire chain)))
 
-  -- the device was told all of it
+  -- all of it has been written to the device
   abbrev pub IsTold : Writer W → Writer W → Type 0
   IsTold old new = Keeps (text old) (told contents new.device)
 
-  -- the device was told a beginning of it
+  -- a prefix of it has been written to the device
   abbrev pub IsToldPart : Writer W → Writer W → Type 0
   IsToldPart old new = Begins (told contents new.device) (text old)

@@ -1,4 +1,4 @@
-//! A reader's records, each with its bytes, as a list.
+//! A reader's remaining records, with their bytes, as a list.
 ghost use Rattle.std.specs.Prelude.{IfOk, IfErr, OnOk};
 ghost use Rattle.pcapio.specs.Collect.{Collects, CollectsPart, WhyNotAll};
 ghost use Rattle.pcapio.specs.Counted.{HasNotFailed};
@@ -10,10 +10,11 @@ use pcapio_laws::CapFault;
 use std::alloc::Global;
 use std::io::Read;
 
-/// Adds each record that is still to come to the list, and tells whether the file ended inside one. Asked: the reader
-/// is neither at a fault nor at the end. It takes memory for the list and for the bytes of each record.
+/// Appends each remaining record to the list, and returns whether the file ended inside one. Requires: the reader is
+/// neither at a fault nor at the end. Takes memory for the list and for the bytes of each record.
 ///
-/// Refused with 4 `BadRecord`, 5 `Read` and 7 `Memory`, as `Reader::next` is; what was added is then a beginning.
+/// Errors: 4 `BadRecord`, 5 `Read` and 7 `Memory`, as for `Reader::next`; what was added is then a prefix of the
+/// remaining records.
 pub fn collect_records<R: Read>(
     alloc: Global,
     reader: &mut Reader<R>,
@@ -25,7 +26,7 @@ pub fn collect_records<R: Read>(
     ensures no_failure { OnOk result (HasNotFailed (source_of reader.old) (source_of reader.new)) }
     ensures cause { IfErr result (WhyNotAll R.remaining reader.old reader.new) }
 {
-    // a record a turn: no list has room for 2^64 - 1 of them, so the loop never comes to its end
+    // one record per turn: no list has room for 2^64 - 1 of them, so the loop never reaches its end
     for _count in 0..u64::MAX {
         let Ok(()) = list.reserve(1) else {
             return Err(CapFault::Memory);

@@ -1,4 +1,4 @@
-//! The calls at work: a capture copied to another device, but for the records that a chain has no space for.
+//! The calls in use: a capture copied to another device, except for the records that a chain has no space for.
 ghost use Rattle.std.specs.Prelude.{◌≡◌, Some, IfOk, IfErr, OnOk, OnErr};
 ghost use Rattle.mbuf.specs.Chain.{HasSameSegments};
 ghost use Rattle.pcapio.specs.Answer.{OnAll, OnCut};
@@ -19,13 +19,12 @@ use pcapio_laws::CapFault;
 use std::alloc::Global;
 use std::io::{Read, Write};
 
-/// Copies the capture that a device has to another device, and tells whether it ended inside a record; `None` where it
-/// has 2^64 - 1 records or more. Records of more bytes than `chain` has space for are left out; the
-/// chain keeps its segments and links. Memory is taken for two buffers of 64 KiB, before anything is written, and for
-/// nothing else.
+/// Copies the capture on a device to another device, and returns whether it ended inside a record; `None` if it has
+/// 2^64 - 1 records or more. Records with more bytes than `chain` has space for are left out; the chain keeps its
+/// segments and links. Takes memory for two buffers of 64 KiB, before anything is written, and for nothing else.
 ///
-/// Both devices come back. Refused with 1 `NotPcap`, 2 `BadVersion`, 3 `BadLink`, 4 `BadRecord`, 5 `Read`, 6 `Write`,
-/// 7 `Memory`; what was written is then a beginning of the copy.
+/// Both devices are handed back. Errors: 1 `NotPcap`, 2 `BadVersion`, 3 `BadLink`, 4 `BadRecord`, 5 `Read`, 6 `Write`,
+/// 7 `Memory`; what was written is then a prefix of the copy.
 pub fn copy_capture<R: Read, W: Write>(
     alloc: Global,
     from: Counted<R>,
@@ -50,7 +49,7 @@ pub fn copy_capture<R: Read, W: Write>(
     (reader.into_inner(), writer.into_inner(), copied)
 }
 
-/// Copies the records that are still to come, and tells the device all of them.
+/// Copies the remaining records, and writes all of them to the device.
 fn copy_and_flush<R: Read, W: Write>(
     reader: &mut Reader<R>,
     writer: &mut Writer<W>,
@@ -69,11 +68,11 @@ fn copy_and_flush<R: Read, W: Write>(
     Ok(copied)
 }
 
-/// Puts each record that is still to come and that the chain has space for, and tells whether the file ended inside
-/// one; `None` where it has 2^64 - 1 records or more. Asked: neither is at a fault, nor the reader at the end. It takes
-/// no memory.
+/// Puts each remaining record that the chain has space for, and returns whether the file ended inside one; `None` if
+/// there are 2^64 - 1 or more. Requires: neither the reader nor the writer is at a fault, and the reader isn't at the
+/// end. Takes no memory.
 ///
-/// Refused as `Reader::head`, `Reader::body` and `Writer::put` are.
+/// Errors: those of `Reader::head`, `Reader::body` and `Writer::put`.
 pub fn copy_records<R: Read, W: Write>(
     reader: &mut Reader<R>,
     writer: &mut Writer<W>,
@@ -91,7 +90,7 @@ pub fn copy_records<R: Read, W: Write>(
     ensures written { OnOk result (HasNotFailed (sink_of writer.old) (sink_of writer.new)) }
     ensures goes_on { OnOk result (IsWell writer.new) }
 {
-    // a record a turn: if there are 2^64 - 1 or more, the answer is `None`
+    // one record per turn: if there are 2^64 - 1 or more, the result is `None`
     for _count in 0..u64::MAX {
         let Some(head) = reader.head()? else {
             return Ok(Some(reader.torn()));
@@ -104,7 +103,7 @@ pub fn copy_records<R: Read, W: Write>(
     Ok(None)
 }
 
-/// Puts the pending record, or skips it where the chain has no space for it. `false`: the file ended inside it.
+/// Puts the pending record, or skips it if the chain has no space for it. `false`: the file ended inside it.
 fn copy_record<R: Read, W: Write>(
     reader: &mut Reader<R>,
     writer: &mut Writer<W>,

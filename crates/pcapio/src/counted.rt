@@ -1,16 +1,16 @@
-//! A device whose failures are counted, so that a caller can tell a fault of the device from one of its own.
+//! A device whose failures are counted, so that a caller can distinguish a failure of the device from one of its own.
 ghost use Rattle.std.specs.Prelude.{◌≡◌, ◌<◌, length, IfOk, OnOk, OnErr};
 ghost use Rattle.std.specs.Io.{ReadsAtMost, WritesAtMost};
 ghost use Rattle.std.specs.Io.KnownBytes.{Keeps, ReadConsumes, WriteAppends};
 
 use std::io::{Read, Write};
 
-/// A device failed: its count of failures rose.
+/// A device failed: its count of failures has increased.
 #[derive(Clone, Copy, Debug)]
 pub(crate) struct Failed;
 
-/// A reader or a writer, and how often it failed: an `Err`, `Interrupted` too, or a write that takes none of some
-/// bytes. The count stops at its greatest number, 2^64 - 1.
+/// A reader or a writer, and how often it failed: returned an `Err`, `Interrupted` included, or wrote none of the bytes
+/// of a non-empty write. The count stops at its maximum, 2^64 - 1.
 #[derive(Debug, Drop)]
 pub struct Counted<D> {
     device: D,
@@ -49,7 +49,7 @@ impl<D> Counted<D> {
         ensures device { device_of self.new ≡ device_of self.old }
         ensures failures { HasFailed self.old self.new }
     {
-        // The count stands at its greatest number: by wrapping around it would hide failures.
+        // The count stays at its maximum: wrapping around would hide failures.
         self.failures = self.failures.saturating_add(1);
         Failed
     }
@@ -76,7 +76,7 @@ impl<R: Read> Counted<R> {
 impl<W: Write> Counted<W> {
     ghost use Rattle.pcapio.specs.Counted.{told, HasFailed, HasNotFailed};
 
-    /// Writes once. Asked: there is something to write.
+    /// Writes once. Requires: there is something to write.
     #[inline]
     pub(crate) fn write(&mut self, buf: &[u8]) -> Result<usize, Failed>
         requires { 0 < length buf.now }
@@ -92,7 +92,7 @@ impl<W: Write> Counted<W> {
         }
     }
 
-    /// Asks the device to pass on what it holds back.
+    /// Asks the device to flush what it holds back.
     pub(crate) fn flush(&mut self) -> Result<(), Failed>
         ensures bytes { Keeps (told W.contents self.old) (told W.contents self.new) }
         ensures ok { OnOk result (HasNotFailed self.old self.new) }

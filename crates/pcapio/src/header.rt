@@ -6,7 +6,7 @@ ghost use Rattle.pcapio_laws.specs.Capture.{HasHeader, IsRefused};
 use byteorder::{BigEndian, ByteOrder as Endian, LittleEndian};
 use pcapio_laws::{ByteOrder, CapFault, Resolution};
 
-/// The bytes of a file's header.
+/// The length of a file's header, in bytes.
 pub(crate) const FILE_HEADER: usize = 24;
 
 /// The number in two bytes.
@@ -32,7 +32,7 @@ pub(crate) fn field(order: ByteOrder, bytes: &[u8], offset: usize) -> u32
     }
 }
 
-/// What the header of a file says, or why it is refused: 1 `NotPcap`, 2 `BadVersion`, 3 `BadLink`, in this order.
+/// The fields of a file's header, or why it is refused: 1 `NotPcap`, 2 `BadVersion`, 3 `BadLink`, in this order.
 pub(crate) fn header_in(bytes: &[u8]) -> Result<(ByteOrder, Resolution), CapFault>
     requires { 24 ≤ length bytes.now }
     ensures ok { IfOk result (λ said. HasHeader bytes.now said.0 said.1) }
@@ -51,7 +51,7 @@ pub(crate) fn header_in(bytes: &[u8]) -> Result<(ByteOrder, Resolution), CapFaul
     Ok((order, resolution))
 }
 
-/// The order in which the first four bytes are a magic, and the resolution that this magic names.
+/// The byte order in which the first four bytes are a magic, and the resolution of this magic.
 fn magic_in(bytes: &[u8]) -> Option<(ByteOrder, Resolution)>
     requires { 4 ≤ length bytes.now }
     ensures found { IfSome result (λ said. HasMagic bytes.now said.0 said.1) }

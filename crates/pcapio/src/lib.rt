@@ -1,10 +1,10 @@
 //! Captures in the classic pcap file format (pcap-savefile(5)), streamed: a reader of both byte orders and both
 //! resolutions, and a writer, over devices whose failures are counted.
 //!
-//! What a capture is stands in `pcapio_laws`. A reader gives its records one after the other: `head`, and then `body`,
+//! `pcapio_laws` defines what a capture is. A reader returns its records one after another: `head`, and then `body`,
 //! which reads the record's bytes into the segments of a chain, or `skip`; or `next`, which makes a vector. A writer's
-//! `put` takes the bytes from a chain. Each has a buffer of 64 KiB, made in `open`; no other call of theirs but `next`
-//! takes memory. `copy_records` and `collect_records` show them at work.
+//! `put` takes the bytes from a chain. Each has a buffer of 64 KiB, made in `open`; of their other calls, only `next`
+//! takes memory. `copy_records` and `collect_records` show them in use.
 #![tactic(auto)]
 
 mod collect;

@@ -1,4 +1,4 @@
-//! The reader's buffer: what was read from the device and not yet given. Its room is made once.
+//! The reader's buffer: what was read from the device and not yet consumed. It is allocated once.
 ghost use Rattle.std.specs.Prelude.{◌≡◌, ◌+◌, ◌<◌, ◌≤◌, [], ◌++◌, length, take, drop, min, vec_len};
 ghost use Rattle.std.specs.Prelude.{IfOk, OnOk, OnErr};
 ghost use Rattle.std.specs.Io.{ReadsAtMost};
@@ -10,13 +10,13 @@ use crate::counted::{Counted, Failed};
 use std::alloc::{AllocError, Global};
 use std::io::Read;
 
-/// The room of a buffer, in bytes.
+/// The size of a buffer, in bytes.
 pub(crate) const ROOM: usize = 65_536;
 
-/// A piece of this many bytes and more, of which nothing is there, is read past the buffer.
+/// A piece of at least this many bytes, none of which is buffered, is read directly.
 const DIRECT: usize = 16_384;
 
-/// A row of fixed length. What lies from `start` to `end` was read and not yet given.
+/// A row of fixed length. The bytes from `start` to `end` were read and not yet consumed.
 #[derive(Debug, Drop)]
 pub(crate) struct ReadBuffer {
     buffer: Vec<u8>,
@@ -59,7 +59,7 @@ impl ReadBuffer {
         &all[start..end]
     }
 
-    /// Lets go of the first `count` bytes.
+    /// Consumes the first `count` bytes.
     #[inline]
     pub(crate) fn consume(&mut self, count: usize)
         requires { count ≤ length (items self.old) }
@@ -68,7 +68,7 @@ impl ReadBuffer {
         self.start += count;
     }
 
-    /// Moves what is there to the front, so that there is room behind it.
+    /// Moves the buffered bytes to the front, so that there is room after them.
     fn move_to_front(&mut self)
         ensures items { items self.new ≡ items self.old }
         ensures start { self.new.start ≡ 0 }
@@ -79,7 +79,7 @@ impl ReadBuffer {
         self.end = end - start;
     }
 
-    /// Reads once, behind what is there.
+    /// Reads once, after the buffered bytes.
     fn read_behind<R: Read>(&mut self, device: &mut Counted<R>) -> Result<usize, Failed>
         ensures all { KeepsAll R.remaining self.old device.old self.new device.new }
         ensures more { IfOk result (λ count. length (items self.new) ≡ length (items self.old) + count) }
@@ -94,7 +94,7 @@ impl ReadBuffer {
         Ok(count)
     }
 
-    /// Reads until `count` bytes are there, or the device has no more.
+    /// Reads until `count` bytes are buffered, or the device has no more.
     pub(crate) fn gather<R: Read>(
         &mut self,
         device: &mut Counted<R>,
@@ -120,7 +120,7 @@ impl ReadBuffer {
         Ok(true)
     }
 
-    /// Reads once where nothing is there, and tells how many bytes are there then: none only where the device has none.
+    /// Reads once if nothing is buffered, and returns how many bytes then are: 0 only if the device has no more.
     fn ready<R: Read>(&mut self, device: &mut Counted<R>) -> Result<usize, Failed>
         ensures all { KeepsAll R.remaining self.old device.old self.new device.new }
         ensures count { IfOk result (λ count. count ≡ length (items self.new)) }
@@ -135,7 +135,7 @@ impl ReadBuffer {
         Ok(self.len())
     }
 
-    /// Moves as many bytes as both have from the front into `out`.
+    /// Moves bytes from the front to `out`, as many as both have.
     #[inline]
     fn give(&mut self, out: &mut [u8]) -> usize
         ensures count { result ≡ min (length out.old) (length (items self.old)) }
@@ -148,7 +148,7 @@ impl ReadBuffer {
         count
     }
 
-    /// Reads once. A large piece of which nothing is there goes past the buffer.
+    /// Reads once. A large piece, none of which is buffered, bypasses the buffer.
     fn read<R: Read>(&mut self, device: &mut Counted<R>, out: &mut [u8]) -> Result<usize, Failed>
         ensures bound { ReadsAtMost result out.new }
         ensures bytes { ReadGives R.remaining self.old device.old self.new device.new result out.new }
@@ -162,7 +162,7 @@ impl ReadBuffer {
         Ok(self.give(out))
     }
 
-    /// Fills the whole of `out`, or tells that fewer bytes are left.
+    /// Fills the whole of `out`, or reports that fewer bytes are left.
     pub(crate) fn fill<R: Read>(
         &mut self,
         device: &mut Counted<R>,
@@ -184,7 +184,7 @@ impl ReadBuffer {
         Ok(true)
     }
 
-    /// Lets go of `count` bytes, or tells that fewer are left.
+    /// Skips `count` bytes, or reports that fewer are left.
     pub(crate) fn skip<R: Read>(
         &mut self,
         device: &mut Counted<R>,
@@ -209,7 +209,7 @@ impl ReadBuffer {
     }
 }
 
-/// Reads once into the room from byte `at` on.
+/// Reads once into the buffer from byte `at` on.
 fn read_at<R: Read>(
     device: &mut Counted<R>,
     buffer: &mut Vec<u8>,

@@ -1,4 +1,4 @@
-//! The reader of a capture. It gives the records in order, and after a fault that fault alone.
+//! The reader of a capture. It returns the records in order, and after a fault only that fault.
 ghost use Rattle.std.specs.Prelude.{◌≡◌, ◌<◌, ◌≤◌, IfOk, IfErr, OnOk, IfSome, IfNone};
 ghost use Rattle.std.specs.Prelude.{Some, None, Option, Bool, true};
 ghost use Rattle.std.specs.Option.{ForSome};
@@ -19,7 +19,7 @@ use pcapio_laws::{ByteOrder, CapFault, Resolution};
 use std::alloc::Global;
 use std::io::Read;
 
-/// A reader of a capture. After a fault it answers that fault and leaves its device alone.
+/// A reader of a capture. After a fault it returns that fault again and doesn't touch its device.
 #[derive(Debug, Drop)]
 pub struct Reader<R> {
     device: Counted<R>,
@@ -38,11 +38,11 @@ impl<R: Read> Reader<R> {
     ghost use Rattle.pcapio.specs.ReaderState.{torn_of};
     ghost use Rattle.pcapio.specs.declared.reader_state.ReaderState.TheVariants.{Between, Pending, Ended, Faulted};
 
-    /// A reader of the capture that the device has. All memory that `head`, `body` and `skip` need is taken here: a
-    /// buffer of 64 KiB.
+    /// A reader of the capture on the device. All memory that `head`, `body` and `skip` need is taken here: a buffer of
+    /// 64 KiB.
     ///
-    /// Refused, and the device comes back: 7 `Memory`, and the device wasn't touched; 5 `Read`; 1 `NotPcap`,
-    /// 2 `BadVersion`, 3 `BadLink`, tested in this order.
+    /// Errors, with the device handed back: 7 `Memory`, with the device untouched; 5 `Read`; 1 `NotPcap`, 2
+    /// `BadVersion`, 3 `BadLink`, tested in this order.
     pub fn open(alloc: Global, mut device: Counted<R>) -> Result<Reader<R>, (Counted<R>, CapFault)>
         ensures header { IfOk result (HasHeaderOf R.remaining device) }
         ensures rest { IfOk result (IsBehindHeader R.remaining device) }
@@ -97,7 +97,7 @@ impl<R: Read> Reader<R> {
         }
     }
 
-    /// The head that was told and whose bytes are still to come.
+    /// The head that was returned, whose bytes are still to come.
     pub fn pending(&self) -> Option<Head>
         ensures { result ≡ pending_of self.now }
     {
@@ -107,27 +107,27 @@ impl<R: Read> Reader<R> {
         }
     }
 
-    /// The device. What was read ahead is let go.
+    /// The device. What was read ahead is lost.
     pub fn into_inner(self) -> Counted<R>
         ensures { result ≡ source_of self }
     {
         self.device
     }
 
-    /// The head of the next record, where there is one; the same again while it is pending. It takes no memory.
+    /// The head of the next record, if there is one; the same again while it is pending. Takes no memory.
     ///
-    /// Refused with 4 `BadRecord` where the record's header is whole and says that more was captured than a record has,
-    /// 5 `Read` where the device failed.
+    /// Errors: 4 `BadRecord` if the record's header is whole and has a captured length above the maximum, 5 `Read` if
+    /// the device failed.
     pub fn head(&mut self) -> Result<Option<Head>, CapFault>
         ensures file { IsSameFile self.old self.new }
         ensures rest { Keeps (rest R.remaining self.old) (rest R.remaining self.new) }
 
-        // Where there is a record.
+        // If there is a record.
         ensures pending { IfOk result (λ found. IfSome found (λ head. state_of self.new ≡ Pending head)) }
         ensures head { IfOk result (λ found. IfSome found (BeginsWithHead R.remaining self.old)) }
         ensures small { IfOk result (λ found. IfSome found (λ head. head.captured ≤ 262144)) }
 
-        // Where there is none.
+        // If there is none.
         ensures end { IsReading self.old → IfOk result (λ it. IfNone it (FindsEnd R.remaining self.old self.new)) }
         ensures ended { (torn : Bool) → state_of self.old ≡ Ended torn → (result ≡ Ok None) × (self.new ≡ self.old) }
 

@@ -1,19 +1,19 @@
-//! A record, and what its header says.
+//! A record, and the fields of its header.
 ghost use Rattle.std.specs.Prelude.{◌≤◌, length, IfSome, IfNone};
 ghost use Rattle.pcapio_laws.specs.Capture.{IsBad};
 
 use crate::header::field;
 use pcapio_laws::{ByteOrder, MAX_CAPTURED};
 
-/// What stands before the bytes of a record.
+/// The fields before the bytes of a record.
 #[derive(Clone, Copy, Debug, PartialEq, Eq)]
 pub struct Head {
     pub seconds: u32,
-    /// Millionths of a second or thousand-millionths, as the file's resolution says. It may be any number.
+    /// Microseconds or nanoseconds, by the file's resolution. It may be any number.
     pub fraction: u32,
-    /// How many bytes were captured, at most `MAX_CAPTURED`.
+    /// The captured length, at most `MAX_CAPTURED`.
     pub captured: u32,
-    /// How many bytes the packet had on the wire, not fewer than were captured.
+    /// The length of the packet on the wire, not below the captured length.
     pub wire: u32,
 }
 
@@ -21,19 +21,19 @@ pub struct Head {
 #[derive(Debug, Drop)]
 pub struct Record {
     pub seconds: u32,
-    /// Millionths of a second or thousand-millionths, as the file's resolution says. It may be any number.
+    /// Microseconds or nanoseconds, by the file's resolution. It may be any number.
     pub fraction: u32,
-    /// How many bytes the packet had on the wire, not fewer than were captured.
+    /// The length of the packet on the wire, not below the captured length.
     pub wire: u32,
     pub bytes: Vec<u8>,
 }
 
 ghost use Rattle.pcapio.specs.Record.{IsHead};
 
-/// The bytes of a record's header.
+/// The length of a record's header, in bytes.
 pub(crate) const HEAD: usize = 16;
 
-/// The head of the record whose header begins the bytes, where one has that header.
+/// The head of the record whose header is at the start of the bytes, if that is a record's header.
 pub(crate) fn head_in(order: ByteOrder, bytes: &[u8]) -> Option<Head>
     requires { 16 ≤ length bytes.now }
     ensures head { IfSome result (IsHead order bytes.now) }

@@ -10,7 +10,7 @@ use crate::read_buffer::ReadBuffer;
 use mbuf::Chain;
 use std::io::Read;
 
-/// Reads over all bytes of the chain, or tells that fewer are left.
+/// Reads over all bytes of the chain, or reports that fewer are left.
 fn fill_chain<R: Read>(
     ahead: &mut ReadBuffer,
     device: &mut Counted<R>,
@@ -30,7 +30,7 @@ fn fill_chain<R: Read>(
     Ok(true)
 }
 
-/// Makes the packet `count` bytes long, and reads them; or makes the chain fresh, and tells that fewer are left.
+/// Makes the packet `count` bytes long, and reads them; or makes the chain fresh, and reports that fewer are left.
 pub(crate) fn read_body<R: Read>(
     ahead: &mut ReadBuffer,
     device: &mut Counted<R>,

@@ -1,4 +1,4 @@
-//! The headers of a file and of a record as they are written.
+//! The headers of a file and of a record, as they are written.
 ghost use Rattle.std.specs.Prelude.{◌≡◌};
 ghost use Rattle.byteorder.specs.Endian.{little_bytes};
 ghost use Rattle.pcapio_laws.specs.Text.{file_header, record_header};
@@ -8,7 +8,7 @@ use byteorder::{ByteOrder as Endian, LittleEndian};
 use mbuf::Chain;
 use pcapio_laws::{MAX_CAPTURED, Resolution};
 
-/// The bytes of a file's header: version 2.4, the most that a record has captured, and Ethernet.
+/// The bytes of a file's header: version 2.4, the maximum captured length, and Ethernet.
 pub(crate) fn header_bytes(resolution: Resolution) -> [u8; 24]
     ensures { result ≡ file_header resolution }
 {

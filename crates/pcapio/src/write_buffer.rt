@@ -1,4 +1,4 @@
-//! The writer's buffer: what waits to be written to the device. Its room is made once.
+//! The writer's buffer: what is waiting to be written to the device. It is allocated once.
 ghost use Rattle.std.specs.Prelude.{◌≡◌, ◌+◌, ◌≤◌, [], ◌++◌, length, take, vec_len, IfOk, OnOk, OnErr};
 ghost use Rattle.pcapio.specs.Counted.{Tells, BeginsToTell, HasFailed, HasNotFailed};
 
@@ -7,10 +7,10 @@ use crate::read_buffer::ROOM;
 use std::alloc::{AllocError, Global};
 use std::io::Write;
 
-/// A piece of this many bytes and more, which doesn't fit, is written past the buffer.
+/// A piece of at least this many bytes that doesn't fit is written directly.
 const DIRECT: usize = 16_384;
 
-/// A row of fixed length. Its first `len` bytes wait.
+/// A row of fixed length. Its first `len` bytes are waiting.
 #[derive(Debug, Drop)]
 pub(crate) struct WriteBuffer {
     buffer: Vec<u8>,
@@ -30,7 +30,7 @@ impl WriteBuffer {
         Ok(WriteBuffer { buffer, len: 0 })
     }
 
-    /// The first bytes that wait.
+    /// Buffers the first bytes.
     pub(crate) fn begin(&mut self, bytes: &[u8])
         requires empty { waiting self.old ≡ [] }
         requires at_most { length bytes.now ≤ 24 }
@@ -50,7 +50,7 @@ impl WriteBuffer {
         self.len = len + bytes.len();
     }
 
-    /// Writes all that waits. After a failure the device was told a beginning of it.
+    /// Writes everything that is waiting. After a failure, a prefix of it has been written to the device.
     pub(crate) fn write_out<W: Write>(&mut self, device: &mut Counted<W>) -> Result<(), Failed>
         ensures ok { OnOk result (SendsAll W.contents self.old device.old device.new) }
         ensures empty { OnOk result (waiting self.new ≡ []) }
@@ -66,7 +66,7 @@ impl WriteBuffer {
         Ok(())
     }
 
-    /// Adds bytes to what waits. After a failure the device was told a beginning of all.
+    /// Adds bytes to what is waiting. After a failure, a prefix of all of it has been written to the device.
     #[inline]
     pub(crate) fn add<W: Write>(
         &mut self,
@@ -85,7 +85,7 @@ impl WriteBuffer {
         Ok(())
     }
 
-    /// The same, where there is too little room.
+    /// The same, if there is too little room.
     fn add_past<W: Write>(&mut self, device: &mut Counted<W>, bytes: &[u8]) -> Result<(), Failed>
         ensures ok { OnOk result (Adds W.contents self.old device.old self.new device.new bytes.now) }
         ensures begins { OnErr result (BeginsToAdd W.contents self.old device.old device.new bytes.now) }
@@ -102,7 +102,7 @@ impl WriteBuffer {
     }
 }
 
-/// Copies bytes into the room from byte `at` on.
+/// Copies bytes into the buffer from byte `at` on.
 #[inline]
 fn write_at(buffer: &mut Vec<u8>, at: usize, bytes: &[u8])
     requires { at + length bytes.now ≤ vec_len buffer.old }
@@ -112,7 +112,7 @@ fn write_at(buffer: &mut Vec<u8>, at: usize, bytes: &[u8])
     buffer.as_mut_slice()[at..at + bytes.len()].copy_from_slice(bytes);
 }
 
-/// Writes all of the bytes. After a failure the device was told a beginning of them.
+/// Writes all of the bytes. After a failure, a prefix of them has been written to the device.
 fn send<W: Write>(device: &mut Counted<W>, bytes: &[u8]) -> Result<(), Failed>
     ensures ok { OnOk result (Tells W.contents device.old device.new bytes.now) }
     ensures begins { OnErr result (BeginsToTell W.contents device.old device.new bytes.now) }

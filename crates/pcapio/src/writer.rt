@@ -1,4 +1,4 @@
-//! The writer of a capture: little-endian, of Ethernet, with the resolution that it is opened with.
+//! The writer of a capture: little-endian, Ethernet, with the resolution given to `open`.
 ghost use Rattle.std.specs.Prelude.{◌≡◌, Some, None, IfOk, IfErr, OnOk, OnErr};
 ghost use Rattle.std.specs.Io.KnownBytes.{Keeps};
 ghost use Rattle.pcapio.specs.WriteBuffer.{AddsRecord, BeginsToAddRecord, SendsAll, BeginsToSend, KeepsUnsent};
@@ -12,7 +12,7 @@ use pcapio_laws::{CapFault, Resolution};
 use std::alloc::Global;
 use std::io::Write;
 
-/// A writer of a capture. After a fault it answers that fault and leaves its device alone.
+/// A writer of a capture. After a fault it returns that fault again and doesn't touch its device.
 #[derive(Debug, Drop)]
 pub struct Writer<W> {
     device: Counted<W>,
@@ -24,10 +24,10 @@ impl<W: Write> Writer<W> {
     ghost use Rattle.pcapio.specs.Writer.{text, fault_of, sink_of, IsWell, Fails};
     ghost use Rattle.pcapio.specs.Writer.{Opens, Puts, BeginsToPut, IsTold, IsToldPart};
 
-    /// A writer of a capture on the device. All memory that it needs is taken here: a buffer of 64 KiB, in which the
-    /// file header waits.
+    /// A writer of a capture on the device. All memory it needs is taken here: a buffer of 64 KiB, in which the file
+    /// header waits.
     ///
-    /// Refused, and the device comes back untouched: 7 `Memory`.
+    /// Errors: 7 `Memory`, with the device handed back untouched.
     pub fn open(
         alloc: Global,
         device: Counted<W>,
@@ -49,12 +49,12 @@ impl<W: Write> Writer<W> {
         })
     }
 
-    /// Adds the record of a packet whose bytes lie in a chain. It takes no memory.
+    /// Adds the record of a packet whose bytes are in a chain. Takes no memory.
     ///
-    /// That the file is a capture is known where the chain has at most `MAX_CAPTURED` bytes and `wire` isn't below its
+    /// The file is known to be a capture if the chain has at most `MAX_CAPTURED` bytes and `wire` isn't below its
     /// length; this call doesn't test it.
     ///
-    /// Refused with 6 `Write` where the device failed.
+    /// Errors: 6 `Write` if the device failed.
     pub fn put(
         &mut self,
         seconds: u32,
@@ -66,7 +66,7 @@ impl<W: Write> Writer<W> {
         ensures no_failure { OnOk result (IsWell self.new) }
         ensures worked { OnOk result (HasNotFailed (sink_of self.old) (sink_of self.new)) }
 
-        // Faults. The device was then told a beginning of what it would have been told.
+        // Faults. A prefix of what was to be written has then been written to the device.
         ensures begins { OnErr result (BeginsToPut W.contents self.old self.new seconds fraction wire chain.now) }
         ensures fault { IfErr result (λ fault. fault_of self.new ≡ Some fault) }
         ensures cause { IsWell self.old → IfErr result (λ fault. fault ≡ CapFault.Write) }
@@ -83,16 +83,16 @@ impl<W: Write> Writer<W> {
         }
     }
 
-    /// Tells the device all that was put, and asks it to pass it on. It takes no memory.
+    /// Writes everything that was put to the device, and flushes the device. Takes no memory.
     ///
-    /// Refused with 6 `Write` where the device failed.
+    /// Errors: 6 `Write` if the device failed.
     pub fn flush(&mut self) -> Result<(), CapFault>
         ensures ok { OnOk result (IsTold W.contents self.old self.new) }
         ensures text { OnOk result (Keeps (text W.contents self.old) (text W.contents self.new)) }
         ensures no_failure { OnOk result (IsWell self.new) }
         ensures worked { OnOk result (HasNotFailed (sink_of self.old) (sink_of self.new)) }
 
-        // Faults. The device was then told a beginning of it.
+        // Faults. A prefix of it has then been written to the device.
         ensures begins { OnErr result (IsToldPart W.contents self.old self.new) }
         ensures fault { IfErr result (λ fault. fault_of self.new ≡ Some fault) }
         ensures cause { IsWell self.old → IfErr result (λ fault. fault ≡ CapFault.Write) }
@@ -108,7 +108,7 @@ impl<W: Write> Writer<W> {
         }
     }
 
-    /// The device. What still waits isn't written.
+    /// The device. What is still waiting isn't written.
     pub fn into_inner(self) -> Counted<W>
         ensures { result ≡ sink_of self }
     {
@@ -125,7 +125,7 @@ impl<W: Write> Writer<W> {
     }
 }
 
-/// Adds a record to what waits. After a failure the device was told a beginning of all.
+/// Adds a record to what is waiting. After a failure, a prefix of all of it has been written to the device.
 fn put_record<W: Write>(
     behind: &mut WriteBuffer,
     device: &mut Counted<W>,
@@ -144,7 +144,7 @@ fn put_record<W: Write>(
     Ok(())
 }
 
-/// Writes all that waits, and asks the device to pass it on.
+/// Writes everything that is waiting, and flushes the device.
 fn flush_all<W: Write>(behind: &mut WriteBuffer, device: &mut Counted<W>) -> Result<(), Failed>
     ensures exact { OnOk result (SendsAll W.contents behind.old device.old device.new) }
     ensures kept { OnOk result (KeepsUnsent W.contents behind.old device.old behind.new device.new) }

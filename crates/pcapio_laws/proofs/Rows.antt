@@ -34,14 +34,14 @@ ignored_high =
     let len : length (with_byte 22 4 (with_byte 23 5 header_alone)) ≡ 24 = refl in
     record { header = record { whole = omega arith; magic = refl; version = (refl, refl); link = refl }; records = refl }
 
--- bytes that begin as no magic does
+-- bytes that begin like no magic
 no_magic : (first : ℕ) (rest : List ℕ) → first ≢ 212 → first ≢ 77 → first ≢ 161 → HasNoMagic (first ∷ rest)
 no_magic first rest micro nano big Little Micro m = absurd (micro (ap (λ (l : List ℕ). get_or l 0 0) m))
 no_magic first rest micro nano big Little Nano m = absurd (nano (ap (λ (l : List ℕ). get_or l 0 0) m))
 no_magic first rest micro nano big Big Micro m = absurd (big (ap (λ (l : List ℕ). get_or l 0 0) m))
 no_magic first rest micro nano big Big Nano m = absurd (big (ap (λ (l : List ℕ). get_or l 0 0) m))
 
--- no magic, and a bad version too
+-- not a magic, and a bad version too
 pub not_pcap : IsCase (with_byte 0 213 (with_byte 4 3 header_alone)) (Refused NotPcap)
 not_pcap = Other (no_magic 213 (drop 1 (with_byte 4 3 header_alone)) (λ e. omega arith) (λ e. omega arith) (λ e. omega arith))
 
@@ -111,7 +111,7 @@ old_minor =
       version = λ v. (let n : ◌≡◌ {A = ℕ} 3 4 = v.1 in omega arith);
     }
 
--- the link type before that of Ethernet, and one whose lowest byte alone is Ethernet's
+-- the link type before Ethernet's, and one of which only the lowest byte is Ethernet's
 pub no_link : IsCase (with_byte 20 0 header_alone) (Refused BadLink)
 no_link =
     let len : length (with_byte 20 0 header_alone) ≡ 24 = refl in
@@ -139,27 +139,27 @@ high_link =
 header_of : (rest : List ℕ) → HasHeader (behind_header rest) Little Micro
 header_of rest = record { whole = omega arith; magic = refl; version = (refl, refl); link = refl }
 
--- 262144 captured bytes are allowed, of which the file has none
+-- 262144 captured bytes are allowed, none of which are in the file
 pub longest : IsCase (behind_header (record_header_of 0 0 4 0)) (microsecond [] true)
 longest =
     let left : length (record_header_of 0 0 4 0) ≡ 16 = refl in
     let at_8 : captured Little (record_header_of 0 0 4 0) ≡ 262144 = refl in
     record { header = header_of (record_header_of 0 0 4 0); records = inr (omega arith, omega arith, omega arith) }
 
--- one more is none
+-- one more isn't allowed
 pub too_long : IsCase (behind_header (record_header_of 1 0 4 0)) (Refused BadRecord)
 too_long =
     let left : length (record_header_of 1 0 4 0) ≡ 16 = refl in
     let at_8 : captured Little (record_header_of 1 0 4 0) ≡ 262145 = refl in
     record { order = Little; resolution = Micro; packets = []; header = header_of (record_header_of 1 0 4 0); records = (omega arith, omega arith) }
 
--- unless the header isn't whole
+-- unless the header isn't complete
 pub too_long_cut : IsCase (behind_header (take 15 (record_header_of 1 0 4 0))) (microsecond [] true)
 too_long_cut =
     let left : length (take 15 (record_header_of 1 0 4 0)) ≡ 15 = refl in
     record { header = header_of (take 15 (record_header_of 1 0 4 0)); records = inl (omega arith, omega arith) }
 
--- no captured byte of nine
+-- none of nine captured bytes
 pub none_of_nine : IsCase (behind_header (record_header_of 0 0 0 9)) (small_file 9 [])
 none_of_nine =
     let none : captured Little (record_header_of 0 0 0 9) ≡ 0 = refl in
@@ -174,7 +174,7 @@ none_of_nine =
       );
     }
 
--- a captured byte of none: the wire length is the greater one
+-- one captured byte with length 0 on the wire: the length is the greater one
 pub one_of_none : IsCase (behind_header (one_byte_record 7)) (small_file 1 (7 ∷ []))
 one_of_none =
     let one : captured Little (one_byte_record 7) ≡ 1 = refl in
@@ -194,7 +194,7 @@ short =
     let len : length (take 23 header_alone) ≡ 23 = refl in
     Short (omega arith)
 
--- a header that isn't whole, and has a bad version and another link type
+-- a header that isn't complete, and has a bad version and a different link type
 pub short_first : IsCase (take 23 (with_byte 4 3 (with_byte 20 2 header_alone))) (Refused NotPcap)
 short_first =
     let len : length (take 23 (with_byte 4 3 (with_byte 20 2 header_alone))) ≡ 23 = refl in

@@ -1,11 +1,11 @@
--- Bytes are records in one way.
+-- Bytes are records in only one way.
 use Rattle.std.proofs.Common.{◌≡◌, ℕ, List, [], ◌∷◌, ◌++◌, length, take, drop, refl, sym, ap, ◌∙◌, arith, subst, inl, inr, length-append}
 use Rattle.std.proofs.lemmas.List.{take_at, drop_at}
 use Rattle.pcapio_laws.specs.declared.format.ByteOrder.{ByteOrder}
 use Rattle.pcapio_laws.specs.Capture.{Packet, captured, IsRecord, End, Whole, Torn, Bad, IsEnd, AreRecords}
 use Rattle.pcapio_laws.proofs.Fields.{field-front}
 
--- the text of a record that the bytes begin with is as long as they say
+-- the record at the start of the bytes is as long as its header states
 said : (order : ByteOrder) (bytes text rest : List ℕ) (p : Packet) → bytes ≡ text ++ rest → IsRecord order text p → captured order bytes ≡ captured order text
 said order bytes text rest p e h =
     let whole = h.whole in

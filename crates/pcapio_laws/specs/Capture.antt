@@ -33,7 +33,7 @@ abbrev pub magic_of : Resolution → ℕ
 magic_of Micro = 2712847316
 magic_of Nano = 2712812621
 
--- the order is the one in which the first four bytes are one of the two magics
+-- the byte order in which the first four bytes are one of the two magics
 abbrev pub HasMagic : List ℕ → ByteOrder → Resolution → Type 0
 HasMagic bytes order resolution = take 4 bytes ≡ bytes_in order 4 (magic_of resolution)
 
@@ -55,7 +55,7 @@ pub record HasHeader (bytes : List ℕ) (order : ByteOrder) (resolution : Resolu
   pub version : HasVersion bytes order
   pub link : HasLink bytes order
 
--- a packet: its time, how long it was on the wire, and what was captured of it
+-- a packet: its time, its length on the wire, and the captured bytes
 pub record Packet : Type 0 where
   pub seconds : ℕ
   pub fraction : ℕ
@@ -66,8 +66,8 @@ pub record Packet : Type 0 where
 abbrev pub captured : ByteOrder → List ℕ → ℕ
 captured order text = field order 8 text
 
--- the text of a packet record: 16 bytes of header, and the captured bytes. It was at least as long on the wire as what
--- was captured of it ("Original Packet Length")
+-- the bytes of a packet record: 16 bytes of header, and the captured bytes. The length on the wire is at least the
+-- captured length ("Original Packet Length")
 pub record IsRecord (order : ByteOrder) (text : List ℕ) (packet : Packet) : Type 0 where
   pub whole : length text ≡ 16 + captured order text
   pub small : captured order text ≤ 262144
@@ -76,7 +76,7 @@ pub record IsRecord (order : ByteOrder) (text : List ℕ) (packet : Packet) : Ty
   pub wire : packet.wire ≡ max (field order 12 text) (captured order text)
   pub bytes : packet.bytes ≡ drop 16 text
 
--- how the bytes behind the last record go on: not at all, with a part of a record, or with a header that no record has
+-- what comes after the last record: nothing, a part of a record, or an invalid record header
 pub data End : Type 0 where
   Whole : End
   Torn : End
@@ -90,7 +90,7 @@ EndsInHeader rest = (0 < length rest) × (length rest < 16)
 abbrev pub EndsInBytes : ByteOrder → List ℕ → Type 0
 EndsInBytes order rest = (16 ≤ length rest) × (captured order rest ≤ 262144) × (length rest < 16 + captured order rest)
 
--- a record header that is whole, and says that more was captured than a record has
+-- a record header that is whole, with a captured length above the maximum
 abbrev pub IsBad : ByteOrder → List ℕ → Type 0
 IsBad order rest = (16 ≤ length rest) × (262144 < captured order rest)
 
@@ -99,14 +99,14 @@ IsEnd order rest Whole = rest ≡ []
 IsEnd order rest Torn = EndsInHeader rest ⊎ EndsInBytes order rest
 IsEnd order rest Bad = IsBad order rest
 
--- the texts of these packets, one behind the other, and then this end
+-- the bytes of these packets' records, one after another, and then this end
 abbrev pub AreRecords : ByteOrder → List ℕ → List Packet → End → Type 0
 AreRecords order bytes [] end = IsEnd order bytes end
 AreRecords order bytes (packet ∷ packets) end =
     (text : List ℕ) × (rest : List ℕ) × (bytes ≡ text ++ rest) × IsRecord order text packet
     × AreRecords order rest packets end
 
--- the bytes are records in some way, and in one way
+-- the bytes are records in some way, and in only one way
 abbrev pub HasReading : ByteOrder → List ℕ → Type 0
 HasReading order bytes = (packets : List Packet) × (end : End) × AreRecords order bytes packets end
 
@@ -156,7 +156,7 @@ pub record IsBadRecord (bytes : List ℕ) : Type 0 where
   pub header : HasHeader bytes order resolution
   pub records : AreRecords order (drop 24 bytes) packets Bad
 
--- the bytes are no capture, for this reason
+-- the bytes aren't a capture, for this reason
 abbrev pub IsRefused : List ℕ → CapFault → Type 0
 IsRefused bytes NotPcap = IsNotPcap bytes
 IsRefused bytes BadVersion = IsBadVersion bytes

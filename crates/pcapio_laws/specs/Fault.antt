@@ -1,4 +1,4 @@
--- The numbers of the refusals.
+-- The error numbers.
 use Rattle.std.specs.Prelude.{ℕ}
 use Rattle.pcapio_laws.specs.declared.fault.CapFault.{CapFault}
 

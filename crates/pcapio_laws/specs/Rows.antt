@@ -43,7 +43,7 @@ nanosecond packets torn = Captured (record { order = Big; resolution = Nano; pac
 abbrev pub empty_file : ByteOrder → Resolution → Case
 empty_file order resolution = Captured (record { order = order; resolution = resolution; packets = []; torn = false })
 
--- with another byte at place i
+-- with a different byte at index i
 abbrev pub with_byte : ℕ → ℕ → List ℕ → List ℕ
 with_byte i byte bytes = take i bytes ++ byte ∷ drop (i + 1) bytes
 
@@ -52,11 +52,11 @@ abbrev pub record_header_of : ℕ → ℕ → ℕ → ℕ → List ℕ
 record_header_of low middle high original =
     9 ∷ 0 ∷ 0 ∷ 0 ∷ 8 ∷ 0 ∷ 0 ∷ 0 ∷ low ∷ middle ∷ high ∷ 0 ∷ original ∷ 0 ∷ 0 ∷ 0 ∷ []
 
--- a record of one byte, which says that there was none on the wire
+-- a record of one byte, with a length on the wire of 0
 abbrev pub one_byte_record : ℕ → List ℕ
 one_byte_record byte = record_header_of 1 0 0 0 ++ (byte ∷ [])
 
--- a little-endian microsecond capture of what stands behind the header
+-- a little-endian microsecond capture with these bytes after the header
 abbrev pub behind_header : List ℕ → List ℕ
 behind_header bytes = header_alone ++ bytes
 
@@ -64,6 +64,6 @@ behind_header bytes = header_alone ++ bytes
 abbrev pub microsecond : List Packet → Bool → Case
 microsecond packets torn = Captured (record { order = Little; resolution = Micro; packets = packets; torn = torn })
 
--- a whole capture of a packet of no byte, or of one, with the greater of both lengths
+-- a whole capture of a packet of 0 bytes, or of 1, with the greater of both lengths
 abbrev pub small_file : ℕ → List ℕ → Case
 small_file wire bytes = microsecond (record { seconds = 9; fraction = 8; wire = wire; bytes = bytes } ∷ []) false

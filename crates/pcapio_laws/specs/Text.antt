@@ -1,4 +1,4 @@
--- How packets are written: little-endian, in one file of Ethernet.
+-- How packets are written: little-endian, in one Ethernet file.
 use Rattle.std.specs.Prelude.{ℕ, ◌<◌, ◌≤◌, ◌^◌, List, ◌++◌, length, false}
 use Rattle.std.specs.List.{flat_map}
 use Rattle.byteorder.specs.Endian.{little_bytes}
@@ -29,7 +29,7 @@ file_text resolution packets = file_header resolution ++ flat_map record_text pa
 abbrev pub whole_file : Resolution → List Packet → Capture
 whole_file resolution packets = record { order = Little; resolution = resolution; packets = packets; torn = false }
 
--- what a record of a file says
+-- the fields of a record of a file
 pub record IsPacket (packet : Packet) : Type 0 where
   pub seconds : packet.seconds < 2 ^ 32
   pub fraction : packet.fraction < 2 ^ 32

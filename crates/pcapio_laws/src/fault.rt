@@ -4,7 +4,7 @@ ghost use Rattle.pcapio_laws.specs.Fault.{number_of};
 
 use thiserror::Error;
 
-/// Why a capture is refused, or why a reader or a writer of one gave up.
+/// Why a capture is refused, or why reading or writing one failed.
 #[derive(Clone, Copy, Debug, PartialEq, Eq, Error)]
 pub enum CapFault {
     /// Fewer than 24 bytes, or none of the magics.
@@ -16,16 +16,16 @@ pub enum CapFault {
     /// A link type other than Ethernet.
     #[error("BadLink")]
     BadLink = 3,
-    /// A record header that says that more was captured than a record has.
+    /// A record header with a captured length above the maximum.
     #[error("BadRecord")]
     BadRecord = 4,
-    /// The device failed in a read.
+    /// A read of the device failed.
     #[error("Read")]
     Read = 5,
-    /// The device failed in a write.
+    /// A write to the device failed.
     #[error("Write")]
     Write = 6,
-    /// There is no memory.
+    /// Out of memory.
     #[error("Memory")]
     Memory = 7,
 }

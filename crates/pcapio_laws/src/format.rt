@@ -1,18 +1,18 @@
-//! The words of a file's header that its records depend on.
+//! The fields of a file's header that its records depend on.
 
-/// The order in which the writer of a file put the bytes of a number.
+/// The byte order in which a file was written.
 #[derive(Clone, Copy, Debug, PartialEq, Eq)]
 pub enum ByteOrder {
     Little,
     Big,
 }
 
-/// What the fraction of a time stamp counts: millionths or thousand-millionths of a second.
+/// The unit of a time stamp's fraction: microseconds or nanoseconds.
 #[derive(Clone, Copy, Debug, PartialEq, Eq)]
 pub enum Resolution {
     Micro,
     Nano,
 }
 
-/// The most bytes that a record has captured.
+/// The maximum captured length of a record.
 pub const MAX_CAPTURED: u32 = 262_144;

@@ -1,4 +1,4 @@
-//! What holds of captures whoever reads or writes them. The functions have no body to run: each carries a law.
+//! What holds for captures, whoever reads or writes them. The functions have no body to run: each carries a law.
 ghost use Rattle.std.specs.Prelude.{◌≡◌, ◌<◌, ℕ, List, [], ◌∷◌, take, true, false};
 ghost use Rattle.std.specs.List.{AllByRecursion};
 ghost use Rattle.pcapio_laws.specs.Capture.{Packet, IsCapture, Case, IsCase, Refused, HasReading, HasOneReading};
@@ -12,26 +12,26 @@ ghost use Rattle.pcapio_laws.specs.declared.format.ByteOrder.TheVariants.{Little
 ghost use Rattle.pcapio_laws.specs.declared.format.Resolution.{Resolution};
 ghost use Rattle.pcapio_laws.specs.declared.format.Resolution.TheVariants.{Micro, Nano};
 
-/// What is written is a whole capture, of exactly the packets put.
+/// What is written is a whole capture, with exactly the packets that were put.
 pub fn written_again()
     ensures { (resolution : Resolution) (packets : List Packet) → AllByRecursion IsPacket packets
         → IsCapture (file_text resolution packets) (whole_file resolution packets) }
 {}
 
-/// Bytes are records in one way: these packets, and this end.
+/// Bytes are records in only one way: these packets, and this end.
 pub fn one_reading()
     ensures exists { (order : ByteOrder) (bytes : List ℕ) → HasReading order bytes }
     ensures one { (order : ByteOrder) (bytes : List ℕ) → HasOneReading order bytes }
 {}
 
-/// Each list of bytes is in exactly one case: a capture in one way, or refused for one reason.
+/// Each list of bytes is in exactly one case: a capture, in only one way, or refused, for only one reason.
 pub fn one_case()
     ensures exists { (bytes : List ℕ) → (case : Case) × IsCase bytes case }
     ensures one { (bytes : List ℕ) (a b : Case) → IsCase bytes a → IsCase bytes b → a ≡ b }
 {}
 
-/// Headers: each magic and two that are none, what is ignored, versions and link types on both sides of the right one,
-/// and each refusal in the order of the tests.
+/// Headers: each magic and two non-magics, the ignored fields, versions and link types on both sides of the right one,
+/// and each error in the order of the tests.
 pub fn worked_headers()
     ensures alone { IsCase header_alone (empty_file Little Micro) }
     ensures little_nano { IsCase (with_byte 0 77 (with_byte 1 60 header_alone)) (empty_file Little Nano) }
@@ -54,7 +54,7 @@ pub fn worked_headers()
     ensures bad_link { IsCase (with_byte 20 2 header_alone) (Refused BadLink) }
 {}
 
-/// Records: the longest captured length, one more, a header that isn't whole, and the greater of two lengths.
+/// Records: the maximum captured length, one more, an incomplete header, and the greater of two lengths.
 pub fn worked_lengths()
     ensures longest { IsCase (behind_header (record_header_of 0 0 4 0)) (microsecond [] true) }
     ensures too_long { IsCase (behind_header (record_header_of 1 0 4 0)) (Refused BadRecord) }
@@ -63,7 +63,7 @@ pub fn worked_lengths()
     ensures one_of_none { IsCase (behind_header (one_byte_record 7)) (small_file 1 (7 ∷ [])) }
 {}
 
-/// Each kind of cut through a file of a whole record and a torn one.
+/// Each kind of cut through a file with one whole record and a torn one.
 pub fn worked_cuts()
     ensures short_file { (n : ℕ) → n < 24 → IsCase (take n torn_file) (Refused NotPcap) }
     ensures cut_25 { IsCase (take 25 torn_file) (nanosecond [] true) }

@@ -1,5 +1,5 @@
-//! The program `pktkit`: rings from the bytes of a file of commands, and captures forwarded by routes. `main` hands
-//! over the words and the standard streams alone.
+//! The program `pktkit`: rings driven by a file of commands, and captures forwarded by routes. `main` only passes on
+//! the arguments and the standard streams.
 #![tactic(auto)]
 
 use cli::{program, report_out_of_memory, skip_program_name};
@@ -8,10 +8,10 @@ use std::env;
 use std::io::{ErrorKind, IsTerminal, Write};
 use std::process::ExitCode;
 
-/// What a refused command line ends with.
+/// The exit status of a refused command line.
 const REFUSED: u8 = 2;
 
-/// What somebody at a terminal sees who typed the program's name alone.
+/// What is printed at a terminal if there are no arguments.
 const READING: &[u8] = b"pktkit: reading ring commands from standard input; see pktkit --help\n";
 
 fn main(rt: HostRuntime) -> ExitCode {
@@ -24,7 +24,7 @@ fn main(rt: HostRuntime) -> ExitCode {
         return ExitCode::from(report_out_of_memory(&mut rt.stderr()));
     };
     if words.is_empty() && rt.stdin().is_terminal() {
-        // without the line everything works as well
+        // everything works without this line, too
         let _ = rt.stderr().write_all(READING);
     }
     let status = program(

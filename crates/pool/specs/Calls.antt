@@ -119,7 +119,8 @@ module _ {T : Type 0} {S : Type 0} {G : Ghosts T} {H : StoredGhosts S T} (tags :
   AnswersFlush cache (Err e) later = (e ≡ Worn)
       × (h : Hand T S G H) × Flushes tags most ring plan (view_in k) cache (Err h) later × (view_in l ≡ view h)
 
-module _ {T : Type 0} {S : Type 0} {G : Ghosts T} {H : StoredGhosts S T} {N : ℕ} (tags : T → List ℕ) (plan : RingPlan) (l m : Local T N S G H) where
+module _ {T : Type 0} {S : Type 0} {G : Ghosts T} {H : StoredGhosts S T} {N : ℕ}
+    (tags : T → List ℕ) (plan : RingPlan) (l m : Local T N S G H) where
   -- what the calls of a cache of any items answer: a get, a put with what is left of its list, a flush
   abbrev pub GetTells : {X : Type 0} → ℕ → Result X PoolFault → List T → Type 0
   GetTells n result items =

@@ -33,7 +33,7 @@ impl<T: Tagged, const N: usize, S: Stored<T>> Local<T, N, S> {
 
     /// Pushes a list behind the cache, in order. It is empty then.
     ///
-    /// Refused, in the order of the tests: `NotYours`; `CacheFull` where the threshold, `floor(3 * size / 2)`, would be
+    /// Errors, in the order of the tests: `NotYours`; `CacheFull` where the threshold, `floor(3 * size / 2)`, would be
     /// passed. Nothing moves then, and the list has its items. No step on a word, no memory, no waiting.
     #[inline]
     pub fn put_cached_from(&mut self, list: &mut Burst<T, N>) -> Result<(), PoolFault>

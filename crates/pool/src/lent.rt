@@ -58,7 +58,7 @@ impl<T: Tagged, const N: usize, S: Stored<T>> Local<T, N, S> {
     /// `floor(3 * size / 2)`, would be passed, the oldest of cache and list together go to the ring in one bulk put,
     /// until `size` are left.
     ///
-    /// Refused: `NotYours`, tested first; `Worn`. Nothing moves then, and the list has its items. No memory; it waits
+    /// Errors: `NotYours`, tested first; `Worn`. Nothing moves then, and the list has its items. No memory; it waits
     /// while the ring is busy.
     pub fn put_from<R: Wait>(
         &mut self,
@@ -108,7 +108,7 @@ impl<T: Tagged, const N: usize, S: Stored<T>> Local<T, N, S> {
 
     /// Puts all of the cache on the ring in one bulk put, the oldest first, where it isn't empty.
     ///
-    /// Refused: `Worn`. The cache stays as it is then. No memory; it waits while the ring is busy.
+    /// Errors: `Worn`. The cache stays as it is then. No memory; it waits while the ring is busy.
     pub fn flush<R: Wait>(&mut self, rt: &R, f: &Fabric<T, N, S>) -> Result<(), PoolFault>
         requires local { IsLocalOf f.now self.old }
         ensures local { IsLocalOf f.now self.new }

@@ -19,7 +19,7 @@ pub(crate) fn part<T: Tagged, const N: usize>(
     to.reverse();
 }
 
-/// Moves all items of a list behind those of another, in order. Asked: there is room for them. One item goes without a
+/// Moves all items of a list behind those of another, in order. Requires: there is room for them. One item goes without a
 /// loop.
 #[inline]
 pub(crate) fn push_all<T: Tagged, const N: usize>(to: &mut Burst<T, N>, from: &mut Burst<T, N>)
@@ -36,7 +36,7 @@ pub(crate) fn push_all<T: Tagged, const N: usize>(to: &mut Burst<T, N>, from: &m
     }
 }
 
-/// Moves the first `k` items of a list behind those of another, in order. Asked: there is room for them.
+/// Moves the first `k` items of a list behind those of another, in order. Requires: there is room for them.
 pub(crate) fn serve<T: Tagged, const N: usize>(
     from: &mut Burst<T, N>,
     k: usize,

@@ -25,7 +25,7 @@ pub(crate) fn may_be(size: usize, most: usize) -> bool
 }
 
 impl<T: Tagged, const N: usize, S: Stored<T>> Local<T, N, S> {
-    /// An empty cache of this size, 0 to 512, in front of a free ring. Asked: the ring is one of the hand's fabric, and
+    /// An empty cache of this size, 0 to 512, in front of a free ring. Requires: the ring is one of the hand's fabric, and
     /// free. Refused as `BadSize` where the size is above 512, or `floor(3 * size / 2) + 64` above `N`; the hand comes
     /// back.
     pub fn new(
@@ -51,9 +51,9 @@ impl<T: Tagged, const N: usize, S: Stored<T>> Local<T, N, S> {
         })
     }
 
-    /// A cache of this size that has these items, the oldest first, as `into_hand` gave them. Asked: as of `new`.
+    /// A cache of this size that has these items, the oldest first, as `into_hand` gave them. Requires: as of `new`.
     ///
-    /// Refused, in the order of the tests: `BadSize`, as of `new`; `NotYours`; `CacheFull` where there are more than
+    /// Errors, in the order of the tests: `BadSize`, as of `new`; `NotYours`; `CacheFull` where there are more than
     /// `floor(3 * size / 2)`. The hand and the items come back. No step on a word, no memory.
     pub fn resume(
         hand: Hand<T, S>,

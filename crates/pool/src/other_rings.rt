@@ -73,7 +73,7 @@ impl<T: Tagged, const N: usize, S: Stored<T>> Local<T, N, S> {
     /// Puts as many items of a list as there is room for on a ring of the fabric, from its front, and tries again while
     /// the ring is busy. What was not moved stays in the list, in order; the cache stays as it is.
     ///
-    /// Refused, in the order of the tests: `NotYours`, where the items aren't the hand's to put beside those that are
+    /// Errors, in the order of the tests: `NotYours`, where the items aren't the hand's to put beside those that are
     /// cached, before any step; `Start`: `BadCount` where the list is empty; `NoRoom`; `Worn`. No memory; it doesn't
     /// wait for room.
     pub fn send_from<R: Wait>(
@@ -99,7 +99,7 @@ impl<T: Tagged, const N: usize, S: Stored<T>> Local<T, N, S> {
     /// Takes at most `n` items from a ring of the fabric, as many as are queued, into an empty list, and tries again
     /// while the ring is busy. The cache stays as it is.
     ///
-    /// Refused, in the order of the tests: `BadCount` where `n` is 0 or above `N`; `NoRoom` where none is queued;
+    /// Errors, in the order of the tests: `BadCount` where `n` is 0 or above `N`; `NoRoom` where none is queued;
     /// `Worn`. No memory; it doesn't wait for items.
     pub fn receive_into<R: Wait>(
         &mut self,

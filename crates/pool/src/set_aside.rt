@@ -27,7 +27,7 @@ pub(crate) fn take_hand<T: Tagged, S: Stored<T>>(
     }
 }
 
-/// The hand as one that keeps the buffers of a cache back. Asked: they are its own to put on a free ring.
+/// The hand as one that keeps the buffers of a cache back. Requires: they are its own to put on a free ring.
 pub(crate) fn keep_back<T: Tagged, const N: usize, S: Stored<T>>(
     hand: Hand<T, S>,
     cache: &Burst<T, N>,

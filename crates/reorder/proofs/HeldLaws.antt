@@ -1,4 +1,4 @@
--- What a row of places holds, by number, and what a write or a step of `next` changes of it.
+-- What a row of places holds, by number, and what a write or a step of `next` changes in it.
 use Rattle.std.proofs.Common.{◌≡◌, ◌≢◌, ℕ, zero, suc, ◌+◌, ◌%◌, ◌<◌, ◌≤◌, ◌⊎◌, inl, inr, true, false, cond, List, length, get_or, set, Option, Some, None, refl}
 use Rattle.std.proofs.Common.{sym, ap, ◌∙◌, arith, length-set, eq-eqb, ne_eqb, is_some, true≢false}
 use Rattle.std.specs.Ordering.{nat_cmp, eq_by_cmp}
@@ -44,7 +44,7 @@ module _ {T : Type 0} where
         ∙ find_inside places count (n + 1) q (omega arith) (omega arith)
   ]
 
-  -- a number of the window has what stands at its place
+  -- a number of the window has what is at its place
   pub held_inside : (places : List (Option T)) (next q : ℕ) → next ≤ q → q < next + length places
       → get (held_in places next) q ≡ at_number places q
   held_inside places next q low high = get-from_entries nat_cmp_total _ q
@@ -144,7 +144,7 @@ module _ {T : Type 0} where
       | inr past ↦ held_outside places later q (inr past) ∙ sym (held_outside places next q (inr (omega arith)))
     ]
 
-    -- `next` may pass numbers whose places have nothing
+    -- `next` may pass numbers whose places are empty
     pub held_later : held_in places later ≡ held_in places next
     held_later = same_map nat_cmp_total nat_cmp-IsAntisymmetric _ _ (λ q. elim (cases_lt q later) [
       | inl below ↦ held_outside places later q (inl below) ∙ sym (passed q below)

@@ -59,7 +59,7 @@ module _ {X : Type 0} where
   first_found : (e : ℕ × X) (es : List (ℕ × X)) → is_some (find nat_cmp e.0 (e ∷ es)) ≡ true
   first_found e es = ap (λ b. is_some (cond b (Some e.1) (find nat_cmp e.0 es))) (tied e.0 e.0 refl)
 
-  -- r is n, or the least number found where that is lower
+  -- r is n, or the least number found if that is lower
   least_of : (n r : ℕ) (es : List (ℕ × X)) → T (is_sorted nat_cmp es) → r ≤ n
       → ((k : ℕ) → is_some (find nat_cmp k es) ≡ true → r ≤ k) → (r < n → is_some (find nat_cmp r es) ≡ true)
       → min n (get_or (map (λ e. e.0) es) 0 n) ≡ r

@@ -1,4 +1,4 @@
--- Which answer `insert` gives when: each of its answers against the clauses on what is accepted and on doubles.
+-- Which result `insert` returns when: each of its results against the clauses on what is accepted and on doubles.
 use Rattle.std.proofs.Common.{◌≡◌, ℕ, ◌<◌, ◌≤◌, ◌↔◌, true, false, Option, Some, None, Ok, Err, Result, IsErrOf, IsOk, IsTrue, is_some, true≢false, refl, sym}
 use Rattle.std.proofs.Common.{ap, ◌∙◌, arith}
 use Rattle.std.specs.FinMap.{get, contains_key}
@@ -11,7 +11,7 @@ pub is_none : {T : Type 0} (o : Option T) → is_some o ≡ false → o ≡ None
 is_none None none = refl
 is_none (Some x) none = absurd (true≢false none)
 
--- 0, or the number of the refusal
+-- 0, or the error number
 abbrev answered : {T : Type 0} → Result (Unit {0}) (T × InsertFault) → ℕ
 answered (Ok done) = 0
 answered (Err refusal) = number_of refusal.1

@@ -5,7 +5,7 @@ use native.Mathlib.Nat.{mod-eq-sub-mod, mod-add-mod, mod-le, add-mod-mod}
 use Rattle.std.proofs.lemmas.Bool.{cases_lt, cases_order}
 use Rattle.reorder.specs.Places.{at_number}
 
--- a step of less than a row closes the ring once at most
+-- a step of less than a row wraps at most once
 pub wraps_once : (size place : ℕ) → place < size + size → ((place < size) × (place % size ≡ place)) ⊎
     ((size ≤ place) × (place % size ≡ place - size))
 wraps_once size place below = elim (cases_lt place size) [
@@ -13,7 +13,7 @@ wraps_once size place below = elim (cases_lt place size) [
   | inr high ↦ inr (high, mod-eq-sub-mod high ∙ mod-eq_of_lt (omega arith))
 ]
 
--- two numbers less than a row apart have places of their own
+-- two different numbers less than a row apart have different places
 pub apart : (size a b : ℕ) → 0 < size → a < b → b < a + size → a % size ≢ b % size
 apart size a b some above near same =
     let low : a % size < size = mod-lt a some in
@@ -22,7 +22,7 @@ apart size a b some above near same =
     elim (wraps_once size (a % size + (b - a)) (omega arith))
     [ inl near ↦ omega (arith, near) | inr far ↦ omega (arith, far) ]
 
--- two other numbers of one window have other places
+-- two different numbers of one window have different places
 pub other_place : (size next a b : ℕ) → 0 < size → next ≤ a → a < next + size → next ≤ b → b < next + size → a ≢ b
     → a % size ≢ b % size
 other_place size next a b some a_low a_high b_low b_high other same = elim (cases_order a b) [
@@ -43,7 +43,7 @@ place_before size next q some from = (
 )
 
 module _ {T : Type 0} (places : List (Option T)) (n : ℕ) (o : Option T) where
-  -- a write at the place of n is what stands at n
+  -- a write at the place of n is what is at n
   pub at_written : 0 < length places → at_number (set places (n % length places) o) n ≡ o
   at_written some = rw length-set (get_or-set_same places (n % length places) o None (mod-lt n some))
 

@@ -1,4 +1,4 @@
--- What each call does to the window that its places stand for.
+-- What each call does to the window that its places represent.
 use Rattle.std.proofs.Common.{◌≡◌, ◌≢◌, ℕ, ◌+◌, ◌-◌, ◌%◌, ◌^◌, ◌<◌, ◌≤◌, inl, inr, Bool, true, false, cond, List, length, get_or, set, replicate, Option, Some}
 use Rattle.std.proofs.Common.{None, is_some, true≢false, refl, sym, ap, ap₂, subst, ◌∙◌, arith, length-set, mod-lt}
 use native.Mathlib.Nat.{mod-add-mod, zero-mod}
@@ -28,7 +28,7 @@ module _ {T : Type 0} where
         ];
   }
 
-  -- to take an item that is held leaves fewer
+  -- taking an item that is held leaves fewer
   pub fewer_after : (window : Waiting T) → is_some (get window.held window.next) ≡ true
       → len (after_next window).held < len window.held
   fewer_after window held =
@@ -50,7 +50,7 @@ module _ {T : Type 0} where
         | inr above ↦ held_outside (replicate size None) 0 q (inr (omega arith))
       ]
 
-  -- a new row of places stands for an empty window
+  -- a new row of places represents an empty window
   pub laid_new : (size : ℕ) → 0 < size → size ≤ 65536 → IsRowOf (replicate {A = Option T} size None) 0 0
   laid_new size some small = record {
     some = rw length-replicate some;
@@ -101,7 +101,7 @@ module _ {T : Type 0} where
         read_at next head o (omega arith) (omega (arith, laid.some)) laid.at_head read
         ∙ ap (λ w. get w.held w.next) is
 
-    -- a number whose item is here is not the last of 64 bits
+    -- a number whose item is here isn't the last of 64 bits
     pub next_reached : is_some (get (held_in places next) next) ≡ true → next < 2 ^ 64 - 1
     next_reached held = elim (cases_lt next (2 ^ 64 - 1)) [
       | inl reached ↦ reached

@@ -1,4 +1,4 @@
--- The numbers of the refusals.
+-- The error numbers.
 use Rattle.std.specs.Prelude.{ℕ}
 use Rattle.reorder.specs.declared.fault.InsertFault.{InsertFault}
 use Rattle.reorder.specs.declared.fault.InsertFault.TheVariants.{Late, Early, Double}

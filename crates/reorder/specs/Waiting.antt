@@ -1,5 +1,5 @@
 -- A reorder window as its contracts see it (DPDK Programmer's Guide, "Reorder Library"): the items that wait, by their
--- sequence numbers, and the number whose turn is next. Nothing is said of where an item stands.
+-- sequence numbers, and the number whose turn is next. Where an item is stored is not part of it.
 use Rattle.std.specs.Prelude.{◌≡◌, ℕ, ◌+◌, ◌-◌, ◌^◌, ◌<◌, ◌≤◌, min, max, IsTrue, None, slice_index_or, refl}
 use Rattle.std.specs.Ordering.{nat_cmp}
 use Rattle.std.specs.Coded.{Coded, code_by, coded×, coded_ℕ}
@@ -8,7 +8,7 @@ use Rattle.std.specs.FinMap as map
 pub record Waiting (T : Type 0) : Type 0 where
   -- the items, by number
   pub held : map.FinMap nat_cmp T
-  -- the number to give next
+  -- the next number to be released
   pub next : ℕ
   -- how many numbers the window spans
   pub size : ℕ
@@ -22,7 +22,7 @@ module _ {T : Type 0} where
   abbrev pub end_of : Waiting T → ℕ
   end_of w = min (w.next + w.size) (2 ^ 64 - 1)
 
-  -- number n is of the window, and no item has it
+  -- number n is within the window, and no item has it
   pub record IsFree (w : Waiting T) (n : ℕ) : Type 0 where
     pub in_turn : w.next ≤ n
     pub in_reach : n < end_of w
@@ -36,15 +36,15 @@ module _ {T : Type 0} where
   abbrev pub after_next : Waiting T → Waiting T
   after_next w = record w { held = map.remove w.held w.next; next = w.next + 1 }
 
-  -- the least number held, or `other` where none is held
+  -- the least number held, or `other` if none is held
   abbrev pub least_held_or : Waiting T → ℕ → ℕ
   least_held_or w other = slice_index_or (map.keys w.held) 0 other
 
-  -- `next` moves up to n, but past no item that waits, and never down
+  -- `next` moves up to n, but not past an item that waits, and never down
   abbrev pub slid_to : Waiting T → ℕ → ℕ
   slid_to w n = max w.next (min n (least_held_or w n))
 
-  -- what holds of every window: its size, and that each number held is from `next` on and not early
+  -- what holds for every window: its size, and that each number held is from `next` on and not early
   pub record IsWindow (w : Waiting T) : Type 0 where
     pub some : 0 < w.size
     pub small : w.size ≤ 65536

@@ -1,12 +1,12 @@
-//! A reorder window: takes items in any order by their sequence numbers, and gives them in order (DPDK Programmer's
-//! Guide, "Reorder Library"). `insert`, `pop`, `pass` and `next` look at one place, `slide` at each place once at most,
-//! and no call but `new` takes memory.
+//! A reorder window: accepts items in any order of their sequence numbers, and releases them in sequence (DPDK
+//! Programmer's Guide, "Reorder Library"). `insert`, `pop`, `pass` and `next` look at one place, `slide` at each place
+//! at most once, and no call but `new` takes memory.
 //!
-//! Contracts see a window as a finite map from numbers to items and the number whose turn is next. That number n
-//! stands at place `n mod size` is known to this crate alone.
+//! Contracts see a window as a finite map from numbers to items and the number whose turn is next. Only this crate
+//! knows that number n is at place `n mod size`.
 //!
-//! A caller, proved in memory_tests (`in_turn`): two items that come in the wrong order leave in the right one, and
-//! neither `unwrap` can fail.
+//! A caller, proved in memory_tests (`in_turn`): two items that arrive out of order leave in order, and neither
+//! `unwrap` can fail.
 //!
 //! ```text
 //! let mut window = Window::new(alloc, 2)?;

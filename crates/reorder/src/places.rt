@@ -1,10 +1,10 @@
-//! The row of places under a window.
+//! The row of places of a window.
 ghost use Rattle.std.specs.Prelude.{◌≡◌, ◌+◌, ◌%◌, ◌<◌, ◌≤◌, IfOk, Some, None, vec_len, replicate, slice_set, slice_index_or};
 ghost use Rattle.reorder.specs.Places.{IsFirstHeld};
 
 use std::alloc::{AllocError, Global};
 
-/// `size` places with nothing in them.
+/// `size` empty places.
 pub(crate) fn empty_row<T>(alloc: Global, size: usize) -> Result<Vec<Option<T>>, AllocError>
     ensures { IfOk result (λ places. places.items ≡ replicate size None) }
 {
@@ -15,7 +15,7 @@ pub(crate) fn empty_row<T>(alloc: Global, size: usize) -> Result<Vec<Option<T>>,
     Ok(places)
 }
 
-/// The place that is `ahead` places behind `head` in a row of `size` that closes to a ring.
+/// The place that is `ahead` places after `head` in a circular row of `size`.
 pub(crate) fn place_of(head: usize, ahead: usize, size: usize) -> usize
     requires head_in { head < size }
     requires ahead_in { ahead ≤ size }
@@ -26,7 +26,7 @@ pub(crate) fn place_of(head: usize, ahead: usize, size: usize) -> usize
     if place < size { place } else { place - size }
 }
 
-/// Puts an item into a place that has none.
+/// Puts an item into an empty place.
 pub(crate) fn put<T>(places: &mut Vec<Option<T>>, place: usize, item: T)
     requires inside { place < vec_len places.old }
     requires vacant { slice_index_or places.old.items place None ≡ None }
@@ -38,7 +38,7 @@ pub(crate) fn put<T>(places: &mut Vec<Option<T>>, place: usize, item: T)
     }
 }
 
-/// The least number from `next` on, below `seq`, whose place has an item, or `seq` where there is none.
+/// The least number from `next` on, below `seq`, whose place has an item, or `seq` if there is none.
 pub(crate) fn first_held<T>(places: &Vec<Option<T>>, next: u64, seq: u64) -> u64
     requires nonzero { 0 < vec_len places.now }
     requires ahead { next ≤ seq }

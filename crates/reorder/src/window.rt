@@ -8,18 +8,18 @@ use crate::places::{empty_row, first_held, place_of, put};
 use std::alloc::{AllocError, Global};
 use std::marker::Model;
 
-/// The largest window, in numbers.
+/// The maximum size of a window, in numbers.
 pub const MAX_SIZE: usize = 65_536;
 
-/// Items that wait for their turn, each under its sequence number: from `next()` on, and less than the window's size
-/// above it. A window may be let go where its items may.
+/// Items that wait for their turn, each with its sequence number: from `next()` on, and less than the window's size
+/// above it. A window may be dropped if its items may.
 #[derive(Drop)]
 pub struct Window<T> {
-    // The item of number n stands at place `n % places.len()`.
+    // The item with number n is at place `n % places.len()`.
     places: Vec<Option<T>>,
     // The number whose turn it is.
     next: u64,
-    // Its place, `next % places.len()`, so that no call but `slide` divides.
+    // The place of `next`, `next % places.len()`, so that no call but `slide` divides.
     head: usize,
 }
 
@@ -37,8 +37,8 @@ impl<T> Model for Window<T> {
 }
 
 impl<T> Window<T> {
-    /// A window of `size` numbers, from 1 to 65,536, that waits for number 0. It takes memory for its places, and no
-    /// other call takes any.
+    /// A window of `size` numbers, from 1 to 65,536, that waits for number 0. Takes memory for its places; no other
+    /// call takes any.
     pub fn new(alloc: Global, size: usize) -> Result<Self, AllocError>
         requires nonzero { 0 < size }
         requires small { size ≤ MAX_SIZE }
@@ -51,7 +51,7 @@ impl<T> Window<T> {
         })
     }
 
-    /// The number whose turn it is. Every item here has a number from it on, and below the window's end.
+    /// The number whose turn it is. Every item in the window has a number from this one on, and below the window's end.
     pub fn next(&self) -> u64
         ensures next { result ≡ self.now.next }
         ensures window { IsWindow self.now }
@@ -59,9 +59,9 @@ impl<T> Window<T> {
         self.next
     }
 
-    /// Puts an item into the window under its number. It is refused, and handed back, as 1 Late where the number is
-    /// below the next one, 2 Early where it is the window's size or more above it, or 2^64 - 1, and 3 Double where an
-    /// item of this number waits. A refusal changes nothing. One place is looked at, and no memory is taken.
+    /// Inserts an item with its number. Errors, with the item handed back: 1 Late if the number is below the next one,
+    /// 2 Early if it is at least the window's size above it, or 2^64 - 1, and 3 Double if an item with this number is
+    /// waiting. An error changes nothing. Looks at one place, and takes no memory.
     pub fn insert(&mut self, seq: u64, item: T) -> Result<(), (T, InsertFault)>
         ensures accepted { IsOk result ↔ IsFree self.old seq }
         ensures late { IsErrOf result (item, InsertFault.Late) ↔ (seq < self.old.next) }
@@ -87,8 +87,8 @@ impl<T> Window<T> {
         Ok(())
     }
 
-    /// Takes the item whose turn it is, and the turn goes to the following number. Where that item isn't here yet,
-    /// gives none and changes nothing. One place is looked at, and no memory is taken.
+    /// Takes the item whose turn it is, and moves on to the following number. If that item hasn't arrived, returns
+    /// `None` and changes nothing. Looks at one place, and takes no memory.
     pub fn pop(&mut self) -> Option<T>
         ensures item { result ≡ map.get self.old.held self.old.next }
         ensures given { OnSome result (self.new ≡ after_next self.old) }
@@ -101,9 +101,9 @@ impl<T> Window<T> {
         Some(item)
     }
 
-    /// Lets an item go by whose number this is, where it is this number's turn and no item waits under it: the turn
-    /// goes to the following number, as after `insert` and `pop`, and the item isn't moved. Else, and for 2^64 - 1,
-    /// answers false and changes nothing. One place is looked at, and no memory is taken.
+    /// Lets the item with this number pass if it is its turn and no item waits under the number: the turn moves to the
+    /// following number, as after `insert` and `pop`, and the item isn't moved. Otherwise, and for 2^64 - 1, returns
+    /// false and changes nothing. Looks at one place, and takes no memory.
     pub fn pass(&mut self, seq: u64) -> bool
         ensures passed { IsTrue result ↔ ((seq ≡ self.old.next) × IsFree self.old seq) }
         ensures turn { IsTrue result → self.new ≡ record self.old { next = self.old.next + 1 } }
@@ -123,9 +123,9 @@ impl<T> Window<T> {
         true
     }
 
-    /// Gives up waiting for numbers below `seq`: the turn goes to `seq`, or to the least number that an item here has,
-    /// if that is lower. It never goes back, and no item is lost. Answers the number whose turn it is then. Each place
-    /// is looked at once at most, and no memory is taken.
+    /// Stops waiting for numbers below `seq`: the turn moves to `seq`, or to the lowest number of an item in the
+    /// window, if that is lower. It never goes back, and no item is lost. Returns the number whose turn it is then.
+    /// Looks at each place at most once, and takes no memory.
     pub fn slide(&mut self, seq: u64) -> u64
         ensures turn { result ≡ slid_to self.old seq }
         ensures kept { self.new ≡ record self.old { next = result } }

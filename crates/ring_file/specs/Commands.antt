@@ -1,4 +1,4 @@
--- The commands of a ring file: what forms a line has
+-- The commands of a ring file: the forms of a line
 use Rattle.std.specs.Prelude.{ℕ, ◌&&◌, nat_le, Bool, List, [], ◌∷◌, drop, Option, Some, None, if◌then◌else◌, codes}
 use Rattle.std.specs.Option.{option_map}
 use Rattle.std.specs.List.{list_all}
@@ -9,7 +9,7 @@ use Rattle.command_file.specs.Hows.{how_of}
 use Rattle.ring_file.specs.declared.command.Command.{Command}
 use Rattle.ring_file.specs.declared.command.Command.TheVariants.{Power, Exact, Put, Take, Count}
 
--- a byte that can be seen: ASCII without controls and space
+-- a visible byte: ASCII without controls and space
 abbrev pub is_graphic : ℕ → Bool
 is_graphic b = nat_le 33 b && nat_le b 126
 
@@ -44,7 +44,7 @@ longer_of verb second rest =
     else (if bytes_eq verb (codes "put") then put_of second rest
     else (if bytes_eq verb (codes "take") then take_of second rest else None))
 
--- the command that a line of these words is, if it has one of the forms
+-- the command of a line with these words, if it has one of the forms
 --   ring power N    ring exact N    put HOW ITEM..    take HOW N    count
 abbrev pub command_of : List Bytes → Option Command
 command_of [] = None

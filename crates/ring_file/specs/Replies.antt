@@ -17,7 +17,7 @@ use Rattle.ring_file.specs.Commands.{command_of, items_named}
 use Rattle.ring_file.specs.declared.command.Command.{Command}
 use Rattle.ring_file.specs.declared.command.Command.TheVariants.{Power, Exact, Put, Take, Count}
 
--- the ring that stands, if one does
+-- the current ring, if there is one
 abbrev pub RingState : Type 0
 RingState = Option (Fifo Bytes)
 
@@ -28,7 +28,7 @@ ring_contents ring = record { capacity = ring.capacity; items = texts ring.items
 abbrev pub contents : Option (Fifo (Bor Bytes)) → RingState
 contents ring = option_map ring_contents ring
 
--- a new ring where the size is given; else the ring before stays
+-- a new ring if the size is valid; otherwise the previous ring stays
 abbrev pub made : Result Extent GeomFault → RingState → RingState
 made (Ok e) state = Some record { capacity = e.capacity; items = [] }
 made (Err fault) state = state
@@ -89,7 +89,7 @@ command_text (Some ring) (Take how n) items = take_text ring how n
 command_text (Some ring) Count items = count_text ring
 command_text None command items = codes "no ring"
 
--- what a line of these words adds to the replies, and what it leaves
+-- what a line with these words adds to the replies, and the state after it
 abbrev pub told : RingState → List Bytes → Option Command → Bytes
 told state words (Some command) = command_text state command (items_named words) ++ codes "\n"
 told state words None = []
@@ -98,7 +98,7 @@ abbrev pub done : RingState → List Bytes → Option Command → RingState
 done state words (Some command) = ring_past state command (items_named words)
 done state words None = state
 
--- how a ring file is answered: a line may stand that has the form of a command
+-- how a ring file is answered: a line is allowed if it has the form of a command
 abbrev pub ring_file : Kind RingState
 ring_file =
     record {

@@ -11,11 +11,11 @@ use ringcore::OneRing;
 use std::alloc::{AllocError, Global};
 use std::collections::VecDeque;
 
-/// The ring of a run: its items are words of the file.
+/// The ring of a file: its items are words of the file.
 pub type Ring<'a> = OneRing<&'a [u8]>;
 
-/// Answers a command with the items that it names. After an error the ring may have changed and the reply be a
-/// beginning.
+/// Answers a command with the items that it names. After an error the ring may have changed, and the reply may be
+/// incomplete.
 pub fn answer<'a>(
     alloc: Global,
     ring: &mut Option<Ring<'a>>,
@@ -45,7 +45,7 @@ pub fn answer<'a>(
     }
 }
 
-/// Answers `ring`: a new empty ring, or the refusal, and then the ring before stays.
+/// Answers `ring`: a new empty ring, or the error; the previous ring then stays.
 fn make<'a>(
     alloc: Global,
     ring: &mut Option<Ring<'a>>,

@@ -8,7 +8,7 @@ ghost use Rattle.ring_file.specs.Commands.{command_of, longer_of, sized_of, put_
 use command_file::{how_of, len_is_1_to, number_of};
 use geom::How;
 
-/// How many bytes an item has at most.
+/// The maximum length of an item, in bytes.
 const MAX_ITEM: usize = 32;
 
 /// A command of a ring file. The items of a put are the line's words after the first two.
@@ -27,7 +27,7 @@ pub enum Command {
 }
 
 impl Command {
-    /// The command that a line of these words is, if it has one of the forms.
+    /// The command of a line with these words, if it has one of the forms.
     pub fn parse(words: &[&[u8]]) -> Option<Command>
         ensures { result ≡ command_of (texts words.now) }
     {

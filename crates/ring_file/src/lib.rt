@@ -1,7 +1,7 @@
-//! The replies to a ring file: commands on one ring, a line each.
+//! The replies to a ring file: commands on one ring, one per line.
 //!
-//! A line's way goes through the modules in one order: `text` goes over the lines of a file, `command` reads what a
-//! line asks for, and `answer` does it and writes the reply.
+//! A line passes through the modules in one order: `text` goes over the lines of a file, `command` parses a line, and
+//! `answer` runs the command and writes the reply.
 #![tactic(auto)]
 
 mod answer;

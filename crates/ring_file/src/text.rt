@@ -13,8 +13,8 @@ use std::alloc::{AllocError, Global};
 
 /// Appends the replies to a file of ring commands to `out`.
 ///
-/// Refused: 1 `BadLine(n)`, where line n is the first that fits no form: `out` has then gained the replies to the
-/// lines before; 2 `Memory`: `out` has then gained the replies to some of the first lines.
+/// Errors: 1 `BadLine(n)`, if line n is the first without a valid form: the replies to the lines before it have then
+/// been appended to `out`; 2 `Memory`: the replies to some of the first lines have then been appended.
 pub fn ring_text(alloc: Global, bytes: &[u8], out: &mut Vec<u8>) -> Result<(), TextFault>
     ensures ok { let lines = lines_of bytes.now in
         OnOk result (IsAnsweredTo ring_file (length lines) lines out.old.items out.new.items) }
@@ -47,7 +47,7 @@ pub fn ring_text(alloc: Global, bytes: &[u8], out: &mut Vec<u8>) -> Result<(), T
     Ok(())
 }
 
-/// Answers the line of this number, whose words go into `words`.
+/// Answers the line with this number, whose words go into `words`.
 fn answer_line<'a>(
     alloc: Global,
     ring: &mut Option<Ring<'a>>,
@@ -75,7 +75,7 @@ fn answer_line<'a>(
     answer_command(alloc, ring, command, words.as_slice(), reply).map_err(|_| TextFault::Memory)
 }
 
-/// Answers a command, whose line has these words, with a line.
+/// Answers a command, with the words of its line, with a line.
 fn answer_command<'a>(
     alloc: Global,
     ring: &mut Option<Ring<'a>>,

@@ -16,7 +16,7 @@ use std::sync::Wait;
 
 /// Tries once to put all items of a list, or none. What was not moved stays in the list, in order.
 ///
-/// Refused, in the order of the tests: `NotYours`, before any step; `BadCount` where the list is empty; `Busy`;
+/// Errors, in the order of the tests: `NotYours`, before any step; `BadCount` where the list is empty; `Busy`;
 /// `NoRoom`; `Worn`; `Contended`. `Open` on a multi side alone. No memory, no waiting; at most four steps on words.
 pub fn try_put_bulk_from<'f, T: Tagged, const N: usize, S: Stored<T>>(
     f: &'f Fabric<T, N, S>,
@@ -34,7 +34,7 @@ pub fn try_put_bulk_from<'f, T: Tagged, const N: usize, S: Stored<T>>(
 /// Tries once to put as many items of a list as there is room for, from its front. What was not moved stays in the
 /// list, in order.
 ///
-/// Refused, in the order of the tests: `NotYours`, before any step; `BadCount` where the list is empty; `Busy`;
+/// Errors, in the order of the tests: `NotYours`, before any step; `BadCount` where the list is empty; `Busy`;
 /// `NoRoom`; `Worn`; `Contended`. `Open` on a multi side alone. No memory, no waiting; at most four steps on words.
 pub fn try_put_burst_from<'f, T: Tagged, const N: usize, S: Stored<T>>(
     f: &'f Fabric<T, N, S>,
@@ -87,7 +87,7 @@ pub fn put_burst_from<'f, T: Tagged, const N: usize, S: Stored<T>, R: Wait>(
 }
 
 /// `put_bulk_from` of items that are the hand's to put, as who got them from a pool knows: nothing is tested before the
-/// start. Asked: they are.
+/// start. Requires: they are.
 ///
 /// Never answered: `NotYours`, `Open`, `Busy`, `Contended`. No memory; any number of steps on words.
 pub fn put_own_bulk_from<'f, T: Tagged, const N: usize, S: Stored<T>, R: Wait>(
@@ -106,7 +106,7 @@ pub fn put_own_bulk_from<'f, T: Tagged, const N: usize, S: Stored<T>, R: Wait>(
 }
 
 /// `put_burst_from` of items that are the hand's to put, as who got them from a pool knows: nothing is tested before
-/// the start. Asked: they are.
+/// the start. Requires: they are.
 ///
 /// Never answered: `NotYours`, `Open`, `Busy`, `Contended`. No memory; any number of steps on words.
 pub fn put_own_burst_from<'f, T: Tagged, const N: usize, S: Stored<T>, R: Wait>(
@@ -124,9 +124,9 @@ pub fn put_own_burst_from<'f, T: Tagged, const N: usize, S: Stored<T>, R: Wait>(
     put_own(rt, f, hand, ring, How::Burst, list)
 }
 
-/// Tries once to take `n` items, or none, into an empty list. Asked: the list is empty.
+/// Tries once to take `n` items, or none, into an empty list. Requires: the list is empty.
 ///
-/// Refused, in the order of the tests: `BadCount` where `n` is 0 or above `N`, before any step; `Busy`; `NoRoom`;
+/// Errors, in the order of the tests: `BadCount` where `n` is 0 or above `N`, before any step; `Busy`; `NoRoom`;
 /// `Worn`; `Contended`. `Open` on a multi side alone. No memory, no waiting; at most four steps on words.
 pub fn try_take_bulk_into<'f, T: Tagged, const N: usize, S: Stored<T>>(
     f: &'f Fabric<T, N, S>,
@@ -143,9 +143,9 @@ pub fn try_take_bulk_into<'f, T: Tagged, const N: usize, S: Stored<T>>(
     try_take(f, hand, ring, n, How::Bulk, into)
 }
 
-/// Tries once to take at most `n` items, as many as are queued, into an empty list. Asked: the list is empty.
+/// Tries once to take at most `n` items, as many as are queued, into an empty list. Requires: the list is empty.
 ///
-/// Refused, in the order of the tests: `BadCount` where `n` is 0 or above `N`, before any step; `Busy`; `NoRoom`;
+/// Errors, in the order of the tests: `BadCount` where `n` is 0 or above `N`, before any step; `Busy`; `NoRoom`;
 /// `Worn`; `Contended`. `Open` on a multi side alone. No memory, no waiting; at most four steps on words.
 pub fn try_take_burst_into<'f, T: Tagged, const N: usize, S: Stored<T>>(
     f: &'f Fabric<T, N, S>,
@@ -163,7 +163,7 @@ pub fn try_take_burst_into<'f, T: Tagged, const N: usize, S: Stored<T>>(
 }
 
 /// Takes `n` items, or none, into an empty list, and tries again after `Busy`, `Contended` and a settle that comes
-/// too early, with a backoff in between. It doesn't wait for items. Asked: the list is empty.
+/// too early, with a backoff in between. It doesn't wait for items. Requires: the list is empty.
 ///
 /// Never answered: `Open`, `Busy`, `Contended`. No memory; any number of steps on words.
 pub fn take_bulk_into<'f, T: Tagged, const N: usize, S: Stored<T>, R: Wait>(
@@ -183,7 +183,7 @@ pub fn take_bulk_into<'f, T: Tagged, const N: usize, S: Stored<T>, R: Wait>(
 }
 
 /// Takes at most `n` items, as many as are queued, into an empty list, and tries again after `Busy`, `Contended`
-/// and a settle that comes too early, with a backoff in between. It doesn't wait for items. Asked: the list is
+/// and a settle that comes too early, with a backoff in between. It doesn't wait for items. Requires: the list is
 /// empty.
 ///
 /// Never answered: `Open`, `Busy`, `Contended`. No memory; any number of steps on words.

@@ -41,7 +41,7 @@ pub struct PeekTake<'f, T: Tagged, const N: usize, S: Stored<T> = Option<T>> {
     pub ghost shows: { items ≡ (take_view peek.span).shown },
 }
 
-/// Tries once to reserve positions for a put: by bulk `n` of them, by burst at most `n`. Asked: the put side is
+/// Tries once to reserve positions for a put: by bulk `n` of them, by burst at most `n`. Requires: the put side is
 /// head/tail-sync. Refused as `Fabric::try_start_put`; the hand comes back. No memory; at most three steps on
 /// words.
 pub fn peek_put<'f, T: Tagged, const N: usize, S: Stored<T>>(
@@ -70,7 +70,7 @@ pub fn peek_put<'f, T: Tagged, const N: usize, S: Stored<T>>(
 }
 
 /// Tries once to reserve items: by bulk `n` of them, by burst at most `n`. They go into an empty list, and stay
-/// queued. Asked: the list is empty, and the take side is head/tail-sync. Refused as `Fabric::try_start_take_into`;
+/// queued. Requires: the list is empty, and the take side is head/tail-sync. Refused as `Fabric::try_start_take_into`;
 /// the hand comes back. No memory; at most three steps on words.
 pub fn peek_take_into<'f, T: Tagged, const N: usize, S: Stored<T>>(
     f: &'f Fabric<T, N, S>,
@@ -153,7 +153,7 @@ impl<'f, T: Tagged, const N: usize, S: Stored<T>> PeekPut<'f, T, N, S> {
     /// Puts the items at the first positions, and gives up the others. The list is empty then; at a refusal it is
     /// as it was, and the peek is open. No memory; one step on a word.
     ///
-    /// Refused, in the order of the tests: `BadCount` where there are more items than positions; `NotYours`.
+    /// Errors, in the order of the tests: `BadCount` where there are more items than positions; `NotYours`.
     pub fn finish_from(
         self,
         items: &mut Burst<T, N>,
@@ -217,10 +217,10 @@ impl<'f, T: Tagged, const N: usize, S: Stored<T>> PeekTakeLent<'f, T, N, S> {
     }
 
     /// Takes the first `k` items; the others are queued again. The list then has those that were taken; at a
-    /// refusal it is as it was, and the peek is open. Asked: the list has the items that the start showed. No
+    /// refusal it is as it was, and the peek is open. Requires: the list has the items that the start showed. No
     /// memory; one step on a word.
     ///
-    /// Refused: `BadCount` where `k` is above the count.
+    /// Errors: `BadCount` where `k` is above the count.
     pub fn finish_into(
         self,
         k: usize,
@@ -238,7 +238,7 @@ impl<'f, T: Tagged, const N: usize, S: Stored<T>> PeekTakeLent<'f, T, N, S> {
         }
     }
 
-    /// Takes nothing: all items are queued again, and the list is empty. Asked: it has the items that the start
+    /// Takes nothing: all items are queued again, and the list is empty. Requires: it has the items that the start
     /// showed. No memory; one step on a word.
     pub fn abort(self, items: &mut Burst<T, N>) -> Hand<T, S>
         requires shows { items.old ≡ (take_view self.span).shown }

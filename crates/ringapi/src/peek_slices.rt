@@ -49,7 +49,7 @@ impl<'f, T: Word, const N: usize, S: Stored<T>> PeekPut<'f, T, N, S> {
     /// Puts the words of a slice at the first positions, and gives up the others. At a refusal the peek is open. No
     /// memory; one step on a word.
     ///
-    /// Refused, in the order of the tests: `BadCount` if there are more words than positions; `NotYours`.
+    /// Errors, in the order of the tests: `BadCount` if there are more words than positions; `NotYours`.
     pub fn finish_slice(
         self,
         items: &[T],
@@ -70,7 +70,7 @@ impl<'f, T: Word, const N: usize, S: Stored<T>> PeekTakeLent<'f, T, N, S> {
     /// Takes the first `k` words; the others are queued again. At a refusal the peek is open. Requires: these are the
     /// words that the start copied, the first `count` of its slice. No memory; one step on a word.
     ///
-    /// Refused: `BadCount` if `k` is above the count.
+    /// Errors: `BadCount` if `k` is above the count.
     pub fn finish_slice(
         self,
         k: usize,

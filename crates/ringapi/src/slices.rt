@@ -21,7 +21,7 @@ use std::sync::Wait;
 
 /// Tries once to put all words of a slice, or none. The slice stays as it is.
 ///
-/// Refused, in the order of the tests: `NotYours`, before any step; `BadCount` if the slice is empty or has more than
+/// Errors, in the order of the tests: `NotYours`, before any step; `BadCount` if the slice is empty or has more than
 /// `N` words; `Busy`; `NoRoom`; `Worn`; `Contended`. `Open` on a multi side alone. No memory, no waiting; at most four
 /// steps on words.
 pub fn try_put_bulk_slice<'f, T: Word, const N: usize, S: Stored<T>>(
@@ -40,7 +40,7 @@ pub fn try_put_bulk_slice<'f, T: Word, const N: usize, S: Stored<T>>(
 /// Tries once to put as many words of a slice as there is room for, from its front: `Moved::count` says how many were
 /// put. The slice stays as it is.
 ///
-/// Refused, in the order of the tests: `NotYours`, before any step; `BadCount` if the slice is empty or has more than
+/// Errors, in the order of the tests: `NotYours`, before any step; `BadCount` if the slice is empty or has more than
 /// `N` words; `Busy`; `NoRoom`; `Worn`; `Contended`. `Open` on a multi side alone. No memory, no waiting; at most four
 /// steps on words.
 pub fn try_put_burst_slice<'f, T: Word, const N: usize, S: Stored<T>>(
@@ -59,7 +59,7 @@ pub fn try_put_burst_slice<'f, T: Word, const N: usize, S: Stored<T>>(
 /// Puts all words of a slice, or none, and tries again after `Busy`, `Contended` and a settle that comes too early,
 /// with a backoff in between. It doesn't wait for room. The slice stays as it is.
 ///
-/// Refused, in the order of the tests: `NotYours`, before any step; `BadCount` if the slice is empty or has more than
+/// Errors, in the order of the tests: `NotYours`, before any step; `BadCount` if the slice is empty or has more than
 /// `N` words; `NoRoom`; `Worn`. Never `Open`, `Busy` or `Contended`. No memory; any number of steps on words.
 pub fn put_bulk_slice<'f, T: Word, const N: usize, S: Stored<T>, R: Wait>(
     rt: &R,
@@ -79,7 +79,7 @@ pub fn put_bulk_slice<'f, T: Word, const N: usize, S: Stored<T>, R: Wait>(
 /// settle that comes too early, with a backoff in between. It doesn't wait for room. `Moved::count` says how many were
 /// put; the slice stays as it is.
 ///
-/// Refused, in the order of the tests: `NotYours`, before any step; `BadCount` if the slice is empty or has more than
+/// Errors, in the order of the tests: `NotYours`, before any step; `BadCount` if the slice is empty or has more than
 /// `N` words; `NoRoom`; `Worn`. Never `Open`, `Busy` or `Contended`. No memory; any number of steps on words.
 pub fn put_burst_slice<'f, T: Word, const N: usize, S: Stored<T>, R: Wait>(
     rt: &R,
@@ -98,7 +98,7 @@ pub fn put_burst_slice<'f, T: Word, const N: usize, S: Stored<T>, R: Wait>(
 /// `put_bulk_slice` of words that are the hand's to put, as a caller that got them from a pool knows: nothing is tested
 /// before the start. Requires: they are.
 ///
-/// Refused, in the order of the tests: `BadCount` if the slice is empty or has more than `N` words; `NoRoom`; `Worn`.
+/// Errors, in the order of the tests: `BadCount` if the slice is empty or has more than `N` words; `NoRoom`; `Worn`.
 /// Never `NotYours`, `Open`, `Busy` or `Contended`. No memory; any number of steps on words.
 pub fn put_own_bulk_slice<'f, T: Word, const N: usize, S: Stored<T>, R: Wait>(
     rt: &R,
@@ -118,7 +118,7 @@ pub fn put_own_bulk_slice<'f, T: Word, const N: usize, S: Stored<T>, R: Wait>(
 /// `put_burst_slice` of words that are the hand's to put, as a caller that got them from a pool knows: nothing is
 /// tested before the start. Requires: they are.
 ///
-/// Refused, in the order of the tests: `BadCount` if the slice is empty or has more than `N` words; `NoRoom`; `Worn`.
+/// Errors, in the order of the tests: `BadCount` if the slice is empty or has more than `N` words; `NoRoom`; `Worn`.
 /// Never `NotYours`, `Open`, `Busy` or `Contended`. No memory; any number of steps on words.
 pub fn put_own_burst_slice<'f, T: Word, const N: usize, S: Stored<T>, R: Wait>(
     rt: &R,
@@ -138,7 +138,7 @@ pub fn put_own_burst_slice<'f, T: Word, const N: usize, S: Stored<T>, R: Wait>(
 /// Tries once to take as many words as a slice has places, or none. The slice has them then; at a refusal it is as it
 /// was.
 ///
-/// Refused, in the order of the tests: `BadCount` if the slice is empty or has more than `N` places, before any step;
+/// Errors, in the order of the tests: `BadCount` if the slice is empty or has more than `N` places, before any step;
 /// `Busy`; `NoRoom`; `Worn`; `Contended`. `Open` on a multi side alone. No memory, no waiting; at most four steps on
 /// words.
 pub fn try_take_bulk_slice<'f, T: Word, const N: usize, S: Stored<T>>(
@@ -158,7 +158,7 @@ pub fn try_take_bulk_slice<'f, T: Word, const N: usize, S: Stored<T>>(
 /// Tries once to take at most as many words as a slice has places, as many as are queued. They stand at the front of
 /// the slice then, and `Moved::count` says how many; the places after them, and at a refusal all, are as they were.
 ///
-/// Refused, in the order of the tests: `BadCount` if the slice is empty or has more than `N` places, before any step;
+/// Errors, in the order of the tests: `BadCount` if the slice is empty or has more than `N` places, before any step;
 /// `Busy`; `NoRoom`; `Worn`; `Contended`. `Open` on a multi side alone. No memory, no waiting; at most four steps on
 /// words.
 pub fn try_take_burst_slice<'f, T: Word, const N: usize, S: Stored<T>>(
@@ -178,7 +178,7 @@ pub fn try_take_burst_slice<'f, T: Word, const N: usize, S: Stored<T>>(
 /// Takes as many words as a slice has places, or none, and tries again after `Busy`, `Contended` and a settle that
 /// comes too early, with a backoff in between. It doesn't wait for items. At a refusal the slice is as it was.
 ///
-/// Refused, in the order of the tests: `BadCount` if the slice is empty or has more than `N` places, before any step;
+/// Errors, in the order of the tests: `BadCount` if the slice is empty or has more than `N` places, before any step;
 /// `NoRoom`; `Worn`. Never `Open`, `Busy` or `Contended`. No memory; any number of steps on words.
 pub fn take_bulk_slice<'f, T: Word, const N: usize, S: Stored<T>, R: Wait>(
     rt: &R,
@@ -200,7 +200,7 @@ pub fn take_bulk_slice<'f, T: Word, const N: usize, S: Stored<T>, R: Wait>(
 /// front of the slice then, and `Moved::count` says how many; the places after them, and at a refusal all, are as they
 /// were.
 ///
-/// Refused, in the order of the tests: `BadCount` if the slice is empty or has more than `N` places, before any step;
+/// Errors, in the order of the tests: `BadCount` if the slice is empty or has more than `N` places, before any step;
 /// `NoRoom`; `Worn`. Never `Open`, `Busy` or `Contended`. No memory; any number of steps on words.
 pub fn take_burst_slice<'f, T: Word, const N: usize, S: Stored<T>, R: Wait>(
     rt: &R,

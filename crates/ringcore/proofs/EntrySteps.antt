@@ -1,4 +1,4 @@
--- What is written to the entries of numbers, and the marks that are taken back
+-- What is written to the entries of numbers, and the marks that are removed again
 use Rattle.std.proofs.Common.{ℕ, zero, suc, ◌+◌, ◌<◌, ◌≤◌, ◌≢◌, ◌≡◌, ◌⊎◌, inl, inr, List, [], ◌∷◌, ◌++◌, length, take, drop, refl, ap, sym, subst, ◌∙◌, arith}
 use Rattle.std.proofs.Common.{true, false, Bool}
 use Rattle.std.specs.Prelude.{slice_set, slice_index_or, Some, None, ◌==◌, ◌&&◌, if◌then◌else◌}
@@ -24,7 +24,7 @@ pub with_each-append : (places : List Place) (xs ys : List ℕ) (x : Place) → 
 with_each-append places [] ys x = refl
 with_each-append places (b ∷ xs) ys x = with_each-append (slice_set places b x) xs ys x
 
--- one number more, and the numbers of one item more
+-- one more number, and the numbers of one more item
 pub with_each-more : (places : List Place) (xs : List ℕ) (b : ℕ) (x : Place) → with_each places (xs ++ b ∷ []) x ≡ slice_set (with_each places xs x) b x
 with_each-more places xs b x = with_each-append places xs (b ∷ []) x
 
@@ -95,7 +95,7 @@ cached_is i (Held j) h = absurd (let u : false ≡ true = h in cc)
 cached_is i (Cached j) h = ap (λ v. Cached v) (let e : j ≡ i = grind (arith, nat_tests) in e)
 cached_is i Nowhere h = absurd (let u : false ≡ true = h in cc)
 
--- the entry is there, where it says something
+-- the entry exists, if it has content
 pub within : (places : List Place) (b : ℕ) (x : Place) → entry places b ≡ x → x ≢ Nowhere → b < length places
 within places b x h some = elim (below_or_not b (length places)) [
   | inl lt ↦ lt
@@ -147,7 +147,7 @@ claimed_stops i places (b ∷ xs) ys h =
     by_test true e rest = claims i places b (xs ++ ys) e ∙ rest e
     by_test false e rest = stops i places b (xs ++ ys) e
 
--- the marks taken back
+-- the marks removed again
 pub unclaimed : (i : ℕ) (places marked : List Place) (xs : List ℕ) → claimed i places xs ≡ Some marked → with_each marked xs (Held i) ≡ places
 unclaimed i places marked [] h = sym (same_plan h)
 unclaimed i places marked (b ∷ xs) h =
@@ -180,7 +180,7 @@ items_split items k item lt is =
     ∙ (flat_map-append tags (take (k + 1) items) (drop (k + 1) items)
     ∙ ap (λ v. v ++ flat_map tags (drop (k + 1) items)) (tags_more items k item lt is))
 
--- 3. what the test says
+-- 3. the result of the test
 
 -- entries with one mark more
 marked_same : (places : List Place) (b i : ℕ) → b < length places → is_held_at i (entry (slice_set places b (Cached i)) b) ≡ false
@@ -251,7 +251,7 @@ all_pass f (b ∷ xs) each =
     both true b one two = two
     both false b one two = one
 
--- numbers pass just where each is held and none stands twice
+-- numbers pass exactly if each is held and none is listed twice
 pub passed_is : (i : ℕ) (old new : List Place) (xs : List ℕ) (t : Bool) → IsClaimed i old new xs t → t ≡ are_held_apart i old xs
 passed_is i old new xs true h =
     sym (both (list_all (λ b. is_held_at i (entry old b)) xs) (list_all (λ b. occurrences b xs == 1) xs)
@@ -279,7 +279,7 @@ passed_is i old new xs false h = by_test (are_held_apart i old xs) refl
         let two = and_true (list_all (λ b. is_held_at i (entry old b)) xs) (list_all (λ b. occurrences b xs == 1) xs) e in
         absurd (claim_never i old xs h.0 (λ c some. passes (λ b. is_held_at i (entry old b)) xs c two.0 some) (λ c. few two.1 c (occurrences c xs) refl))
 
--- the marks of numbers that passed, taken back
+-- the marks of numbers that passed, removed again
 pub passed_back : (i : ℕ) (old new : List Place) (xs : List ℕ) (t : Bool) → IsClaimed i old new xs t → t ≡ true → with_each new xs (Held i) ≡ old
 passed_back i old new xs true h e = unclaimed i old new xs h
 passed_back i old new xs false h e = absurd (let u : false ≡ true = e in cc)

@@ -78,7 +78,7 @@ hand_same pool places i a b m n h held cached number count = record {
   cached = λ c. ap (λ v. list_any (λ z. z == c) v) cached ∙ h.cached c;
 }
 
--- an actor whose buffers and marks stay, and rings of which no item is moved
+-- an actor whose buffers and marks are unchanged, and rings with no item moved
 pub entries_kept : (pool : ℕ) (rings new_rings : List Ring) (places : List Place) (members : List Member) (actors : List Actor) (i : ℕ) (a b : Actor)
     (m n : Member)
     → EntriesAgree pool rings places members actors → slice_get actors i ≡ Some a → slice_get members i ≡ Some m
@@ -92,7 +92,7 @@ entries_kept pool rings new_rings places members actors i a b m n e ha hm held c
     (hand_same pool places i a b m n (e.each_hand i a m ha hm) held cached number count)
     (λ c. alike i (entry places c) (entry places c) refl) queued e.named
 
--- the positions on each ring, where one ring changed
+-- the positions on each ring, if one ring changed
 pub each_queued : (rings : List Ring) (ring : ℕ) (x y : Ring) (places new : List Place) → slice_get rings ring ≡ Some x
     → ((r : ℕ) (z : Ring) → slice_get rings r ≡ Some z → (b : ℕ) → positions_from b z.take.tail z.queue.items ≡ positions_on r (entry places b))
     → ((b : ℕ) → positions_from b y.take.tail y.queue.items ≡ positions_on ring (entry new b))
@@ -181,7 +181,7 @@ entries_marked pool rings places members actors i a m b x y marks e ha hm is lt 
     h : HandAgrees pool places i a m
     h = e.each_hand i a m ha hm
 
-    -- what is the same of both entries is the same of all
+    -- what is the same for both entries is the same for all
     at : {X : Type 0} (c : ℕ) (f : Place → X) → f y ≡ f x → f (entry (slice_set places b y) c) ≡ f (entry places c)
     at c f same = elim (same_or_not c b) [
       | inl own ↦ ap f (written_one places b c y own lt) ∙ (same ∙ sym (ap f (ap (entry places) own ∙ is)))

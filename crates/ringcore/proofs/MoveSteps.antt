@@ -26,7 +26,7 @@ use Rattle.ringcore.specs.Entries.{entry, is_cached_at, is_held_at, positions_on
 use Rattle.ringcore.proofs.EntrySteps.{held_is, length-with_each, length-with_items_at, occurs_apart, occurs_here, within}
 use Rattle.ringcore.proofs.HandSteps.{SeenAlike, alike, apart_test, each_queued, entries_lift, same_test, written_one}
 
--- 1. what stands where
+-- 1. what is where
 
 occurs_both : (b : ℕ) (xs ys : List ℕ) → occurrences b (xs ++ ys) ≡ occurrences b xs + occurrences b ys
 occurs_both b xs ys = sum_by-append (λ n. if n == b then 1 else 0) xs ys
@@ -361,7 +361,7 @@ module _ (pool : ℕ) (rings : List Ring) (places : List Place) (members : List 
       ap (positions_from c x.take.tail) (sym (take-append-drop count x.queue.items))
       ∙ positions-append c x.take.tail (take count x.queue.items) (drop count x.queue.items)
 
-  -- a number that is taken was on the ring, and stands nowhere else there
+  -- a number that is taken was on the ring, and is nowhere else there
   take_case : (count c : ℕ) → occurrences c (flat_map tags (take count x.queue.items)) ≤ 1
       → Stays (entry places c) (entry (with_each places (flat_map tags (take count x.queue.items)) (Held i)) c)
       (occurrences c (flat_map tags (take count x.queue.items)))

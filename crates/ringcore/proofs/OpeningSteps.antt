@@ -1,4 +1,4 @@
--- What stands right after the opening
+-- The state right after the opening
 use Rattle.std.proofs.Common.{ℕ, zero, suc, ◌+◌, ◌<◌, ◌≤◌, ◌≡◌, ◌≢◌, ◌∙◌, ◌⊎◌, inl, inr, List, [], ◌∷◌, ◌++◌, length, arith, true, false, Bool, ◌&&◌, cond}
 use Rattle.std.proofs.Common.{refl, ap}
 use Rattle.std.proofs.Common.{sym, subst}
@@ -185,7 +185,7 @@ in_range b a (suc n) le lt = elim (same_or_not b a) [
     above : b ≢ a → a + 1 ≤ b
     above apart = grind (arith, apart)
 
--- the entry of a buffer is with the actor that was given it
+-- the entry of a buffer is with the actor it was given to
 entry_given : (gifts : List ℕ) (b : ℕ) → b < length gifts → entry (map (λ g. Held g) gifts) b ≡ Held (slice_index gifts b)
 entry_given [] b lt = absurd (omega (arith, lt))
 entry_given (g ∷ gifts) zero lt = refl
@@ -214,7 +214,7 @@ given_is gifts i b = elim (below_or_not b (length gifts)) [
   | inr le ↦ given_out gifts i b le ∙ sym (ap (times_with i) (entry_past gifts b le))
 ]
 
--- what holds of held entries and of none holds of all
+-- what holds for held entries and for none holds for all
 of_given : (P : Place → Type 0) → ((g : ℕ) → P (Held g)) → P Nowhere → (gifts : List ℕ) (b : ℕ) → P (entry (map (λ g. Held g) gifts) b)
 of_given P held none gifts b = elim (below_or_not b (length gifts)) [
   | inl lt ↦ subst (λ (v : Place). P v) (sym (entry_given gifts b lt)) (held (slice_index gifts b))

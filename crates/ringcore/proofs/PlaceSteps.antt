@@ -1,4 +1,4 @@
--- The place that an entry tells is the first of all places
+-- The place in an entry is the first of all places
 use Rattle.std.proofs.Common.{ℕ, zero, suc, ◌+◌, ◌<◌, ◌≡◌, ◌≢◌, ◌∙◌, List, [], ◌∷◌, ◌++◌, length, map, refl, ap, sym, subst, arith, true, false}
 use Rattle.std.specs.Prelude.{Some, slice_get, ◌==◌, if◌then◌else◌}
 use Rattle.std.specs.List.{flat_map, range_with_len}
@@ -18,7 +18,7 @@ use Rattle.ringcore.specs.Histories.{AgreesWith, History, actors_of, pool_size}
 use Rattle.ringcore.proofs.HandSteps.{apart_test, same_test}
 use Rattle.ringcore.specs.Planned.{rings_in}
 
--- what an entry tells of rings and of actors
+-- what an entry shows about rings and actors
 on_ring_of : Place → ℕ → List Place
 on_ring_of x r = map (AtRing r) (positions_on r x)
 
@@ -104,7 +104,7 @@ one_actor x y j i (suc k) (a ∷ actors) at lt one is others =
     (others i (λ h. absurd (omega (arith, at, ap (λ (v : ℕ). v) h))))
     ∙ one_actor x y j (i + 1) k actors (omega (arith, at)) (omega (arith, lt)) one is others
 
--- an entry that names a ring or an actor that is there tells the first place
+-- an entry that names an existing ring or actor shows the first place
 first_shown : (x : Place) (rings : ℕ) (actors : List Actor) → IsNamed rings (length actors) x
     → first_place (rings_from x 0 rings ++ actors_from x 0 actors) ≡ x
 first_shown (AtRing s p) rings actors named = one_ring s p 0 rings s (omega arith) named (actors_from (AtRing s p) 0 actors)

@@ -1,4 +1,4 @@
--- A row of rings with their plans: what stands at a number, how many there are, and what a write of one ring makes of it
+-- A row of rings with their plans: what is at an index, how many there are, and the result of a write of one ring
 use Rattle.std.proofs.Common.{◌≡◌, ◌∙◌, ℕ, zero, suc, List, [], ◌∷◌, ◌++◌, length, refl, ap, sym}
 use Rattle.std.specs.Prelude.{Some, slice_get, slice_set, slice_index_or}
 use Rattle.geom.specs.declared.plan.RingPlan.{RingPlan}
@@ -13,7 +13,7 @@ plans_length (r ∷ rings) = ap suc (plans_length rings)
 pub plans_counted : (n : ℕ) (rings : List PlannedRing) → n ≡ length rings → n ≡ length (plans_in rings)
 plans_counted n rings counted = counted ∙ sym (plans_length rings)
 
--- the plan and the ring at a number, whatever stands for none
+-- the plan and the ring at an index, whatever the default
 pub plan_there : (rings : List PlannedRing) (i : ℕ) (plan : RingPlan) (d : PlannedRing) → slice_get (plans_in rings) i ≡ Some plan
     → (slice_index_or rings i d).plan ≡ plan
 plan_there [] i plan d there = absurd cc
@@ -26,7 +26,7 @@ ring_there [] i ring d there = absurd cc
 ring_there (r ∷ rings) zero ring d there = cc
 ring_there (r ∷ rings) (suc i) ring d there = ring_there rings i ring d there
 
--- a write of the ring at a number leaves the plans
+-- a write of the ring at an index leaves the plans
 pub plans_kept : (rings : List PlannedRing) (i : ℕ) (d x : PlannedRing) → x.plan ≡ (slice_index_or rings i d).plan
     → plans_in (slice_set rings i x) ≡ plans_in rings
 plans_kept [] i d x same = refl

@@ -1,4 +1,4 @@
--- Right histories, and one more run behind them
+-- Right histories, and one more run after them
 use Rattle.std.proofs.Common.{◌≡◌, ◌<◌, ◌↔◌, ℕ, List, [], ◌∷◌, ◌++◌, length, refl, sym, ap, subst, ◌∙◌}
 use Rattle.std.specs.Prelude.{Option, Some, None, slice_get, vec_len}
 use Rattle.std.proofs.lemmas.List.{length-set}
@@ -36,7 +36,7 @@ right_kept h right =
     run_kept h.plans (pool_size h) (opening_of h) h.events right.plan.rings
     (opening_kept h.plans h.actors h.gifts right.plan.to_actors) right.run
 
--- a run behind a right history makes a right history
+-- a run after a right history makes a right history
 pub right_followed : (h : History) (events : List Event) → IsRight h → IsRun h.plans (pool_size h) (actors_of h) events → IsRight (followed_by h events)
 right_followed h events right more =
     let run = run_append h.plans (pool_size h) (opening_of h) h.events events right.run more in
@@ -105,7 +105,7 @@ run_followed old new h entries replies same goes agree right =
       right_followed h (events_of entries replies) right ran,
     )
 
--- how many actors there are stays
+-- the number of actors is unchanged
 after_length : (actors : List Actor) (e : Event) → length (after actors e) ≡ length actors
 unfolding after
 after_length actors e = here (slice_get actors e.actor)

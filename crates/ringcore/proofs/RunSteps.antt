@@ -1,4 +1,4 @@
--- A run goes on by one step
+-- A run continues by one step
 use Rattle.std.proofs.Common.{ℕ, ◌+◌, ◌≡◌, ◌∙◌, List, [], ◌∷◌, ◌++◌, length, refl, ap, sym, subst, arith}
 use Rattle.std.proofs.lemmas.List.{append_assoc, length-append}
 use Rattle.geom.specs.declared.plan.RingPlan.{RingPlan}
@@ -93,7 +93,7 @@ run_goes_on plans old new pool actors entries replies left rest i step r same fi
     (subst (λ (v : List (ℕ × Step)). RunsTo plans pool actors entries replies v (world_rings old) old.places.items old.members.items) first run)
     (λ now kept agrees. there pool now fits kept agrees)
 
--- the same run, where the lists differ only in the room that was made in them
+-- the same run, when the lists differ only in the room that was made in them
 pub run_unchanged : (plans : List RingPlan) (old new : World) (pool : ℕ) (actors : List Actor) (entries : List (ℕ × Step)) (replies : List Reply)
     (rest : List (ℕ × Step)) → IsUnchanged old new → RunsTo plans pool actors entries replies rest (world_rings old) old.places.items old.members.items
     → RunsTo plans pool actors entries replies rest (world_rings new) new.places.items new.members.items
@@ -107,7 +107,7 @@ run_unchanged plans old new pool actors entries replies rest same run = record {
       (same.1, same.2, same.3) run.agree;
 }
 
--- what stands at an Err
+-- what holds at an Err
 pub on_err_of : {T E P : Type 0} (r : Result T E) → P → OnErr r P
 on_err_of (Ok x) p = tt
 on_err_of (Err e) p = p

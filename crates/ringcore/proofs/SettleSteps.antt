@@ -1,4 +1,4 @@
--- A settle: its answer by the tail is the reply, and the machine's lists agree after it
+-- A settle: its reply by the tail is the right one, and the machine's lists agree after it
 use Rattle.std.proofs.Common.{ℕ, suc, ◌+◌, ◌-◌, ◌<◌, ◌≤◌, ◌≢◌, ◌≡◌, ◌⊎◌, inl, inr, List, [], ◌∷◌, ◌++◌, length, take, drop, refl, ap, sym, subst, ◌∙◌, arith}
 use Rattle.std.proofs.Common.{true, false, Bool}
 use Rattle.std.specs.Prelude.{slice_get, slice_set, slice_index_or, Option, Some, None, not, ◌&&◌, ◌||◌, ◌==◌, nat_lt, ◌^◌, if◌then◌else◌}
@@ -99,7 +99,7 @@ or_true : (a b : Bool) → (a || b) ≡ true → (a ≡ true) ⊎ (b ≡ true)
 or_true true b h = inl refl
 or_true false b h = inr h
 
--- a party that passes stands somewhere
+-- a party that passes is in the list
 found : (f : Party Item → Bool) (xs : List (Party Item)) → list_any f xs ≡ true → (j : ℕ) × (j < length xs)
     × ((d : Party Item) → f (slice_index_or xs j d) ≡ true)
 found f [] h = absurd (let u : false ≡ true = h in cc)
@@ -116,7 +116,7 @@ below_tells ring side start (Some s) h = let both = and_true (is_on s.ring s.sid
     less : nat_lt s.start start ≡ true → s.start < start
     less e = grind (arith, nat_tests)
 
--- a span is the first exactly where it starts at the tail
+-- a span is the first exactly if it starts at the tail
 pub earlier_is : (plans : List RingPlan) (parties : List (Party Item)) (k : ℕ) (d : Party Item) (s : Span) (plan : RingPlan) → HeadTailRule plans parties
     → IsGapless (side_of parties s.ring s.side)
     → ((p : ℕ) → 0 < (side_of parties s.ring s.side).openers p → (side_of parties s.ring s.side).items_at p ≡ [])

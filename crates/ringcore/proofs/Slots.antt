@@ -14,7 +14,7 @@ use Rattle.std.specs.Option.{option_to_list}
 use Rattle.geom.specs.Extent.{Extent, IsExtent}
 use Rattle.ringcore.specs.Fifo.{slots_from, queued, IsLaidOut}
 
--- a number below two laps wraps once at most
+-- a number below two laps wraps at most once
 wraps_once : (n i : ℕ) → i < n + n → ((i < n) × (i % n ≡ i)) ⊎ ((n ≤ i) × (i % n ≡ i - n))
 wraps_once n i below =
     elim (cases_lt i n) [
@@ -22,7 +22,7 @@ wraps_once n i below =
       | inr high ↦ inr (high, mod-eq-sub-mod high ∙ mod-eq_of_lt (omega arith))
     ]
 
--- a write n slots behind the front, around the end, is a write at place n
+-- a write n slots after the front, wrapping at the end, is a write at place n
 pub slots_from-set : {A : Type 0} (xs : List A) (k n i : ℕ) (v : A) → k < length xs → n < length xs → i ≡ (k + n) % length xs
     → slots_from k (set xs i v) ≡ set (slots_from k xs) n v
 slots_from-set xs k n i v front there at =

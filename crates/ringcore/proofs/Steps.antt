@@ -50,7 +50,7 @@ tried_agrees a m ring side NoSpan h = h
 tried_agrees a m ring side (Granted start count left) h = record { span = refl; observed = refl }
 tried_agrees a m ring side _ h = record { span = h.span; observed = refl }
 
--- 2. all lists, where one actor and the rings changed
+-- 2. all lists, when one actor and the rings changed
 
 pub lift : (plans : List RingPlan) (rings new : List Ring) (members : List Member) (actors : List Actor) (i : ℕ) (a : Actor) (m : Member)
     → SpansAgree plans rings members actors → i < length actors → MemberAgrees a m → length new ≡ length plans
@@ -75,7 +75,7 @@ lift plans rings new members actors i a m h lt own count ok = record {
   each_ring = ok;
 }
 
--- an actor whose spans and buffers stay leaves the rings as they are
+-- an actor whose spans and buffers are unchanged leaves the rings as they are
 pub lift_same : (plans : List RingPlan) (rings : List Ring) (members : List Member) (actors : List Actor) (i : ℕ) (d a : Actor) (m : Member)
     → SpansAgree plans rings members actors → i < length actors → MemberAgrees a m → a.party ≡ (slice_index_or actors i d).party
     → SpansAgree plans rings (slice_set members i m) (slice_set actors i a)
@@ -91,7 +91,7 @@ set_same [] i x h = refl
 set_same (y ∷ ys) zero x h = ap (λ v. v ∷ ys) (sym (same_plan h))
 set_same (y ∷ ys) (suc i) x h = ap (λ v. y ∷ v) (set_same ys i x h)
 
--- a side after a reservation behind all others
+-- a side after a reservation after all others
 words_reserved : (mode : Mode) (before after : RingSide Item) (ring : ℕ) (side : Side) (span : Span) (w : Words) (left : ℕ)
     → is_on span.ring span.side ring side ≡ true → Reserves before after ring side span → IsNext mode before span.start
     → WordsAgree mode before w → WordsAgree mode after (words_after w (Granted span.start span.count left))
@@ -154,7 +154,7 @@ other_ring_agrees plan parties i d span r x lt idle apart h = record {
   capacity = h.capacity;
 }
 
--- all lists after a Reserve was answered so
+-- all lists after this reply to a Reserve
 pub reserve_agrees : (plans : List RingPlan) (rings : List Ring) (members : List Member) (actors : List Actor) (i : ℕ) (a : Actor) (m : Member) (ring : ℕ)
     (side : Side) (plan : RingPlan) (x : Ring) (reply : Reply)
     → SpansAgree plans rings members actors → i < length actors → ((d : Actor) → slice_index_or actors i d ≡ a) → MemberAgrees a m

@@ -1,4 +1,4 @@
--- A world that keeps the same agrees with the same histories
+-- A world with the same content agrees with the same histories
 use Rattle.std.proofs.Common.{ℕ, ◌≡◌, ◌∙◌, List, sym, subst}
 use Rattle.geom.specs.declared.plan.RingPlan.{RingPlan}
 use Rattle.ringcore_laws.specs.declared.protocol.Place.{Place}

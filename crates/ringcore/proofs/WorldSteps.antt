@@ -75,7 +75,7 @@ module _ (plans : List RingPlan) (pool : ℕ) (rings : List Ring) (places : List
   hand : HandAgrees pool places i me.0 mine.0
   hand = agree.entries.each_hand i me.0 mine.0 me.1 mine.1
 
-  -- the entries, where the actor's buffers and marks stay
+  -- the entries, if the actor's buffers and marks are unchanged
   kept : (b : Actor) (n : Member) → ((c : ℕ) → holds tags c b.party ≡ holds tags c me.0.party) → b.cached ≡ me.0.cached → n.number ≡ mine.0.number
       → n.count ≡ mine.0.count → EntriesAgree pool rings places (slice_set members i n) (slice_set actors i b)
   kept b n held cached number count =

@@ -46,14 +46,14 @@ pub record SpansAgree (plans : List RingPlan) (rings : List Ring) (members : Lis
       → slice_get rings r ≡ Some ring
       → RingAgrees plan (parties_of actors) r ring
 
--- the buffers of an actor, of a pool of so many, by the entries
+-- the buffers of an actor, of a pool of this size, by the entries
 pub record HandAgrees (pool : ℕ) (places : List Place) (i : ℕ) (a : Actor) (m : Member) : Type 0 where
   pub number : m.number ≡ i
   pub count : m.count ≡ buffers_of_actor pool a
   pub held : (b : ℕ) → holds tags b a.party ≡ times_with i (entry places b)
   pub cached : (b : ℕ) → is_cached a b ≡ is_cached_at i (entry places b)
 
--- the ring or the actor that an entry names is there
+-- the ring or the actor that an entry names exists
 abbrev pub IsNamed : ℕ → ℕ → Place → Type 0
 IsNamed rings actors (AtRing r p) = r < rings
 IsNamed rings actors (Held i) = i < actors
@@ -70,7 +70,7 @@ pub record EntriesAgree (pool : ℕ) (rings : List Ring) (places : List Place) (
       → positions_from b ring.take.tail ring.queue.items ≡ positions_on r (entry places b)
   pub named : (b : ℕ) → IsNamed (length rings) (length members) (entry places b)
 
--- all that a world keeps
+-- everything that a world keeps
 pub record ListsAgree (plans : List RingPlan) (pool : ℕ) (rings : List Ring) (places : List Place)
     (members : List Member) (actors : List Actor) : Type 0 where
   pub spans : SpansAgree plans rings members actors

@@ -1,4 +1,4 @@
--- What an answered step changes of the members, rings and entries
+-- What an answered step changes in the members, rings and entries
 use Rattle.std.specs.Prelude.{ℕ, true, false, ◌≡◌, ◌+◌, ◌-◌, ◌^◌, ◌<◌, ◌≤◌, List, ◌++◌, take, drop}
 use Rattle.std.specs.Prelude.{length, Option, Some, None}
 use Rattle.std.specs.List.{flat_map}
@@ -25,7 +25,7 @@ abbrev pub side_words : Ring → Side → Words
 side_words ring Put = ring.put
 side_words ring Take = ring.take
 
--- the words of a side after a try to reserve
+-- the words of a side after an attempt to reserve
 abbrev pub words_after : Words → Reply → Words
 words_after w (Granted start count left) = record w { head = start + count }
 words_after w _ = w
@@ -46,12 +46,12 @@ member_tried m ring side (Granted start count left) =
     record m { span = Some record { ring = ring; side = side; start = start; count = count }; observed = None }
 member_tried m ring side _ = record m { observed = None }
 
--- a ring after a Reserve was answered so
+-- a ring after this reply to a Reserve
 abbrev pub ring_tried : Ring → Side → Reply → Ring
 ring_tried ring Put reply = record ring { put = words_after ring.put reply }
 ring_tried ring Take reply = record ring { take = words_after ring.take reply }
 
--- the words of a side, and the open span, after a settle of so many positions was answered so
+-- the words of a side, and the open span, after this reply to a settle of this many positions
 abbrev pub words_moved_to : Mode → Words → ℕ → Words
 words_moved_to Multi w end = record w { tail = end }
 words_moved_to Hts w end = record w { head = end; tail = end }
@@ -64,16 +64,16 @@ abbrev pub end_at : Option Span → ℕ → ℕ
 end_at None count = count
 end_at (Some s) count = s.start + count
 
--- a Done with these items in place of its own
+-- a Done with these items instead of its own
 abbrev pub with_items : Reply → List Item → Reply
 with_items (Done count none) items = Done count items
 with_items r items = r
 
--- what an answer that isn't Done does to a member, a ring and the entries
+-- what a reply other than Done does to a member, a ring and the entries
 abbrev pub NothingSettled : (m n : Member) (x y : Ring) (old new : List Place) → Type 0
 NothingSettled m n x y old new = (n ≡ m) × (y ≡ x) × (new ≡ old)
 
--- a member after its span was settled, but for the count of its buffers
+-- a member after its span was settled, except for the count of its buffers
 pub record SpanSettled (m n : Member) : Type 0 where
   pub number : n.number ≡ m.number
   pub observed : n.observed ≡ m.observed
@@ -91,7 +91,7 @@ pub record IsPublished (plan : RingPlan) (number : ℕ) (m n : Member) (x y : Ri
   pub counted : length (flat_map tags items) < 2 ^ 64 → n.count ≡ m.count - length (flat_map tags items)
   pub member : SpanSettled m n
 
--- so many items were dequeued at the first positions of a take span, and it was settled
+-- this many items were dequeued at the first positions of a take span, and it was settled
 pub record IsDequeued (plan : RingPlan) (m n : Member) (x y : Ring) (old new : List Place) (count : ℕ) : Type 0 where
   pub queue : y.queue.items ≡ drop count x.queue.items
   pub capacity : y.queue.capacity ≡ x.queue.capacity
@@ -102,7 +102,7 @@ pub record IsDequeued (plan : RingPlan) (m n : Member) (x y : Ring) (old new : L
       → n.count ≡ m.count + length (flat_map tags (take count x.queue.items))
   pub member : SpanSettled m n
 
--- what a settle did: the reply is told apart
+-- what a settle did, by the reply
 pub record PutResult (plan : RingPlan) (number : ℕ) (m n : Member) (x y : Ring) (old new : List Place)
     (items : List Item) (reply : Reply) : Type 0 where
   pub refused : is_done reply ≡ false → NothingSettled m n x y old new

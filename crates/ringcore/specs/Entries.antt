@@ -9,11 +9,11 @@ use Rattle.ringcore_laws.specs.declared.protocol.Place.TheVariants.{AtRing, Held
 use Rattle.ringcore_laws.specs.Sound.{occurrences}
 use Rattle.ringcore_laws.specs.History.{tags}
 
--- the entry of a buffer; a number that is no buffer's has none, and is nowhere
+-- the entry of a buffer; a number that isn't a buffer has none, and is nowhere
 abbrev pub entry : List Place → ℕ → Place
 entry places b = slice_index_or places b Nowhere
 
--- whether an entry says that an actor has the buffer, and hasn't marked it; that it has marked it
+-- whether an actor has the buffer by its entry, and hasn't marked it; whether it has marked it
 abbrev pub is_held_at : ℕ → Place → Bool
 is_held_at i (Held j) = j == i
 is_held_at i _ = false
@@ -43,19 +43,19 @@ abbrev pub with_items_at : List Place → ℕ → ℕ → List Item → List Pla
 with_items_at places r p [] = places
 with_items_at places r p (x ∷ items) = with_items_at (with_each places (tags x) (AtRing r p)) r (p + 1) items
 
--- The test of numbers that are to be put: each is held by the actor, and is marked as it is passed, so that it doesn't
--- pass twice. The marked entries, where all passed
+-- The test of numbers that are to be put: each is held by the actor, and is marked when it has passed, so that it
+-- doesn't pass twice. The result is the marked entries, if all passed
 abbrev pub claimed : ℕ → List Place → List ℕ → Option (List Place)
 claimed i places [] = Some places
 claimed i places (b ∷ numbers) =
     if is_held_at i (entry places b) then claimed i (slice_set places b (Cached i)) numbers else None
 
--- what such a test left: all numbers marked, or nothing changed
+-- what such a test leaves: all numbers marked, or nothing changed
 abbrev pub IsClaimed : ℕ → List Place → List Place → List ℕ → Bool → Type 0
 IsClaimed i old new numbers true = claimed i old numbers ≡ Some new
 IsClaimed i old new numbers false = (claimed i old numbers ≡ None) × (new ≡ old)
 
--- whether an actor may put items of these buffers: they are held by it, and none stands twice
+-- whether an actor may put items with these buffers: it holds them, and none is listed twice
 abbrev pub are_held_apart : ℕ → List Place → List ℕ → Bool
 are_held_apart i places numbers =
     list_all (λ b. is_held_at i (entry places b)) numbers && list_all (λ b. occurrences b numbers == 1) numbers

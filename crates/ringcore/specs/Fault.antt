@@ -1,4 +1,4 @@
--- The numbers of the refusals
+-- The error numbers
 use Rattle.std.specs.Prelude.{ℕ}
 use Rattle.ringcore.specs.declared.plan.WorldFault.{WorldFault}
 use Rattle.ringcore.specs.declared.plan.WorldFault.TheVariants.{Memory, BadPlan}

@@ -4,16 +4,16 @@ use Rattle.std.specs.List.{flat_map}
 use Rattle.std.specs.Option.{option_to_list}
 use Rattle.geom.specs.Extent.{Extent, IsExtent}
 
--- how many items it takes, and those that it has, oldest first
+-- its capacity, and its items, oldest first
 pub record Fifo (T : Type 0) : Type 0 where
   pub capacity : ℕ
   pub items : List T
 
--- the slots from k on, around the end
+-- the slots from k on, wrapping at the end
 abbrev pub slots_from : {A : Type 0} → ℕ → List A → List A
 slots_from k slots = drop k slots ++ take k slots
 
--- the items in the slots from k on, around the end
+-- the items in the slots from k on, wrapping at the end
 abbrev pub queued : {T : Type 0} → ℕ → List (Option T) → List T
 queued k slots = flat_map option_to_list (slots_from k slots)
 

@@ -62,13 +62,13 @@ StepsExist w entries = ExistAll (vec_len w.members) (vec_len w.rings) entries
 abbrev pub IsPlanned : History → ℕ → Step → Type 0
 IsPlanned h actor step = (actor < h.actors) × IsOnRing (length h.plans) step
 
--- worlds that keep the same
+-- worlds with the same content
 abbrev pub IsUnchanged : World → World → Type 0
 IsUnchanged old new =
     (plans_of new ≡ plans_of old) × (world_rings new ≡ world_rings old)
     × (new.places.items ≡ old.places.items) × (new.members.items ≡ old.members.items)
 
--- the new world is what the old one's history, followed by a beginning of the list, leaves
+-- the new world is what the old one's history, followed by a prefix of the list, leaves
 abbrev pub LeavesBeginning : World → World → List (ℕ × Step) → Type 0
 LeavesBeginning old new entries = (h : History) → AgreesWith old h → IsRight h
     → (done rest : List (ℕ × Step)) × (done ++ rest ≡ entries)

@@ -1,4 +1,4 @@
--- A plan that may be opened, part by part, and what stands right after
+-- A plan that may be opened, part by part, and the state right after the opening
 use Rattle.std.specs.Prelude.{ℕ, ◌≡◌, ◌<◌, ◌≤◌, List, [], length, slice_index_or, None}
 use Rattle.geom.specs.declared.plan.RingPlan.{RingPlan}
 use Rattle.ringcore_laws.specs.History.{buffers_given}
@@ -12,7 +12,7 @@ pub record AreFew (rings actors buffers : ℕ) : Type 0 where
   pub few_actors : actors ≤ 64
   pub few_buffers : buffers ≤ 65536
 
--- a ring of which nothing is reserved
+-- a ring with nothing reserved
 pub record IsFresh (plan : RingPlan) (ring : Ring) : Type 0 where
   pub put_head : ring.put.head ≡ 0
   pub put_tail : ring.put.tail ≡ 0
@@ -25,7 +25,7 @@ pub record AreFresh (plans : List RingPlan) (rings : List Ring) : Type 0 where
   pub each : (r : ℕ) (p : RingPlan) (x : Ring) → r < length rings
       → IsFresh (slice_index_or plans r p) (slice_index_or rings r x)
 
--- an actor that only was given buffers
+-- an actor that has only been given buffers
 pub record IsGiven (gifts : List ℕ) (i : ℕ) (m : Member) : Type 0 where
   pub number : m.number ≡ i
   pub count : m.count ≡ length (buffers_given gifts i)

@@ -1,4 +1,4 @@
--- What a member is answered, by the numbers of a ring and the entries
+-- The reply to a member, by the numbers of a ring and the entries
 use Rattle.std.specs.Prelude.{ℕ, ◌≡◌, ◌+◌, ◌^◌, ◌<◌, ◌==◌, not, if◌then◌else◌, List, [], take, length}
 use Rattle.std.specs.Prelude.{is_some, Option, Some, None}
 use Rattle.geom.specs.declared.plan.How.{How}
@@ -17,12 +17,12 @@ use Rattle.ringcore_laws.specs.declared.protocol.Place.{Place}
 use Rattle.ringcore.specs.declared.member.Member.{Member}
 use Rattle.ringcore.specs.Entries.{may_put_all}
 
--- a tail that was seen is small enough for the room to be counted
+-- a tail that was seen is small enough for the room to be computed
 abbrev pub TailFits : RingPlan → Option Observed → Type 0
 TailFits plan observed =
     (s : Observed) (t : ℕ) → observed ≡ Some s → s.tail_seen ≡ Some t → plan.geometry.capacity + t < 2 ^ 64
 
--- what a member is answered to a Reserve, by the side
+-- the reply to a member's Reserve, by the side
 abbrev pub reserve_answer : RingPlan → ℕ → Side → How → ℕ → RingSide Item → Member → Reply
 reserve_answer plan ring side how count l m =
     if is_some m.span then NoSpan else reserve_seen plan side how count l m.count

@@ -12,7 +12,7 @@ use Rattle.ringcore.specs.declared.ring.Ring.{Ring}
 use Rattle.ringcore.specs.declared.member.Member.{Member}
 use Rattle.ringcore.specs.Agree.{ListsAgree}
 
--- whether the ring of a step is among so many
+-- whether the ring of a step is below `rings`
 abbrev pub IsOnRing : ℕ → Step → Type 0
 IsOnRing n (Look ring side) = ring < n
 IsOnRing n (Room ring side) = ring < n
@@ -22,7 +22,7 @@ IsOnRing n (SettleTake ring count) = ring < n
 IsOnRing n (Stash b) = Unit {0}
 IsOnRing n (Unstash b) = Unit {0}
 
--- whether actor and ring of each entry are among so many
+-- whether the actor and the ring of each entry exist
 abbrev pub ExistAll : ℕ → ℕ → List (ℕ × Step) → Type 0
 ExistAll members rings [] = Unit {0}
 ExistAll members rings (e ∷ entries) = (e.0 < members) × IsOnRing rings e.1 × ExistAll members rings entries
@@ -34,7 +34,7 @@ events_of (e ∷ entries) [] = []
 events_of (e ∷ entries) (reply ∷ replies) =
     record { actor = e.0; step = e.1; reply = reply } ∷ events_of entries replies
 
--- from these actors on, the entries but for the rest were answered so, and the lists agree with what they leave
+-- from these actors on, these are the replies to the entries without the rest, and the lists agree with the result
 pub record RunsTo (plans : List RingPlan) (pool : ℕ) (actors : List Actor) (entries : List (ℕ × Step))
     (replies : List Reply) (rest : List (ℕ × Step)) (rings : List Ring) (places : List Place)
     (members : List Member) : Type 0 where

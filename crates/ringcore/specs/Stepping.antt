@@ -30,7 +30,7 @@ SameMembers old new = new.members.items ≡ old.members.items
 abbrev pub SamePlaces : World → World → Type 0
 SamePlaces old new = new.places.items ≡ old.places.items
 
--- what holds of the actor of this number, of the ring of this number, of both and the ring's plan
+-- what holds for the actor with this number, for the ring with this number, for both and the ring's plan
 abbrev pub MemberAt : World → ℕ → (Member → Type 0) → Type 0
 MemberAt w actor P = (m : Member) → slice_get w.members.items actor ≡ Some m → P m
 
@@ -43,7 +43,7 @@ FoundAt w actor ring P =
     → slice_get (plans_of w) ring ≡ Some plan
     → slice_get (world_rings w) ring ≡ Some r → P m plan r
 
--- the actor of this number is now this one, and nobody else changed; the same of a ring
+-- the actor with this number is now this one, and nobody else changed; the same for a ring
 abbrev pub SetMember : World → World → ℕ → Member → Type 0
 SetMember old new actor m = new.members.items ≡ slice_set old.members.items actor m
 
@@ -53,8 +53,8 @@ SetRing old new ring r = world_rings new ≡ slice_set (world_rings old) ring r
 abbrev pub BothSet : World → World → ℕ → ℕ → (Member → Ring → Type 0) → Type 0
 BothSet old new actor ring P = (n : Member) × (y : Ring) × SetMember old new actor n × SetRing old new ring y × P n y
 
--- where the lists agree with actors that keep soundness, the reply is the one to the step, and they agree with the
--- actors after it
+-- if the lists agree with actors that keep soundness, the reply is the one to the step, and they agree with the actors
+-- after it
 abbrev pub Answers : World → World → ℕ → Step → Reply → Type 0
 Answers old new actor step reply =
     (pool : ℕ) (actors : List Actor) → AllFit (plans_of old) pool → Invariant (plans_of old) pool actors
@@ -63,14 +63,14 @@ Answers old new actor step reply =
     × ListsAgree (plans_of old) pool (world_rings new) new.places.items new.members.items
     (after actors record { actor = actor; step = step; reply = reply })
 
--- the same of entries that were answered so, but for the rest
+-- the same for entries with these replies, without the rest
 abbrev pub AnswersAll : World → World → List (ℕ × Step) → List Reply → List (ℕ × Step) → Type 0
 AnswersAll old new entries replies rest =
     (pool : ℕ) (actors : List Actor) → AllFit (plans_of old) pool → Invariant (plans_of old) pool actors
     → ListsAgree (plans_of old) pool (world_rings old) old.places.items old.members.items actors
     → RunsTo (plans_of old) pool actors entries replies rest (world_rings new) new.places.items new.members.items
 
--- the same of some beginning
+-- the same for some prefix
 abbrev pub AnswersSome : World → World → List (ℕ × Step) → Type 0
 AnswersSome old new entries =
     (pool : ℕ) (actors : List Actor) → AllFit (plans_of old) pool → Invariant (plans_of old) pool actors

@@ -1,4 +1,4 @@
-//! Rings without threads: the bounded queue of one thread, and the pure machine of shared rings in single atomic steps.
+//! Rings without threads: a bounded queue for one thread, and the pure machine of shared rings in single atomic steps.
 #![tactic(auto)]
 
 mod looking;

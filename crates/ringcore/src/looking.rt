@@ -1,4 +1,4 @@
-//! Looks and questions for room: one load each.
+//! Looks, and questions for room: one load each.
 
 ghost use Rattle.std.specs.Prelude.{◌≡◌};
 ghost use Rattle.geom.specs.Plan.{mode_of};
@@ -15,7 +15,7 @@ use crate::sides::is_on;
 use geom::{RingPlan, Side};
 use ringcore_laws::{Observed, Reply};
 
-/// Loads the own word of a side; the member keeps what it found, unless the side is busy.
+/// Loads the own word of a side; the member keeps the word found, unless the side is busy.
 pub fn look(plan: &RingPlan, ring: &Ring, number: usize, side: Side, member: &mut Member) -> Reply
     ensures reply { (l : RingSide AnItem) (a : Actor) → RuledSide (mode_of plan.now side) l
         → WordsAgree (mode_of plan.now side) l (side_words ring.now side)

@@ -1,4 +1,4 @@
-//! The local steps, which touch no word: a buffer is marked as cached, or as held again.
+//! The local steps, which touch no word: marking a buffer as cached, or as held again.
 
 ghost use Rattle.std.specs.Prelude.{◌≡◌, if◌then◌else◌, slice_set};
 ghost use Rattle.ringcore_laws.specs.declared.protocol.Place.TheVariants.{Held, Cached};

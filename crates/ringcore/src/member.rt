@@ -11,7 +11,7 @@ use ringcore_laws::{Item, Observed, Place, Span};
 #[derive(Clone, Copy, Debug)]
 pub struct Member {
     pub number: usize,
-    /// Buffers held or cached.
+    /// How many buffers are held or cached.
     pub count: u64,
     pub span: Option<Span>,
     pub observed: Option<Observed>,
@@ -20,7 +20,8 @@ pub struct Member {
 impl Member {
     ghost use Rattle.ringcore.specs.Entries.{may_put_all};
 
-    /// Whether the actor may put these items, where each buffer's entry stands at its number. The entries stay.
+    /// Whether the actor may put these items, where the entry of each buffer is at its number. The entries are
+    /// unchanged.
     pub fn may_put(&self, free: bool, items: &[Item], numbers: &mut [Place]) -> bool
         ensures answer { result ≡ may_put_all free self.now.number numbers.old items.now }
         ensures kept { numbers.new ≡ numbers.old }
@@ -47,13 +48,13 @@ fn tag_count(item: &Item) -> usize
     }
 }
 
-/// How many buffers some items carry.
+/// How many buffers these items carry.
 pub fn buffer_count(items: &[Item]) -> u64
     ensures { length (flat_map tags items.now) < 2 ^ 64 → result ≡ length (flat_map tags items.now) }
 {
     let mut count: u64 = 0;
     for k in 0..items.len() {
-        // Exact where the buffers are of a pool, as in each world that a history leaves.
+        // Exact if the buffers are of a pool, as in each world that a history leaves.
         count = count.saturating_add(tag_count(&items[k]) as u64);
     }
     count

@@ -1,4 +1,4 @@
-//! The ring of one thread: a bounded queue, whose contracts see its capacity and the list of its items, oldest first.
+//! The ring for one thread: a bounded queue, whose contracts see its capacity and the list of its items, oldest first.
 
 ghost use Rattle.std.specs.Prelude.{◌≡◌, ◌+◌, ◌-◌, ◌<◌, ◌≤◌, [], ◌∷◌, ◌++◌, length, take, drop, Option, Some, IfOk, OnErr, IsSome, vec_len, vec_capacity};
 ghost use Rattle.std.specs.Option.{option_to_list};
@@ -9,7 +9,7 @@ use std::alloc::{AllocError, Global};
 use std::collections::VecDeque;
 use std::marker::Model;
 
-/// What a put or a take moved.
+/// What a put or a take has moved.
 #[derive(Clone, Copy, Debug, PartialEq, Eq)]
 pub struct Moved {
     /// How many items were moved.
@@ -18,12 +18,11 @@ pub struct Moved {
     pub left: u64,
 }
 
-/// A bounded queue of at most `geometry.capacity()` items, in as many slots as `geometry.size()` tells, all made by
-/// `new`.
+/// A bounded queue of at most `geometry.capacity()` items, in `geometry.size()` slots, all made by `new`.
 #[derive(Drop)]
 pub struct OneRing<T> {
     geometry: Geometry,
-    /// The queued items, one in each slot from `front` on, around the end; every other slot is `None`.
+    /// The queued items, one in each slot from `front` on, wrapping at the end; every other slot is `None`.
     slots: Vec<Option<T>>,
     /// The slot of the oldest item.
     front: u64,
@@ -42,7 +41,7 @@ impl<T> Model for OneRing<T> {
 }
 
 impl<T: Drop> OneRing<T> {
-    /// An empty ring. Takes the memory of its slots, and none after that; refused for want of memory alone.
+    /// An empty ring. Takes the memory for its slots, and none after that. Errors: out of memory, and nothing else.
     pub fn new(alloc: Global, geometry: Geometry) -> Result<OneRing<T>, AllocError>
         ensures { IfOk result (λ ring. ring ≡ record { capacity = geometry.capacity; items = [] }) }
     {
@@ -74,8 +73,8 @@ impl<T: Drop> OneRing<T> {
         self.geometry.capacity() - self.count
     }
 
-    /// Moves items from the front of `items` to the end of the ring: by bulk all of them or none, by burst as many
-    /// as fit. Takes no memory.
+    /// Moves items from the front of `items` to the end of the ring: bulk moves all of them or none, burst as many as
+    /// fit. Takes no memory.
     pub fn put(&mut self, how: How, items: &mut VecDeque<T>) -> Moved
         ensures count { result.count
             ≡ granted how (length items.old.items) (self.old.capacity - length self.old.items) }
@@ -91,8 +90,8 @@ impl<T: Drop> OneRing<T> {
         }
     }
 
-    /// Moves items from the front of the ring to the end of `out`: by bulk n of them or none, by burst as many as
-    /// are there, up to n. Refused for want of room in `out` alone; ring and list then stay as they were.
+    /// Moves items from the front of the ring to the end of `out`: bulk moves n of them or none, burst as many as there
+    /// are, up to n. Errors: only if there is no room in `out`; ring and list are then unchanged.
     pub fn take(&mut self, how: How, n: u64, out: &mut Vec<T>) -> Result<Moved, AllocError>
         ensures count { IfOk result (λ moved. moved.count ≡ granted how n (length self.old.items)) }
         ensures given { IfOk result (λ moved. out.new.items ≡ out.old.items ++ take moved.count self.old.items) }
@@ -120,7 +119,7 @@ impl<T: Drop> OneRing<T> {
         self.count += 1;
     }
 
-    /// Gives the oldest item.
+    /// Removes and returns the oldest item.
     fn pop(&mut self) -> Option<T>
         requires { 0 < length self.old.items }
         ensures item { self.old.items ≡ option_to_list result ++ self.new.items }
@@ -147,7 +146,7 @@ impl<T: Drop> OneRing<T> {
         }
     }
 
-    /// Gives the `count` oldest items to a list that has room for them.
+    /// Moves the `count` oldest items to a list that has room for them.
     fn take_first(&mut self, count: u64, out: &mut Vec<T>)
         requires there { count ≤ length self.old.items }
         requires room { vec_len out.old + count ≤ vec_capacity out.old }

@@ -1,4 +1,4 @@
-//! What a world has at its opening.
+//! What a world contains when it is opened.
 
 ghost use Rattle.std.specs.Prelude.{◌≡◌, length, map, IfOk};
 ghost use Rattle.ringcore_laws.specs.History.{buffers_given};
@@ -35,7 +35,7 @@ pub fn fresh_rings(alloc: Global, plans: &[RingPlan]) -> Result<Vec<PlannedRing>
     Ok(rings)
 }
 
-/// The actors, with so many buffers as gifts name them.
+/// The actors, each with as many buffers as gifts name it.
 pub fn given_members(
     alloc: Global,
     actors: usize,
@@ -57,7 +57,7 @@ pub fn given_members(
     Ok(members)
 }
 
-/// How many buffers' gifts name this actor.
+/// How many buffers have a gift that names this actor.
 fn given_to(gifts: &[usize], actor: usize) -> u64
     ensures { result ≡ length (buffers_given gifts.now actor) }
 {
@@ -70,7 +70,7 @@ fn given_to(gifts: &[usize], actor: usize) -> u64
     count
 }
 
-/// Each buffer is held by the actor that its gift names.
+/// Each buffer is held by the actor its gift names.
 pub fn given_places(alloc: Global, gifts: &[usize]) -> Result<Vec<Place>, AllocError>
     ensures { IfOk result (λ places. places.items ≡ map (λ g. Held g) gifts.now) }
 {

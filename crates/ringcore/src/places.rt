@@ -1,7 +1,7 @@
-//! Where each buffer is: an entry for each, which is read and written at the buffer's number, so that nothing searches.
+//! Where each buffer is: one entry per buffer, read and written at the buffer's number, so nothing is searched.
 //!
-//! Numbers that are put have to be distinct: a number that is passed is marked, by the entry of a cached buffer, and
-//! the marks are taken back.
+//! Numbers that are put have to be distinct: each number that is passed is marked with the entry of a cached buffer,
+//! and the marks are removed afterwards.
 
 ghost use Rattle.std.specs.Prelude.{◌≡◌, ◌+◌, ◌<◌, ◌^◌, length, ◌∷◌, [], if◌then◌else◌, Some, None, slice_set};
 ghost use Rattle.std.specs.List.{flat_map};
@@ -33,7 +33,7 @@ pub fn set_place(places: &mut [Place], b: u64, place: Place)
     }
 }
 
-/// What the entry of a held buffer becomes where its actor marks it as cached.
+/// What the entry of a held buffer becomes when its actor marks it as cached.
 pub fn cached(place: Place, actor: usize) -> Option<Place>
     ensures { result ≡ (if is_held_at actor place then Some (IsCached actor) else None) }
 {
@@ -44,7 +44,7 @@ pub fn cached(place: Place, actor: usize) -> Option<Place>
     }
 }
 
-/// What the entry of a cached buffer becomes where its actor marks it as held.
+/// What the entry of a cached buffer becomes when its actor marks it as held.
 pub fn uncached(place: Place, actor: usize) -> Option<Place>
     ensures { result ≡ (if is_cached_at actor place then Some (IsHeld actor) else None) }
 {
@@ -105,13 +105,13 @@ pub fn queue_items(places: &mut [Place], ring: usize, start: u64, items: &[Item]
     ensures { start + length items.now < 2 ^ 64 → places.new ≡ with_items_at places.old ring start items.now }
 {
     for k in 0..items.len() {
-        // Exact where the positions are bounded, as in each world that a history leaves.
+        // Exact if the positions are bounded, as in each world that a history leaves.
         let position = start.saturating_add(k as u64);
         set_item(places, &items[k], Place::AtRing(ring, position));
     }
 }
 
-/// Whether an actor holds the buffers of these items, and none stands twice.
+/// Whether an actor holds the buffers of these items, with none listed twice.
 pub fn holds_items(places: &mut [Place], actor: usize, items: &[Item]) -> bool
     ensures answer { result ≡ are_held_apart actor places.old (flat_map tags items.now) }
     ensures kept { places.new ≡ places.old }
@@ -123,7 +123,7 @@ pub fn holds_items(places: &mut [Place], actor: usize, items: &[Item]) -> bool
     passed
 }
 
-/// Marks the buffers of these items, if all of them are held by an actor and none stands twice.
+/// Marks the buffers of these items, if all of them are held by an actor and none is listed twice.
 fn mark_items(places: &mut [Place], actor: usize, items: &[Item]) -> bool
     ensures { IsClaimed actor places.old places.new (flat_map tags items.now) result }
 {

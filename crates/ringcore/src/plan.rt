@@ -1,4 +1,4 @@
-//! What a world is to be, and when it may be opened.
+//! The plan of a world, and when it may be opened.
 
 ghost use Rattle.std.specs.Prelude.{◌≡◌, ◌↔◌, IsTrue, nat_lt};
 ghost use Rattle.std.specs.List.{list_all};
@@ -9,7 +9,7 @@ ghost use Rattle.ringcore.specs.Opening.{AreFew};
 use geom::{MAX_ACTORS, MAX_RINGS, RingPlan, all_fit};
 use thiserror::Error;
 
-/// The most buffers, as sizes are counted.
+/// The maximum number of buffers, as a `usize`.
 const MAX_BUFFERS: usize = geom::MAX_BUFFERS as usize;
 
 /// Why a world was not opened.
@@ -33,14 +33,14 @@ impl WorldFault {
     }
 }
 
-/// What a world is to be.
+/// The plan of a world.
 #[derive(Drop)]
 pub struct WorldPlan {
     /// The rings, numbered from 0: 1 to 64.
     pub rings: Vec<RingPlan>,
-    /// How many actors there are: 1 to 64.
+    /// The number of actors: 1 to 64.
     pub actors: usize,
-    /// The actor that holds buffer b at the opening, for each b from 0 on: at most 65,536.
+    /// For each buffer b, from 0 on, the actor that holds it at the opening: at most 65,536 entries.
     pub gifts: Vec<usize>,
 }
 

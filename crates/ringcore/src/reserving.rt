@@ -17,8 +17,8 @@ use crate::sides::is_on;
 use geom::{How, RingPlan, Side};
 use ringcore_laws::{Observed, Reply, Span};
 
-/// Tries to reserve positions of a side, by what the member has seen of it: all that the reply tells changes, and
-/// nothing else.
+/// Tries to reserve positions of a side, by what the member has seen of it: everything that the reply reports changes,
+/// and nothing else.
 pub fn reserve(
     plan: &RingPlan,
     ring: &mut Ring,

@@ -1,4 +1,4 @@
-//! A ring of the machine: the numbers in its words, and its row of slots.
+//! A ring of the machine: the numbers in its words, and its slots.
 
 ghost use Rattle.ringcore_laws.specs.declared.protocol.Reply.TheVariants.{NoSpan};
 ghost use Rattle.std.specs.Prelude.{◌≡◌, ◌≢◌, ◌+◌, ◌^◌, ◌<◌, Some};
@@ -30,7 +30,7 @@ impl Words {
         match mode {
             Mode::Multi => self.head,
             // Positions go up to `LAST` and counts stay below `RESERVED_RANGE`, so the word is exact in each world that
-            // a history leaves. These numbers alone don't say so, and no product or sum may wrap.
+            // a history leaves. These numbers alone don't show that, and no product or sum may wrap.
             Mode::Hts => self
                 .tail
                 .saturating_mul(RESERVED_RANGE)
@@ -75,19 +75,19 @@ pub fn position_of(mode: Mode, word: u64) -> u64
     }
 }
 
-/// The room that the seen numbers tell.
+/// The room by the numbers that were seen.
 pub fn room_of(side: Side, capacity: u64, position: u64, tail: u64) -> u64
     ensures { capacity + tail < 2 ^ 64 → result ≡ room_by_look side capacity position tail }
 {
-    // A word that is old may tell a position above what the tail allows: then there is no room. The sum is exact for
-    // each tail that was seen, which is `LAST` at most.
+    // An old word may show a position above what the tail allows: then there is no room. The sum is exact for each tail
+    // that was seen, which is at most `LAST`.
     match side {
         Side::Put => capacity.saturating_add(tail).saturating_sub(position),
         Side::Take => tail.saturating_sub(position),
     }
 }
 
-/// Tries to reserve behind the position in the word that was seen.
+/// Tries to reserve positions starting at the position in the word that was seen.
 pub fn try_reserve(
     words: &mut Words,
     plan: &RingPlan,

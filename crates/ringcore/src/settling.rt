@@ -39,7 +39,7 @@ pub fn settle_put(
     reply
 }
 
-/// Queues items at the first positions of the member's span, which is settled.
+/// Queues items at the first positions of the member's span, which is then settled.
 fn publish(
     plan: &RingPlan,
     ring: &mut Ring,
@@ -51,10 +51,11 @@ fn publish(
     ensures { IsPublished plan.now number member.old member.new ring.old ring.new places.old places.new items.items }
 {
     let start = first_of(member.span);
-    // A span that was granted ends at `LAST` at most, so the sum is exact; the member alone doesn't say so.
+    // A span that was granted ends at `LAST` at most, so the sum is exact; the member alone doesn't show that.
     let end = start.saturating_add(items.len() as u64);
     queue_items(places, number, start, &items);
-    // The member holds the buffers of a put that is done, so the difference is exact; its count alone doesn't say so.
+    // The member holds the buffers of a put that is done, so the difference is exact; its count alone doesn't show
+    // that.
     member.count = member.count.saturating_sub(buffer_count(&items));
     member.span = None;
     settle_words(&mut ring.put, plan.put, end);
@@ -72,7 +73,7 @@ fn first_of(span: Option<Span>) -> u64
     }
 }
 
-/// What a settle of a put is answered. The entries of the numbers stay as they are.
+/// The reply to the settle of a put. The entries of the numbers are unchanged.
 fn answer_put(
     alloc: Global,
     plan: &RingPlan,
@@ -104,8 +105,8 @@ fn answer_put(
     Reply::Done(items.len() as u64, Items::of(Vec::new(alloc)))
 }
 
-/// Dequeues the items at the first so many positions of the open take span, if it is the first of its side. Takes
-/// memory for their list; after want of it nothing has changed.
+/// Dequeues the items at the first `count` positions of the open take span, if it is the first of its side. Takes
+/// memory for their list; if that fails, nothing has changed.
 pub fn settle_take(
     alloc: Global,
     plan: &RingPlan,
@@ -131,7 +132,7 @@ pub fn settle_take(
     let mut taken = Vec::new(alloc);
     ring.queue.take(How::Burst, count, &mut taken)?;
     hold_items(places, member.number, &taken);
-    // A member holds at most all of the world's buffers, so the sum is exact; the ring alone doesn't say so.
+    // A member holds at most all of the world's buffers, so the sum is exact; the ring alone doesn't show that.
     member.count = member.count.saturating_add(buffer_count(&taken));
     // Exact, as in `publish`.
     settle_words(&mut ring.take, plan.take, span.start.saturating_add(count));
@@ -139,7 +140,7 @@ pub fn settle_take(
     Ok(Reply::Done(count, Items::of(taken)))
 }
 
-/// Whether a settle of a take is answered Done, and else what.
+/// Whether the reply to the settle of a take is Done, and otherwise which it is.
 fn answer_take(
     alloc: Global,
     plan: &RingPlan,

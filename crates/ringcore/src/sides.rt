@@ -1,4 +1,4 @@
-//! Rings and sides, told apart.
+//! Comparing rings and sides.
 
 ghost use Rattle.std.specs.Prelude.{◌≡◌, ◌↔◌, IsTrue};
 ghost use Rattle.ringcore_laws.specs.Party.{is_on as stands_on, same_side as is_same_side};
@@ -7,7 +7,7 @@ ghost use Rattle.ringcore.specs.Runs.{IsOnRing};
 use geom::Side;
 use ringcore_laws::Step;
 
-/// Whether the first ring and side are the second.
+/// Whether the first ring and side are the same as the second.
 pub fn is_on(ring: usize, side: Side, number: usize, wanted: Side) -> bool
     ensures { result ≡ stands_on ring side number wanted }
 {
@@ -24,7 +24,7 @@ fn same_side(side: Side, wanted: Side) -> bool
     }
 }
 
-/// Whether the ring of a step is among so many.
+/// Whether the ring of a step is below `rings`.
 pub fn is_among(step: &Step, rings: usize) -> bool
     ensures { IsTrue result ↔ IsOnRing rings step.now }
 {

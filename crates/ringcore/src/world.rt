@@ -1,7 +1,7 @@
-//! The machine of shared rings in single atomic steps, without threads: for each ring the numbers in its words and a
-//! row of slots, for each actor its open span and its look, for each buffer where it is. What each step is answered is
-//! `ringcore_laws`' definition. Nothing searches: a settle reads and writes one slot and one entry for each of its
-//! items and buffers, and the cost of any other step doesn't grow with anything.
+//! The machine of shared rings in single atomic steps, without threads: for each ring the numbers in its words and its
+//! slots, for each actor its open span and its look, for each buffer where it is. The reply to each step is the one
+//! that `ringcore_laws` defines. Nothing is searched: a settle reads and writes one slot and one entry for each of its
+//! items and buffers, and the cost of any other step is constant.
 
 ghost use Rattle.std.specs.Prelude.{◌≡◌, ◌∷◌, [], ◌<◌, length, vec_len, IsTrue, ◌↔◌, Err, IfOk, OnErr};
 ghost use Rattle.ringcore_laws.specs.History.{reply_to};
@@ -21,7 +21,7 @@ use std::collections::VecDeque;
 
 mod steps;
 
-/// Rings and actors, and where a history of steps has left them.
+/// Rings and actors, as a history of steps has left them.
 #[derive(Drop)]
 pub struct World {
     alloc: Global,
@@ -35,9 +35,9 @@ impl World {
     ghost use Rattle.ringcore.specs.Histories.{AgreesWith, History, IsPlanned, IsRight, IsUnchanged, LeavesBeginning, StepExists, StepsExist, actors_of, followed_by, opened_by, pool_size};
     ghost use Rattle.ringcore.specs.Stepping.{Answers, AnswersAll, AnswersSome, SameCounts, SamePlans};
 
-    /// A world of this plan, before any step. Takes memory.
+    /// A world with this plan, before any step. Takes memory.
     ///
-    /// Refused: 2 `BadPlan` where the plan may not be opened (`WorldPlan::is_valid`), tested first; 1 `Memory`.
+    /// Errors: 2 `BadPlan` if the plan may not be opened (`WorldPlan::is_valid`), tested first; 1 `Memory`.
     pub fn new(alloc: Global, plan: WorldPlan) -> Result<World, WorldFault>
         ensures bad_plan { result ≡ Err WorldFault.BadPlan ↔ ¬ IsPlan plan.rings.items plan.actors plan.gifts.items }
         ensures opened { IfOk result (λ world. AgreesWith world (opened_by plan) × IsRight (opened_by plan)) }
@@ -66,7 +66,7 @@ impl World {
         })
     }
 
-    /// Whether there are the actor and the ring of a step. Takes no memory.
+    /// Whether the actor and the ring of a step exist. Takes no memory.
     pub fn has(&self, actor: usize, step: &Step) -> bool
         ensures known { IsTrue result ↔ StepExists self.now actor step.now }
         ensures planned { (h : History) → AgreesWith self.now h → (IsTrue result ↔ IsPlanned h actor step.now) }
@@ -74,7 +74,7 @@ impl World {
         self.exists(actor, step)
     }
 
-    /// The same of each entry of a list. Takes no memory.
+    /// The same for each entry of a list. Takes no memory.
     pub fn has_all(&self, entries: &[(usize, Step)]) -> bool
         ensures { IsTrue result ↔ StepsExist self.now entries.now }
     {
@@ -99,9 +99,9 @@ impl World {
         place_at(&self.places, b)
     }
 
-    /// One step of an actor. Takes memory for the items of a take, and for nothing else.
+    /// Makes one step of an actor. Takes memory for the items of a take, and for nothing else.
     ///
-    /// Where the world is what a right history leaves, the reply is the one to the step, and the world is what that
+    /// If the world is what a right history leaves, the reply is the one to the step, and the world is then what that
     /// history with this event leaves, which is right again.
     pub fn step(&mut self, actor: usize, step: Step) -> Result<Reply, AllocError>
         requires { StepExists self.old actor step }
@@ -115,12 +115,12 @@ impl World {
         Ok(reply)
     }
 
-    /// A list of steps, each by an actor, with the reply to each: the headline. Takes memory as `step` does, and for
-    /// the replies.
+    /// Makes a list of steps, each by an actor, and returns the reply to each: the headline. Takes memory as `step`
+    /// does, and for the replies.
     ///
-    /// Where the world is what a right history leaves, the replies are those to the steps, one after the other, and the
-    /// world is what that history followed by the list with its replies leaves, which is right again: sound after each
-    /// event.
+    /// If the world is what a right history leaves, the replies are those to the steps, one after another, and the
+    /// world is then what that history followed by the list with its replies leaves, which is right again: sound after
+    /// each event.
     pub fn run(&mut self, entries: Vec<(usize, Step)>) -> Result<Vec<Reply>, AllocError>
         requires { StepsExist self.old entries.items }
         ensures ok { IfOk result (λ replies. (h : History) → AgreesWith self.old h → IsRight h
@@ -133,7 +133,7 @@ impl World {
         Ok(replies)
     }
 
-    /// One step, said of the lists that the world keeps.
+    /// One step, in terms of the lists that the world keeps.
     fn step_once(&mut self, actor: usize, step: Step) -> Result<Reply, AllocError>
         requires actor { actor < vec_len self.old.members }
         requires ring { IsOnRing (vec_len self.old.rings) step }
@@ -158,7 +158,7 @@ impl World {
         }
     }
 
-    /// A list of steps, said of the lists that the world keeps.
+    /// A list of steps, in terms of the lists that the world keeps.
     fn run_all(&mut self, entries: Vec<(usize, Step)>) -> Result<Vec<Reply>, AllocError>
         requires { ExistAll (vec_len self.old.members) (vec_len self.old.rings) entries.items }
         ensures run { IfOk result (λ replies. AnswersAll self.old self.new entries.items replies.items []) }

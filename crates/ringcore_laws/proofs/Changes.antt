@@ -1,4 +1,5 @@
--- What an answered step does to its actor: its party stays, opens a span, or settles the open one; and no side goes back
+-- What an answered step does to its actor: its party is unchanged, opens a span, or settles the open one; and no side
+-- goes back
 use Rattle.std.proofs.Common.{ℕ, ◌+◌, ◌-◌, ◌≤◌, ◌<◌, ◌≡◌, ◌∙◌, ◌⊎◌, inl, inr, List, [], length, take, drop, refl, ap, sym, subst, arith, true, false, Bool}
 use Rattle.std.specs.Prelude.{slice_get, slice_set, slice_index_or, nat_lt, Option, Some, None, ◌&&◌, ◌||◌, ◌==◌, if◌then◌else◌}
 use Rattle.std.specs.List.{list_all, flat_map}

@@ -1,4 +1,5 @@
--- What holds of free rings is kept as a party reserves a span or settles one, as a newcomer comes, and as two parties become one
+-- What holds for free rings is kept when a party reserves a span or settles one, when a newcomer comes, and when two
+-- parties become one
 use Rattle.std.proofs.Common.{ℕ, zero, suc, ◌≤◌, ◌<◌, ◌≡◌, ◌≢◌, ◌∙◌, ◌⊎◌, inl, inr, List, [], ◌∷◌, ◌++◌, length, drop, refl, ap, sym, subst, arith, true, false}
 use Rattle.std.proofs.Common.{Bool}
 use Rattle.std.specs.Prelude.{slice_get, slice_set, slice_index_or, Some, None, ◌&&◌, ◌==◌}
@@ -44,7 +45,7 @@ module _ {I : Type 0} (tags : I → List ℕ) where
       → s.count ≤ buffers_had tags pool party
 
   module _ (plans : List RingPlan) (pool : ℕ) (parties : List (Party I)) (rule : FreeRule tags plans pool parties) where
-    -- a span of a put into a free ring is at most as long as its party's buffers are many
+    -- a span of a put into a free ring is at most as long as the number of its party's buffers
     pub free_opened : (i : ℕ) (d : Party I) (span : Span) (plan : RingPlan) → i < length parties → (slice_index_or parties i d).span ≡ None
         → slice_get plans span.ring ≡ Some plan → (span.side ≡ Put → plan.free ≡ true → span.count ≤ buffers_had tags pool (slice_index_or parties i d))
         → FreeRule tags plans pool (reserved_by parties i d span)

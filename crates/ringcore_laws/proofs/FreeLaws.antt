@@ -1,4 +1,4 @@
--- What holds of free rings is kept by each answered step of an actor
+-- What holds for free rings is kept by each answered step of an actor
 use Rattle.std.proofs.Common.{ℕ, ◌<◌, ◌≡◌, ◌⊎◌, ◌∙◌, inl, inr, List, length, ap, sym, subst, arith}
 use Rattle.std.specs.Prelude.{slice_set, slice_index_or}
 use Rattle.geom.specs.declared.plan.RingPlan.{RingPlan}

@@ -47,7 +47,7 @@ swapped f (x ∷ xs) a n =
     ∙ (whole ∙ (ap (λ v. sum_by (λ p. f p x) (range_with_len a n) + v) (swapped f xs a n)
     ∙ sym (sum_by-cons (λ y. sum_by (λ p. f p y) (range_with_len a n)) x xs)))
 
--- of two sums over a list, one element apart
+-- for two sums over a list, one element apart
 pub one_apart : {X : Type 0} (f g : X → ℕ) (xs : List X) (i : ℕ) (d : X) → i < length xs → g (slice_index_or xs i d) ≡ 0
     → ((j : ℕ) → j < length xs → g (slice_index_or xs j d) ≤ f (slice_index_or xs j d))
     → f (slice_index_or xs i d) + sum_by g xs ≤ sum_by f xs
@@ -74,7 +74,7 @@ ones : (a n : ℕ) → sum_by (λ (b : ℕ). 1) (range_with_len a n) ≡ n
 ones a zero = refl
 ones a (suc n) = omega (arith, sum_by-cons (λ (b : ℕ). 1) a (range_with_len (a + 1) n), ones (a + 1) n)
 
--- a list of numbers below n is as long as they are many
+-- a list of numbers below n is as long as the number of them
 pub count_all : (n : ℕ) (xs : List ℕ) → ((b : ℕ) → n ≤ b → occurrences b xs ≡ 0) → sum_by (λ b. occurrences b xs) (range_with_len 0 n) ≡ length xs
 count_all n [] none = sum_none 0 n
 count_all n (x ∷ xs) none =
@@ -123,7 +123,7 @@ range_less f g a (suc n) each =
     )
 
 module _ {I : Type 0} where
-  -- where each position of a range is held by an open span, the range is as short as the spans are long
+  -- if each position of a range is held by an open span, the range is at most as long as the spans together
   reach_few : (parties : List (Party I)) (ring : ℕ) (side : Side) (a n : ℕ) → ((p : ℕ) → a ≤ p → p < a + n → 0 < (side_of parties ring side).openers p)
       → n ≤ (side_of parties ring side).open_count
   unfolding side_of
@@ -156,7 +156,7 @@ module _ {I : Type 0} where
 
 -- 2. The room of a free ring
 module _ {I : Type 0} (tags : I → List ℕ) where
-  -- items that carry one buffer each carry as many as they are
+  -- items that carry one buffer each carry as many buffers as there are items
   singles_length : (xs : List I) → AreSingle tags xs → length (flat_map tags xs) ≡ length xs
   singles_length [] all = refl
   singles_length (x ∷ xs) all =

@@ -1,4 +1,4 @@
--- Reservations stay in order as a newcomer comes and as two parties become one
+-- Reservations stay in order when a newcomer comes and when two parties become one
 use Rattle.std.proofs.Common.{ℕ, ◌<◌, ◌≢◌, ◌≡◌, List, [], ◌∷◌, ◌++◌, length, ap, sym, subst, ◌∙◌, arith}
 use Rattle.std.specs.Prelude.{slice_get, slice_set, slice_index_or, Some, None}
 use Rattle.geom.specs.declared.plan.Side.{Side}
@@ -16,7 +16,7 @@ use Rattle.ringcore_laws.proofs.SideLaws.{side_of_newcomer}
 use Rattle.ringcore_laws.proofs.Laws.{element, joined_by, joined_sides}
 
 module _ {I : Type 0} where
-  -- where each side is as before, so are the spans
+  -- if each side is as before, so are the spans
   span_as : (plans : List RingPlan) (before after : List (Party I)) (s : Span) → ((side : Side) → side_of after s.ring side ≡ side_of before s.ring side)
       → RuledSpan plans before s → RuledSpan plans after s
   span_as plans before after s same o = record {

@@ -1,4 +1,4 @@
--- Reservations stay in order as a span is reserved behind the others and as the first one is settled
+-- Reservations stay in order when a span is reserved after the others and when the first one is settled
 use Rattle.std.proofs.Common.{ℕ, zero, suc, ◌+◌, ◌<◌, ◌≤◌, ◌≡◌, ◌⊎◌, inl, inr, List, [], ◌∷◌, length, refl, ap, sym, subst, ◌∙◌, arith, true, false, Bool}
 use Rattle.std.specs.Prelude.{slice_get, slice_index_or, Option, Some, None, ◌&&◌, ◌||◌, ◌==◌, nat_lt, if◌then◌else◌}
 use Rattle.std.specs.List.{sum_by, list_any, range_with_len}
@@ -51,7 +51,7 @@ span_cases ring side p s = on (is_on s.ring s.side ring side) refl
       | inr out ↦ inr (ap (λ v. if v && covers s p then 1 else 0) e ∙ out.1)
     ]
 
--- what a position's being reserved says of the side
+-- what follows for the side if a position is reserved
 pub span_tells : (ring : ℕ) (side : Side) (p : ℕ) (o : Option Span) → 0 < span_at ring side p o → (p < span_end ring side o) × (0 < span_count ring side o)
 span_tells ring side p None h = absurd (omega arith)
 span_tells ring side p (Some s) h = elim (span_cases ring side p s) [
@@ -100,7 +100,7 @@ on_or_off ring r side s = elim (same_or_not r ring) [
     and_off false = refl
 
 module _ {I : Type 0} where
-  -- a reserved position lies before the end of some span
+  -- a reserved position is before the end of some span
   pub reserved_tells : (parties : List (Party I)) (ring : ℕ) (side : Side) (p : ℕ) → 0 < (side_of parties ring side).openers p
       → (p < (side_of parties ring side).reach) × (0 < (side_of parties ring side).open_count)
   unfolding side_of party_end
@@ -128,7 +128,7 @@ module _ {I : Type 0} where
       zero_plus : (n : ℕ) → 0 + n ≡ n
       zero_plus n = omega arith
 
-  -- what an open span of a party tells of its side
+  -- what follows for its side from an open span of a party
   pub own_span : (parties : List (Party I)) (k : ℕ) (d : Party I) (s : Span) → k < length parties → (slice_index_or parties k d).span ≡ Some s
       → (s.count ≤ (side_of parties s.ring s.side).open_count) × (s.start + s.count ≤ (side_of parties s.ring s.side).reach)
       × ((p : ℕ) → open_count s p ≤ (side_of parties s.ring s.side).openers p)

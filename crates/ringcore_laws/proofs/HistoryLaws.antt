@@ -41,11 +41,11 @@ use Rattle.ringcore_laws.proofs.Laws.{reserve_keeps, put_keeps, take_keeps, same
 use Rattle.ringcore_laws.proofs.RingLaws.{takes_le_puts, below_or_not, length-listed, held_cases}
 use Rattle.ringcore_laws.proofs.HeadTailLaws.{orderly_reserved, orderly_settled, IsNext, next_above, first_in_line, on_or_off, own_span}
 
--- a span or a look on a side is of that ring and side
+-- a span or a look on a side has that ring and side
 pub on_true : (ring r : ℕ) (side s : Side) → is_on ring side r s ≡ true → (r ≡ ring) × (s ≡ side)
 on_true ring r side s on = elim (on_or_off ring r side s) [ inl own ↦ own | inr off ↦ absurd (let h : true ≡ false = sym on ∙ off in cc) ]
 
--- an own word that is the word after_look at shows where the next span starts
+-- an own word that is the word looked at shows where the next span starts
 pub is_next : {I : Type 0} (mode : Mode) (l : RingSide I) (word : ℕ) → own_word mode l ≡ word → (mode ≡ Hts → (q : ℕ) × (word ≡ q * RESERVED_RANGE))
     → (mode ≡ Hts → l.open_count < RESERVED_RANGE) → IsNext mode l (position_of mode word)
 is_next Multi l word won whole small = record { multi = λ _. sym won; hts = λ h. absurd (let h' : Multi ≡ Hts = h in cc) }
@@ -76,7 +76,7 @@ zero_if : (t : Bool) → t ≡ false → if_one t ≡ 0
 zero_if true h = absurd (let h' : true ≡ false = h in cc)
 zero_if false h = refl
 
--- what all numbers of a list pass, one that stands there passes
+-- a number in a list has what all numbers of the list have
 pub passes : (p : ℕ → Bool) (numbers : List ℕ) (b : ℕ) → list_all p numbers ≡ true → 0 < occurrences b numbers → p b ≡ true
 passes p [] b all some = absurd (omega arith)
 passes p (x ∷ xs) b all some =
@@ -142,7 +142,7 @@ parties_unchanged (x ∷ xs) (suc i) d a lt same = ap (λ v. x.party ∷ v) (par
 
 module _ (plans : List RingPlan) (pool : ℕ) (actors : List Actor) (i : ℕ) (a : Actor) (lt : i < length actors)
     (at : (d : Actor) → slice_index_or actors i d ≡ a) (k : Invariant plans pool actors) where
-  -- the observations of all, where one's is new and no tail went back
+  -- the observations of all, if one actor's is new and no tail went back
   observations_after : (b : Actor) (parties : List (Party Item))
       → ((r : ℕ) (side : Side) → (side_of (parties_of actors) r side).len ≤ (side_of parties r side).len)
       → ((s : Observed) → b.observed ≡ Some s → TrueObserved plans parties s)
@@ -162,7 +162,7 @@ module _ (plans : List RingPlan) (pool : ℕ) (actors : List Actor) (i : ℕ) (a
       same_or_not' : (x y : ℕ) → (x ≡ y) ⊎ (x ≢ y)
       same_or_not' x y = grind arith
 
-  -- an actor whose spans and buffers stay
+  -- an actor whose spans and buffers are unchanged
   same_party : (b : Actor) → b.party ≡ a.party → ((s : Observed) → b.observed ≡ Some s → TrueObserved plans (parties_of actors) s)
       → Invariant plans pool (slice_set actors i b)
   same_party b same new =
@@ -395,7 +395,7 @@ module _ (plans : List RingPlan) (pool : ℕ) (actors : List Actor) (i : ℕ) (a
           by_on true on = by_tail s.tail_seen refl on
           by_on false off = unchanged
 
-  -- a granted span starts behind all others
+  -- a granted span starts after all others
   pub granted_next : (ring : ℕ) (side : Side) (how : How) (count : ℕ) (plan : RingPlan) → slice_get plans ring ≡ Some plan
       → (start many left : ℕ) → reserve_reply plan pool ring side how count (side_of (parties_of actors) ring side) a ≡ Granted start many left
       → IsNext (mode_of plan side) (side_of (parties_of actors) ring side) start × (a.party.span ≡ None)
@@ -666,7 +666,7 @@ module _ (plans : List RingPlan) (pool : ℕ) (actors : List Actor) (i : ℕ) (a
               next = ap (λ v. take v (drop s.start (listed (side_of parties ring Put)))) (sym many)
                   ∙ ap (λ v. take (length items) (drop v (listed (side_of parties ring Put)))) first
 
-  -- whatever the step, its reply keeps all
+  -- whatever the step, its reply keeps everything
   pub step_kept : AllFit plans pool → (step : Step) → Invariant plans pool
       (slice_set actors i (after_step a step (actor_reply plans pool (parties_of actors) a step)))
   step_kept fits (Look ring side) = by_plan (slice_get plans ring) refl
@@ -711,7 +711,7 @@ module _ (plans : List RingPlan) (pool : ℕ) (actors : List Actor) (i : ℕ) (a
       if_cases (λ r. Invariant plans pool (slice_set actors i (after_step a (Unstash b) r))) ((holds tags b a.party == 1) && is_cached a b) (Seen b) NotYours
       (λ _. same_party record { party = a.party; observed = a.observed; cached = filter (λ c. not (c == b)) a.cached } refl old_sight) (λ _. unchanged)
 
--- one more event, answered as it is to be
+-- one more event, with the right reply
 pub event_kept : (plans : List RingPlan) (pool : ℕ) (actors : List Actor) (e : Event) → AllFit plans pool → e.reply ≡ reply_to plans pool actors e.actor e.step
     → Invariant plans pool actors → Invariant plans pool (after actors e)
 unfolding reply_to after

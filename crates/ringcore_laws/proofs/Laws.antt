@@ -1,4 +1,4 @@
--- Soundness is kept as a party reserves a span or settles one, as a newcomer comes, and as two parties become one
+-- Soundness is kept when a party reserves a span or settles one, when a newcomer comes, and when two parties become one
 use Rattle.std.proofs.Common.{ℕ, zero, suc, ◌+◌, ◌<◌, ◌≤◌, ◌≢◌, ◌≡◌, ◌⊎◌, inl, inr, max, List, [], ◌∷◌, ◌++◌, length, take, drop, refl, ap, sym, subst, ◌∙◌}
 use Rattle.std.proofs.Common.{arith, true, false}
 use Rattle.std.specs.Prelude.{slice_get, slice_set, slice_index_or, Some, None, ◌&&◌, ◌==◌, if◌then◌else◌}
@@ -54,7 +54,7 @@ range_same f g a (suc n) h =
     let hg = sum_by-cons g a (range_with_len (a + 1) n) in
     omega (arith, h a (omega arith) (omega arith), range_same f g (a + 1) n (λ r le lt. h r (omega arith) (omega arith)))
 
--- an element within a list
+-- an element of a list
 pub element : {X : Type 0} (xs : List X) (r : ℕ) → r < length xs → (x : X) × (slice_get xs r ≡ Some x)
 element [] r lt = absurd (omega arith)
 element (x ∷ xs) zero lt = (x, refl)
@@ -112,7 +112,7 @@ module _ {I : Type 0} where
       most : (n : ℕ) → max n 0 ≡ n
       most n = omega arith
 
-  -- the own side after a span is settled where the settled items end, and any other
+  -- the own side after a span is settled that starts where the settled items end, and any other
   pub settled_own : (a b : RingSide I) (span : Span) (items : List I) → IsGapless a → span.start ≡ a.len
       → Settles a b span.ring span.side span record { ring = span.ring; side = span.side; start = span.start; items = items }
       → b ≡ settled_on a span items b.reach
@@ -180,7 +180,7 @@ module _ {I : Type 0} where
       (subst (λ (v : RingSide I). SoundRing e (side_of parties ring Put) v) (sym own) new)
 
 module _ {I : Type 0} (tags : I → List ℕ) where
-  -- the buffers in items, one item after the other
+  -- the buffers in items, one item after another
   pub times_in_is : (b : ℕ) (items : List I) → occurrences_in tags b items ≡ occurrences b (flat_map tags items)
   times_in_is b [] = refl
   times_in_is b (x ∷ xs) =
@@ -344,7 +344,7 @@ module _ {I : Type 0} (tags : I → List ℕ) where
           here (omega arith) (omega (arith, slice_get_within plans ring plan there)) in
           omega arith
 
-  -- a settled take of the items that stand there keeps soundness
+  -- a settled take of the items at its positions keeps soundness
   pub take_keeps : (plans : List RingPlan) (pool : ℕ) (parties : List (Party I)) (i : ℕ) (d : Party I) (ring start count : ℕ) (items : List I) (plan : RingPlan)
       → Sound tags plans pool parties → i < length parties → (slice_index_or parties i d).span
       ≡ Some record { ring = ring; side = Take; start = start; count = count } → slice_get plans ring ≡ Some plan

@@ -1,4 +1,4 @@
--- Lemmas on lists: one element changed, under a sum, a `flat_map` or `greatest`; and the items that stand at positions
+-- Lemmas on lists: one element changed, under a sum, a `flat_map` or `greatest`; and the items at positions
 use Rattle.std.proofs.Common.{ℕ, zero, suc, ◌+◌, ◌-◌, ◌<◌, ◌≤◌, ◌≢◌, ◌≡◌, max, List, [], ◌∷◌, ◌++◌, length, refl, ap, sym, subst, ◌∙◌, arith}
 use Rattle.std.specs.Prelude.{Some, None, slice_get, slice_index_or, slice_set}
 use Rattle.std.specs.List.{flat_map, sum_by, range_with_len}
@@ -17,7 +17,7 @@ flat_map-set_same f [] i y d lt e = absurd (omega arith)
 flat_map-set_same f (x ∷ xs) zero y d lt e = ap (λ a. a ++ flat_map f xs) e
 flat_map-set_same f (x ∷ xs) (suc i) y d lt e = ap (λ a. f x ++ a) (flat_map-set_same f xs i y d (omega arith) e)
 
--- where nothing was, there is what the new element has
+-- if there was nothing, there is what the new element has
 pub flat_map-set_only : {X A : Type 0} (f : X → List A) (xs : List X) (i : ℕ) (y : X) → i < length xs → length (flat_map f xs) ≡ 0
     → flat_map f (slice_set xs i y) ≡ f y
 flat_map-set_only f [] i y lt e = absurd (omega arith)
@@ -28,7 +28,7 @@ flat_map-set_only f (x ∷ xs) (suc i) y lt e =
     let two : length (f x) + length (flat_map f xs) ≡ 0 = sym (length-append (f x) (flat_map f xs)) ∙ e in
     ap (λ a. a ++ flat_map f (slice_set xs i y)) (nil_from_length (f x) (omega arith)) ∙ flat_map-set_only f xs i y (omega arith) (omega arith)
 
--- where there is one at most, and an element has one, that is it
+-- if there is at most one, and an element has one, that is it
 pub flat_map_one : {X A : Type 0} (f : X → List A) (xs : List X) (i : ℕ) (d : X) → i < length xs → length (flat_map f xs) ≤ 1
     → 0 < length (f (slice_index_or xs i d)) → flat_map f xs ≡ f (slice_index_or xs i d)
 flat_map_one f [] i d lt one some = absurd (omega arith)
@@ -57,7 +57,7 @@ sum_by_joined f xs i j m e d at_i at_j apart both none =
     let h3 : f (slice_index_or (slice_set xs i m) j d) ≡ f (slice_index_or xs j d) = ap f (get_or-set_other xs i j m d apart) in
     omega arith
 
--- the same for a flat_map that has one at most
+-- the same for a flat_map that has at most one
 pub flat_map_joined : {X A : Type 0} (f : X → List A) (xs : List X) (i j : ℕ) (m e d : X) → i < length xs → j < length xs → j ≢ i
     → f m ≡ f (slice_index_or xs i d) ++ f (slice_index_or xs j d) → f e ≡ [] → length (flat_map f xs) ≤ 1
     → flat_map f (slice_set (slice_set xs i m) j e) ≡ flat_map f xs
@@ -95,7 +95,7 @@ flat_map_joined {X} {A} f xs i j m e d at_i at_j apart both none one = by_cases 
         let empty : f (slice_index_or xs i d) ≡ [] = nil_from_length (f (slice_index_or xs i d)) (omega arith) in
         new ∙ (ap f kept ∙ (both ∙ (ap (λ a. a ++ f (slice_index_or xs j d)) empty ∙ sym whole)))
 
--- what holds of each element holds after one has changed
+-- what holds for each element holds after one has changed
 pub each_set : {X : Type 0} (P : X → Type 0) (xs : List X) (i : ℕ) (y : X) → ((k : ℕ) (d : X) → k < length xs → P (slice_index_or xs k d)) → P y
     → (k : ℕ) (d : X) → k < length (slice_set xs i y) → P (slice_index_or (slice_set xs i y) k d)
 each_set P [] i y all new k d lt = absurd (omega arith)

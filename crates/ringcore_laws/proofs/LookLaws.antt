@@ -1,4 +1,5 @@
--- What holds of the looks of all actors along a run: what was looked at is not behind its side, and what the last question for room found
+-- What holds for the looks of all actors along a run: what was looked at is not past its side, and what the last
+-- question for room found
 use Rattle.std.proofs.Common.{ℕ, ◌<◌, ◌≡◌, ◌≢◌, ◌∙◌, ◌⊎◌, inl, inr, List, length, refl, ap, sym, subst, arith, true, false, Bool}
 use Rattle.std.specs.Prelude.{slice_get, slice_set, slice_index_or, Option, Some, None, ◌&&◌, ◌==◌, if◌then◌else◌}
 use Rattle.std.proofs.lemmas.Bool.Decides.{nat_tests}
@@ -28,7 +29,7 @@ use Rattle.ringcore_laws.proofs.HistoryLaws.{on_true}
 use Rattle.ringcore_laws.proofs.Telling.{look_seen_tells, on_some_ring, room_seen_tells}
 use Rattle.ringcore_laws.proofs.Changes.{Opens, Closes, changes, grows}
 
--- what stood when the actor last asked for room
+-- the state when the actor last asked for room
 pub record Asked (plans : List RingPlan) (pool : ℕ) (found : Option (List Actor)) (i : ℕ) (a : Actor) (s : Observed) (tail : ℕ) : Type 0 where
   pub past : List Actor
   pub is : found ≡ Some past
@@ -40,7 +41,7 @@ pub record Asked (plans : List RingPlan) (pool : ℕ) (found : Option (List Acto
   pub at : slice_get past i ≡ Some me
   pub same : me.party ≡ a.party
 
--- what holds of an actor's look
+-- what holds for an actor's look
 pub record LookLaw (plans : List RingPlan) (pool : ℕ) (now : List Actor) (found : Option (List Actor)) (i : ℕ) (a : Actor) (s : Observed) : Type 0 where
   pub idle : a.party.span ≡ None
   pub behind : IsBehind plans (parties_of now) s
@@ -58,7 +59,7 @@ no_room_answer (SettleTake ring count) = refl
 no_room_answer (Stash b) = refl
 no_room_answer (Unstash b) = refl
 
--- where the word of a side that is free stands
+-- the position of the word of a side that is free
 own_position : (mode : Mode) (l : RingSide Item) → is_busy mode l ≡ false → position_of mode (own_word mode l) ≡ base mode l
 own_position Multi l free = refl
 own_position Hts l free = let none : l.open_count ≡ 0 = grind (arith, nat_tests) in omega arith
@@ -81,7 +82,7 @@ module _ (plans : List RingPlan) (pool : ℕ) (actors : List Actor) (found : ℕ
   still_behind b change s behind plan there =
       omega (arith, behind plan there, grows plans pool actors j me lt at k b change s.ring s.side plan there)
 
-  -- a look that is as it was, of an actor whose party is as it was
+  -- an unchanged look, of an actor whose party is unchanged
   lifted : (b : Actor) → Change b → (f : Option (List Actor)) (i : ℕ) (a c : Actor) (s : Observed) → c.party ≡ a.party → LookLaw plans pool actors f i a s
       → LookLaw plans pool (slice_set actors j b) f i c s
   lifted b change f i a c s same law = record {
@@ -100,7 +101,7 @@ module _ (plans : List RingPlan) (pool : ℕ) (actors : List Actor) (found : ℕ
     };
   }
 
-  -- the actor that stepped, where its look is as it was
+  -- the actor that stepped, if its look is unchanged
   same_look : (b : Actor) → Change b → b.observed ≡ me.observed → (s : Observed) → b.observed ≡ Some s
       → LookLaw plans pool (slice_set actors j b) (found j) j b s
   same_look b (inl same) kept s seen = lifted b (inl same) (found j) j me b s same (looks.each j me s mine (sym kept ∙ seen))

@@ -1,5 +1,6 @@
--- Which replies end a look, and which leave it, computed by the definitions. What is expected is the protocol's table: a look is the
--- last Look that was not answered NoSpan, if it was answered Seen and no Reserve came since but one that was answered NoSpan
+-- Which replies end a look, and which leave it, computed by the definitions. What is expected is the protocol's table:
+-- a look is the last Look that was not answered NoSpan, if it was answered Seen and there was no Reserve since, except
+-- one answered NoSpan
 use Rattle.std.proofs.Common.{[], ◌∷◌, refl, false}
 use Rattle.geom.specs.declared.plan.Mode.TheVariants.{Multi, Hts}
 use Rattle.geom.specs.declared.plan.Side.TheVariants.{Put, Take}
@@ -13,7 +14,7 @@ use Rattle.ringcore_laws.specs.History.{IsRun, after, reply_to, opening}
 use Rattle.ringcore_laws.specs.FreeRings.{buffers_had}
 use Rattle.ringcore_laws.proofs.Rows.{event, ring}
 
--- a Busy look leaves no look, also where there was one before
+-- a Busy look leaves no look, even if there was one before
 pub busy_ends : IsRun (ring 4 3 Hts Hts false ∷ []) 0 (opening 2 []) (
     event 0 (Look 0 Put) (Seen 0)
     ∷ event 0 (Room 0 Put) (Seen 0)
@@ -80,7 +81,7 @@ pub no_span_leaves : IsRun (ring 4 3 Multi Multi false ∷ ring 4 3 Multi Multi 
 unfolding reply_to after side_of party_items party_count party_end listed holds moved buffers_had
 no_span_leaves = (refl, (refl, (refl, (refl, (refl, (refl, (refl, (refl, (refl, (refl, (refl, tt)))))))))))
 
--- a further look has seen no tail, and one of another side is the only one
+-- another look has seen no tail, and one of another side is the only one
 pub look_again : IsRun (ring 4 3 Multi Multi false ∷ []) 0 (opening 1 []) (
     event 0 (Look 0 Put) (Seen 0)
     ∷ event 0 (Room 0 Put) (Seen 0)

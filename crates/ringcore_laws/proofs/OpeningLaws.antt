@@ -1,4 +1,4 @@
--- The opening is sound, where each gift names an actor
+-- The opening is sound, if each gift names an actor
 use Rattle.std.proofs.Common.{ℕ, zero, suc, ◌+◌, ◌<◌, ◌≤◌, ◌≢◌, ◌≡◌, ◌⊎◌, inl, inr, List, [], ◌∷◌, map, length, drop, refl, ap, sym, subst, ◌∙◌, arith, true}
 use Rattle.std.proofs.Common.{false, Bool, cond}
 use Rattle.std.specs.Prelude.{slice_index, slice_index_or, Some, None, ◌==◌, if◌then◌else◌}
@@ -30,7 +30,7 @@ fresh given = record { party = newcomer given; observed = None; cached = [] }
 abbrev pub empty : {I : Type 0} → RingSide I
 empty = record { items_at = λ p. []; len = 0; openers = λ p. 0; open_count = 0; reach = 0 }
 
--- actors that only were given buffers leave every side empty
+-- actors that have only been given buffers leave every side empty
 side_of_fresh : (gs : List (List ℕ)) (r : ℕ) (side : Side) → side_of (parties_of (map fresh gs)) r side ≡ empty
 unfolding side_of party_items party_count party_end
 side_of_fresh [] r side = refl
@@ -86,7 +86,7 @@ party_fresh (g ∷ gs) (suc k) d lt = party_fresh gs k d (omega arith)
 abbrev one_if : Bool → ℕ
 one_if t = if t then 1 else 0
 
--- how often a number stands in a list with one more in front
+-- how often a number occurs in a list with one more in front
 pub occurrences-cons : (b x : ℕ) (xs : List ℕ) → ((x ≡ b) × (occurrences b (x ∷ xs) ≡ 1 + occurrences b xs)) ⊎
     ((x ≢ b) × (occurrences b (x ∷ xs) ≡ occurrences b xs))
 occurrences-cons b x xs = by_test (x == b) refl
@@ -99,7 +99,7 @@ occurrences-cons b x xs = by_test (x == b) refl
         let none : one_if (x == b) ≡ 0 = ap one_if e in
         inr (grind (arith, nat_tests), omega (arith, sum_by-cons (λ n. if n == b then 1 else 0) x xs, none))
 
--- how often a buffer is given: never outside the range, and else where its gift says so
+-- how often a buffer is given: never outside the range, otherwise where its gift names it
 not_given : (b : ℕ) (p : ℕ → Bool) (a n : ℕ) → (b < a) ⊎ (a + n ≤ b) → occurrences b (filter p (range_with_len a n)) ≡ 0
 not_given b p a zero out = refl
 not_given b p a (suc n) out =
@@ -198,7 +198,7 @@ none_listed : (c : ℕ) → occurrences_in tags c (listed empty) ≡ 0
 unfolding listed
 none_listed c = refl
 
--- the opening has all that each event keeps
+-- the opening has everything that each event keeps
 pub opening_kept : (plans : List RingPlan) (actors : ℕ) (gifts : List ℕ) → ((b : ℕ) → b < length gifts → slice_index gifts b < actors)
     → Invariant plans (length gifts) (opening actors gifts)
 unfolding place_count

@@ -21,7 +21,7 @@ use Rattle.ringcore_laws.proofs.Laws.{range_same}
 use Rattle.ringcore_laws.proofs.HeadTailLaws.{range_part}
 use Rattle.ringcore_laws.proofs.RunLaws.{kept_after}
 
--- at how many positions a buffer stands that stands in items at most once
+-- the number of positions of a buffer that occurs in items at most once
 positions_counted : (b p : ℕ) (items : List Item) → occurrences_in tags b items ≤ 1 → length (positions_from b p items) ≡ occurrences_in tags b items
 positions_counted b p [] le = refl
 positions_counted b p (x ∷ items) le =
@@ -68,7 +68,7 @@ actors_counted b i (a ∷ actors) le =
     let rest = actors_counted b (i + 1) actors (omega (arith, le, sum)) in
     omega (arith, sum, one, rest, length-append (place_with b i a) (places_with b (i + 1) actors))
 
--- as many places as soundness counts
+-- the number of places is the one that soundness counts
 places_counted : (rings b : ℕ) (actors : List Actor) → place_count tags rings b (parties_of actors) ≤ 1
     → length (all_places rings actors b) ≡ place_count tags rings b (parties_of actors)
 unfolding place_count

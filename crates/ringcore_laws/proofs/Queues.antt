@@ -1,4 +1,4 @@
--- How a ring's queue and words change as the first span of a side is settled
+-- How a ring's queue and words change when the first span of a side is settled
 use Rattle.std.proofs.Common.{ℕ, ◌+◌, ◌<◌, ◌≡◌, List, ◌++◌, length, drop, ap, sym, ◌∙◌, arith, true}
 use Rattle.std.specs.Prelude.{slice_index_or, Some, if◌then◌else◌}
 use Rattle.std.proofs.lemmas.List.{drop-append-le, drop-drop}
@@ -76,7 +76,7 @@ module _ {I : Type 0} where
           record { ring = ring; side = Take; start = start; items = items }
       step side = settles_side_of parties i d span record { ring = ring; side = Take; start = start; items = items } ring side lt busy
 
-  -- the own side's numbers after the settle: where it ends, and, if it was settled whole, that its reach stays
+  -- the own side's numbers after the settle: where it ends, and, if it was settled whole, that its reach is unchanged
   pub record OwnSettled (before after : RingSide I) (span : Span) (n : ℕ) : Type 0 where
     pub len : after.len ≡ before.len + n
     pub open_count : after.open_count + span.count ≡ before.open_count

@@ -88,7 +88,7 @@ event_looks plans pool actors found e right k rule looks = by_actor (slice_get a
           looks_after plans pool actors found looks e.actor a h k rule e.step e.reply (sym reply),
         )
 
--- what stands after these events
+-- the state after these events
 pub record Standing (plans : List RingPlan) (pool : ℕ) (actors : List Actor) (found : ℕ → Option (List Actor)) : Type 0 where
   pub kept : Invariant plans pool actors
   pub rule : FreeRule tags plans pool (parties_of actors)
@@ -236,7 +236,7 @@ earlier now i ring side a at own busy on early =
         (s, refl, both.0, grind (arith, nat_tests, both.1))
 
 module _ (plans : List RingPlan) (pool : ℕ) (now : List Actor) (found : ℕ → Option (List Actor)) (s : Standing plans pool now found) (i : ℕ) where
-  -- the actor that was answered something else than NoSpan
+  -- the actor that received a reply other than NoSpan
   asked_actor : (step : Step) (reply : Reply) → NoSpan ≢ reply → reply_to plans pool now i step ≡ reply
       → (a : Actor) × (slice_get now i ≡ Some a) × (actor_reply plans pool (parties_of now) a step ≡ reply)
   unfolding reply_to
@@ -248,7 +248,7 @@ module _ (plans : List RingPlan) (pool : ℕ) (now : List Actor) (found : ℕ �
       by_actor (Some a) at h = (a, at, h)
 
   module _ (ring : ℕ) (side : Side) (how : How) (count : ℕ) (plan : RingPlan) (there : slice_get plans ring ≡ Some plan) where
-    -- what stood at the last question for room, where a Reserve was answered NoRoom
+    -- the state at the last question for room, if a Reserve was answered NoRoom
     record Refused : Type 0 where
       pub past : List Actor
       pub is : found i ≡ Some past

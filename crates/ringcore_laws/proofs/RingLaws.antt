@@ -1,4 +1,4 @@
--- A ring stays sound as a span is reserved and as one is settled. Said of the two sides alone
+-- A ring stays sound when a span is reserved and when one is settled. Stated for the two sides alone
 use Rattle.std.proofs.Common.{ℕ, zero, suc, ◌+◌, ◌-◌, ◌*◌, ◌/◌, ◌%◌, ◌<◌, ◌≤◌, ◌≡◌, ◌⊎◌, inl, inr, max, List, [], ◌∷◌, ◌++◌, length, take, drop, refl, ap, sym}
 use Rattle.std.proofs.Common.{◌∙◌, arith}
 use Rattle.std.specs.Prelude.{slice_get, ◌&&◌, ◌==◌, nat_le, nat_lt, if◌then◌else◌}
@@ -65,7 +65,7 @@ module _ {I : Type 0} where
   length-item (x ∷ xs) zero lt = refl
   length-item (x ∷ xs) (suc i) lt = length-item xs i (omega arith)
 
-  -- as many items are listed as are settled
+  -- the number of listed items is the number of settled ones
   pub length-listed : (l : RingSide I) → IsGapless l → length (listed l) ≡ l.len
   unfolding listed
   length-listed l g = sum_ones l.items_at 0 l.len (λ p le lt. g.one p (omega arith))
@@ -86,7 +86,7 @@ module _ {I : Type 0} where
             max l.reach (span.start + span.count);
       }
 
-  -- a side after an open span is settled with these items, where the greatest end is then `reach`
+  -- a side after an open span is settled with these items, when the greatest end is then `reach`
   abbrev pub settled_on : RingSide I → Span → List I → ℕ → RingSide I
   settled_on l span items reach =
       record {
@@ -111,7 +111,7 @@ module _ {I : Type 0} where
     none = λ p le. ap (λ v. v ++ item_at span.start items p) (g.none p (omega arith)) ∙ item_at_past span.start items p (omega arith);
   }
 
-  -- the items come behind those that are listed
+  -- the items come after those that are listed
   pub listed_settled : (l : RingSide I) (span : Span) (items : List I) (reach : ℕ) → IsGapless l → span.start ≡ l.len
       → listed (settled_on l span items reach) ≡ listed l ++ items
   unfolding listed
@@ -150,7 +150,7 @@ module _ {I : Type 0} where
     pub takes_le_puts : takes.len ≤ puts.len
     takes_le_puts = omega (arith, length-listed puts s.published, length-listed takes s.dequeued, length-append (listed takes) s.fifo.0, ap length s.fifo.1)
 
-    -- what is claimed lies at or above what was dequeued, and is published or reserved
+    -- what is claimed is at or above what was dequeued, and is published or reserved
     pub claimed_where : (p : ℕ) → 0 < claims puts takes p → (takes.len ≤ p) × ((p < puts.len) ⊎ (0 < puts.openers p))
     unfolding claims
     claimed_where p some =
@@ -165,7 +165,7 @@ module _ {I : Type 0} where
           ]
         ]
 
-    -- nothing is claimed behind all that is published and reserved
+    -- nothing is claimed after everything that is published and reserved
     pub unclaimed : (p : ℕ) → puts.len ≤ p → puts.openers p ≡ 0 → claims puts takes p ≡ 0
     unclaimed p behind free = elim (below_or_not 0 (claims puts takes p)) [
       | inl some ↦ elim (claimed_where p some).1 [ inl lt ↦ absurd (omega arith) | inr h ↦ absurd (omega arith) ]
@@ -189,7 +189,7 @@ module _ {I : Type 0} where
             ]
       ]
 
-      -- a put span that starts behind all others, and ends within the capacity
+      -- a put span that starts after all others, and ends within the capacity
       pub put_reserved : SoundRing e (reserved_on puts span) takes
       unfolding listed
       put_reserved = record {
@@ -232,7 +232,7 @@ module _ {I : Type 0} where
           not_queued : (p : ℕ) → takes.len ≤ p → p < puts.len → takes.openers p ≡ 0 → (p < takes.len) ⊎ ((puts.len ≤ p) ⊎ (0 < takes.openers p)) → ⊥
           not_queued p le lt free h = elim h [ inl a ↦ omega arith | inr b ↦ elim b [ inl c ↦ omega arith | inr d ↦ omega arith ] ]
 
-      -- a take span that starts behind all others, and ends within what is published
+      -- a take span that starts after all others, and ends within what is published
       pub take_reserved : SoundRing e puts (reserved_on takes span)
       unfolding listed
       take_reserved = record {
@@ -322,7 +322,7 @@ module _ {I : Type 0} where
               → (p < takes.len) ⊎ ((puts.len ≤ p) ⊎ (0 < takes.openers p)) → ⊥
           outside p out le lt free h = elim h [ inl a ↦ omega arith | inr b ↦ elim b [ inl c ↦ omega arith | inr d ↦ omega arith ] ]
 
-      -- a take span that starts where the dequeued items end, of the items that stand there
+      -- a take span that starts where the dequeued items end, of the items at its positions
       pub take_settled : SoundRing e puts (settled_on takes span items reach)
       take_settled = record {
         published = s.published;

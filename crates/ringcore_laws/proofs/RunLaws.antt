@@ -29,7 +29,7 @@ replies_of plans pool actors [] = tt
 replies_of plans pool actors (s ∷ steps) =
     (refl, replies_of plans pool (after actors record { actor = s.0; step = s.1; reply = reply_to plans pool actors s.0 s.1 }) steps)
 
--- the headline, said of lists of steps
+-- the headline, stated for lists of steps
 pub every_list_of_steps : (plans : List RingPlan) (actors : ℕ) (gifts : List ℕ) (steps : List (ℕ × Step)) → IsPlan plans actors gifts
     → StaysSound plans (length gifts) (opening actors gifts) (history_of plans (length gifts) (opening actors gifts) steps)
 every_list_of_steps plans actors gifts steps p =
@@ -122,7 +122,7 @@ one_span_each plans pool actors (e ∷ events) right = (
   one_span_each plans pool (after actors e) events right.1,
 )
 
--- each event is the one that the history of the steps has
+-- each event is the one in the history of the steps
 pub history_of_steps : (plans : List RingPlan) (pool : ℕ) (actors : List Actor) (events : List Event) → IsRun plans pool actors events
     → events ≡ history_of plans pool actors (steps_of events)
 history_of_steps plans pool actors [] right = refl

@@ -13,7 +13,8 @@ use Rattle.ringcore_laws.specs.History.{IsRun, after, reply_to, opening}
 use Rattle.ringcore_laws.specs.FreeRings.{buffers_had}
 use Rattle.ringcore_laws.proofs.Rows.{event, ring}
 
--- a put behind an open span: two items for one position, a buffer of another actor, one number twice, and at last its own
+-- a put after an open span: two items for one position, a buffer of another actor, one number twice, and at last its
+-- own
 pub tests_in_order : IsRun (ring 4 3 Multi Multi false ∷ []) 2 (opening 2 (0 ∷ 1 ∷ [])) (
     event 0 (Look 0 Put) (Seen 0)
     ∷ event 0 (Room 0 Put) (Seen 0)
@@ -32,7 +33,7 @@ pub tests_in_order : IsRun (ring 4 3 Multi Multi false ∷ []) 2 (opening 2 (0 �
 unfolding reply_to after side_of party_items party_count party_end listed holds moved buffers_had
 tests_in_order = (refl, (refl, (refl, (refl, (refl, (refl, (refl, (refl, (refl, (refl, (refl, (refl, (refl, tt)))))))))))))
 
--- a cached buffer may be put on no ring, also on one that isn't free
+-- a cached buffer may not be put on any ring, free or not
 pub cached_stays : IsRun (ring 4 3 Multi Multi false ∷ []) 1 (opening 1 (0 ∷ [])) (
     event 0 (Stash 0) (Seen 0)
     ∷ event 0 (Look 0 Put) (Seen 0)
@@ -47,7 +48,7 @@ pub cached_stays : IsRun (ring 4 3 Multi Multi false ∷ []) 1 (opening 1 (0 ∷
 unfolding reply_to after side_of party_items party_count party_end listed holds moved buffers_had
 cached_stays = (refl, (refl, (refl, (refl, (refl, (refl, (refl, (refl, (refl, tt)))))))))
 
--- an item on a free ring carries one buffer; off a free ring it may carry more, or none
+-- an item on a free ring carries one buffer; on any other ring it may carry more, or none
 pub one_each : IsRun (ring 4 3 Multi Multi true ∷ ring 4 3 Multi Multi false ∷ []) 2 (opening 1 (0 ∷ 0 ∷ [])) (
     event 0 (Look 0 Put) (Seen 0)
     ∷ event 0 (Room 0 Put) (Seen 0)
@@ -67,7 +68,7 @@ pub one_each : IsRun (ring 4 3 Multi Multi true ∷ ring 4 3 Multi Multi false �
 unfolding reply_to after side_of party_items party_count party_end listed holds moved buffers_had
 one_each = (refl, (refl, (refl, (refl, (refl, (refl, (refl, (refl, (refl, (refl, (refl, (refl, (refl, (refl, tt))))))))))))))
 
--- a mark is a buffer's own: one that ends leaves the others
+-- a mark belongs to one buffer: ending one leaves the others
 pub marks_apart : IsRun (ring 4 3 Multi Multi false ∷ []) 2 (opening 1 (0 ∷ 0 ∷ [])) (
     event 0 (Stash 0) (Seen 0)
     ∷ event 0 (Stash 1) (Seen 1)

@@ -1,4 +1,4 @@
--- How the sides of the rings change as one party reserves or settles, a newcomer comes, or two parties become one
+-- How the sides of the rings change when one party reserves or settles, a newcomer comes, or two parties become one
 use Rattle.std.proofs.Common.{ℕ, ◌+◌, ◌<◌, ◌≤◌, ◌≢◌, ◌≡◌, max, List, [], ◌∷◌, ◌++◌, length, refl, ap, sym, ◌∙◌, arith}
 use Rattle.std.specs.Prelude.{slice_index_or, slice_set, Some, None}
 use Rattle.std.specs.List.{sum_by}

@@ -1,4 +1,4 @@
--- What a reply tells of the state in which it was given
+-- What follows from a reply about the state in which it was given
 use Rattle.std.proofs.Common.{ℕ, ◌+◌, ◌≤◌, ◌≡◌, ◌≢◌, List, [], length, take, drop, refl, arith, true, false, Bool}
 use Rattle.std.specs.Prelude.{nat_lt, Option, Some, None, is_some, not, ◌==◌, ◌-◌, if◌then◌else◌}
 use Rattle.std.proofs.lemmas.Bool.Decides.{nat_tests}
@@ -21,7 +21,7 @@ use Rattle.ringcore_laws.specs.RingSide.{RingSide, side_of, listed}
 use Rattle.ringcore_laws.specs.History.{Actor, both_seen, buffers_of_actor, earlier_open, is_bad_reserve, is_bad_settle, is_busy, look_reply, may_put, on_ring}
 use Rattle.ringcore_laws.specs.History.{own_word, position_of, put_reply, reserve_reply, reserve_seen, room_by_look, room_reply, seen_on, sees, take_reply}
 
--- of a test, where one of its answers can't be the one that was given
+-- a test, one of whose results can't be the one that was given
 pub passed : {X : Type 0} (b : Bool) {x y r : X} → (x ≡ r → ⊥) → (if b then x else y) ≡ r → (b ≡ false) × (y ≡ r)
 passed true never h = absurd (never h)
 passed false never h = (refl, h)
@@ -64,7 +64,7 @@ room_seen_tells ring side other a t h =
     let on = stopped_at (sees ring side a.observed) (λ e. (let u : NoSpan ≡ Seen t = e in cc)) idle.1 in
     (none_of a.party.span idle.0, on.0, (let u : Seen other.len ≡ Seen t = on.1 in cc))
 
--- a Reserve that isn't out of turn: what was seen, and the answer by it
+-- a Reserve that isn't out of turn: what was seen, and the reply by it
 pub record Reserving (plan : RingPlan) (pool ring : ℕ) (side : Side) (how : How) (count : ℕ) (l : RingSide Item) (a : Actor) (reply : Reply) : Type 0 where
   pub idle : a.party.span ≡ None
   pub look : Observed
@@ -146,7 +146,7 @@ module _ (plan : RingPlan) (side : Side) (how : How) (count : ℕ) (l : RingSide
       (let u : Granted (position_of (mode_of plan side) looked) many (room_seen - many) ≡ Contended word = e in cc)) last.1 in
       ((let u : Contended (own_word (mode_of plan side) l) ≡ Contended word = lost.1 in cc), grind (arith, nat_tests, lost.0))
 
--- a settle that is answered Done, or NotYet, tells what it had
+-- what a settle that is answered Done, or NotYet, had
 pub put_done_tells : (plan : RingPlan) (ring : ℕ) (parties : List (Party Item)) (a : Actor) (items : List Item) (o : Option Span) (n : ℕ) (its : List Item)
     → put_reply plan ring parties a items o ≡ Done n its
     → (s : Span) × (o ≡ Some s) × (is_on s.ring s.side ring Put ≡ true) × (is_bad_settle plan.put (length items) s.count ≡ false)

@@ -1,5 +1,5 @@
--- States whose open spans don't stand as the words say, and states that break the rule of free rings: for each field one that is
--- made to break it and no other. Each theorem is named for its field
+-- States whose open spans aren't as the words show, and states that break the rule of free rings: for each field one
+-- that is made to break it and no other. Each theorem is named for its field
 use Rattle.std.proofs.Common.{ℕ, ◌≡◌, ◌≤◌, ◌<◌, [], ◌∷◌, refl, true, false, arith}
 use Rattle.geom.specs.declared.plan.Mode.TheVariants.{Multi, Hts}
 use Rattle.geom.specs.declared.plan.Side.TheVariants.{Put, Take}
@@ -16,7 +16,7 @@ use Rattle.ringcore_laws.proofs.Unsound.{quiet, busy, done}
 abbrev Same : ℕ → ℕ → Type 0
 Same a b = a ≡ b
 
--- two settled puts at one position: two items, and none behind position 0
+-- two settled puts at one position: two items, and none after position 0
 pub behind : ¬ HeadTailRule (ring 4 3 Multi Multi false ∷ []) (quiet [] (done Put 0 (Word 1 ∷ []) ∷ done Put 0 (Word 2 ∷ []) ∷ []) ∷ [])
 unfolding side_of party_items party_count party_end listed
 behind s =
@@ -34,7 +34,7 @@ unfolding side_of party_items party_count party_end listed
 small s =
     let h : 1048576 < 1048576 = (s.sides 0 Take (ring 4 3 Hts Hts false) refl).small refl in absurd (omega arith)
 
--- an open put behind a gap
+-- an open put after a gap
 pub covered : ¬ HeadTailRule (ring 4 3 Multi Multi false ∷ []) (busy [] [] (span 0 Put 1 1) ∷ [])
 unfolding side_of party_items party_count party_end listed
 covered s =
@@ -58,7 +58,7 @@ unfolding side_of party_items party_count party_end listed
 known s =
     let h : 5 < 1 = (s.spans 0 (quiet [] []) (span 5 Put 0 1) (omega arith) refl).known in absurd (omega arith)
 
--- an open span of an HTS side that starts behind the settled items
+-- an open span of an HTS side that starts after the settled items
 pub alone_at_the_end : ¬ HeadTailRule (ring 4 3 Hts Hts false ∷ []) (busy [] [] (span 0 Put 1 1) ∷ [])
 unfolding side_of party_items party_count party_end listed
 alone_at_the_end s =

@@ -1,5 +1,5 @@
--- States that are not sound: for each field of soundness one that is made to break this field and no other. Each theorem is named for
--- its field
+-- States that aren't sound: for each field of soundness one that is made to break this field and no other. Each theorem
+-- is named for its field
 use Rattle.std.proofs.Common.{ℕ, ◌≡◌, ◌≤◌, ◌<◌, List, [], ◌∷◌, refl, false, arith}
 use Rattle.std.specs.Prelude.{Some, None}
 use Rattle.geom.specs.declared.plan.Mode.TheVariants.{Multi}
@@ -35,7 +35,7 @@ unfolding side_of party_items party_count party_end listed holds moved claims pl
 claimed_once s =
     let h : 2 ≤ 1 = (s.rings 0 (ring 4 3 Multi Multi false) refl).claimed_once 0 in absurd (omega arith)
 
--- two open spans at positions 0 and 4, which is one slot of 4
+-- two open spans at positions 0 and 4, which are the same slot of 4
 pub slots_apart : ¬ Sound tags (ring 4 3 Multi Multi false ∷ []) 0 (
     busy [] [] (span 0 Put 0 1) ∷ busy [] [] (span 0 Put 4 1) ∷ [])
 unfolding side_of party_items party_count party_end listed holds moved claims place_count
@@ -49,7 +49,7 @@ unfolding side_of party_items party_count party_end listed holds moved claims pl
 slots_apart_in_a_span s =
     let h : Same 0 4 = (s.rings 0 (ring 4 3 Multi Multi false) refl).slots_apart 0 4 (omega arith) (omega arith) refl in absurd (omega arith)
 
--- a put that was settled behind a gap
+-- a put that was settled after a gap
 pub published : ¬ Sound tags (ring 4 3 Multi Multi false ∷ []) 0 (
     quiet [] (done Put 1 (Word 1 ∷ []) ∷ []) ∷ [])
 unfolding side_of party_items party_count party_end listed holds moved claims place_count
@@ -63,14 +63,14 @@ unfolding side_of party_items party_count party_end listed holds moved claims pl
 published_once s =
     let h : Same 2 1 = (s.rings 0 (ring 4 3 Multi Multi false) refl).published.one 0 (omega arith) in absurd (omega arith)
 
--- a take that was settled behind a gap
+-- a take that was settled after a gap
 pub dequeued : ¬ Sound tags (ring 4 3 Multi Multi false ∷ []) 0 (
     quiet [] (done Put 0 (Word 1 ∷ Word 2 ∷ []) ∷ done Take 1 (Word 2 ∷ []) ∷ []) ∷ [])
 unfolding side_of party_items party_count party_end listed holds moved claims place_count
 dequeued s =
     let h : Same 0 1 = (s.rings 0 (ring 4 3 Multi Multi false) refl).dequeued.one 0 (omega arith) in absurd (omega arith)
 
--- a take that gave another item than was put there
+-- a take that returned a different item from the one put there
 pub fifo : ¬ Sound tags (ring 4 3 Multi Multi false ∷ []) 0 (
     quiet [] (done Put 0 (Word 1 ∷ []) ∷ done Take 0 (Word 2 ∷ []) ∷ []) ∷ [])
 unfolding side_of party_items party_count party_end listed holds moved claims place_count
@@ -113,7 +113,7 @@ unfolding side_of party_items party_count party_end listed holds moved claims pl
 never_below_none s =
     let h : 1 ≤ 0 = s.buffers.never_below_none 0 (quiet [] []) 0 (omega arith) in absurd (omega arith)
 
--- a buffer on a ring that its party has too
+-- a buffer on a ring that its party also has
 pub one_place_twice : ¬ Sound tags (ring 4 3 Multi Multi false ∷ []) 1 (
     quiet (0 ∷ 0 ∷ []) (done Put 0 (Buffers (0 ∷ []) ∷ []) ∷ []) ∷ [])
 unfolding side_of party_items party_count party_end listed holds moved claims place_count

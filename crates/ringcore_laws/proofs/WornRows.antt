@@ -1,6 +1,6 @@
--- When the positions of a ring are used up, computed by the definitions on states that are made up: actor 0 has reserved a span, and
--- actor 1 has looked at a word near the last position. What is expected is the protocol's table: BadCount, then NoRoom, then Worn, then
--- Contended
+-- When the positions of a ring are used up, computed by the definitions on made-up states: actor 0 has reserved a span,
+-- and actor 1 has looked at a word near the last position. What is expected is the protocol's table: BadCount, then
+-- NoRoom, then Worn, then Contended
 use Rattle.std.proofs.Common.{◌≡◌, ℕ, [], ◌∷◌, refl, false}
 use Rattle.std.specs.Prelude.{Some, None}
 use Rattle.geom.specs.declared.plan.Mode.{Mode}
@@ -53,7 +53,7 @@ pub burst_too_many : reply_to (plan Multi ∷ []) 0 (inside (span 0 Put 17592186
 unfolding reply_to after side_of party_items party_count party_end listed holds moved buffers_had
 burst_too_many = refl
 
--- too little room is told first
+-- too little room is reported first
 pub room_first : reply_to (plan Multi ∷ []) 0 (inside (span 0 Put 17592186044412 2) ∷ looking Put 17592186044414 17592186044414 ∷ [])
     1 (Reserve 0 Put Bulk 4) ≡ NoRoom 3
 unfolding reply_to after side_of party_items party_count party_end listed holds moved buffers_had
@@ -71,7 +71,7 @@ pub other_side_first : reply_to (plan Multi ∷ []) 0 (inside (span 0 Put 175921
 unfolding reply_to after side_of party_items party_count party_end listed holds moved buffers_had
 other_side_first = refl
 
--- Worn is told before Contended
+-- Worn is reported before Contended
 pub before_contended : reply_to (plan Multi ∷ []) 0 (inside (span 0 Put 17592186044412 2) ∷ looking Put 17592186044413 17592186044414 ∷ [])
     1 (Reserve 0 Put Bulk 3) ≡ Worn
 unfolding reply_to after side_of party_items party_count party_end listed holds moved buffers_had
@@ -83,7 +83,7 @@ pub contended_up_to_last : reply_to (plan Multi ∷ []) 0 (inside (span 0 Put 17
 unfolding reply_to after side_of party_items party_count party_end listed holds moved buffers_had
 contended_up_to_last = refl
 
--- the same of a burst
+-- the same for a burst
 pub burst_before_contended : reply_to (plan Multi ∷ []) 0 (inside (span 0 Put 17592186044412 2) ∷ looking Put 17592186044413 17592186044414 ∷ [])
     1 (Reserve 0 Put Burst 9) ≡ Worn
 unfolding reply_to after side_of party_items party_count party_end listed holds moved buffers_had

@@ -1,4 +1,4 @@
--- What holds of free rings, beside soundness: each settled item carries one buffer, and nobody reserves more than it
+-- What holds for free rings, besides soundness: each settled item carries one buffer, and nobody reserves more than it
 -- could put
 use Rattle.std.specs.Prelude.{ℕ, true, ◌<◌, ◌≤◌, ◌≡◌, ◌==◌, List, length, slice_get, slice_index_or, Some}
 use Rattle.std.specs.List.{list_all, range_with_len, sum_by}
@@ -19,7 +19,7 @@ module _ {I : Type 0} (tags : I → List ℕ) where
   buffers_had pool party = sum_by (λ b. holds tags b party) (range_with_len 0 pool)
 
   pub record FreeRule (plans : List RingPlan) (pool : ℕ) (parties : List (Party I)) : Type 0 where
-    -- of each item that was put there; those that were taken are the first of them
+    -- for each item that was put there; those that were taken are the first of them
     pub singles : (r : ℕ) (plan : RingPlan) → slice_get plans r ≡ Some plan → plan.free ≡ true
         → AreSingle (listed (side_of parties r Put))
     pub few : (k : ℕ) (d : Party I) → k < length parties → (s : Span) (plan : RingPlan)

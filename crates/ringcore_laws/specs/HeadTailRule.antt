@@ -1,4 +1,4 @@
--- How the open spans stand behind what is settled. With soundness, this is kept by each step
+-- How the open spans come after what is settled. With soundness, this is kept by each step
 use Rattle.std.specs.Prelude.{ℕ, ◌+◌, ◌<◌, ◌≤◌, ◌≡◌, List, length, slice_get, slice_index_or, Some}
 use Rattle.geom.specs.declared.plan.Mode.{Mode}
 use Rattle.geom.specs.declared.plan.Mode.TheVariants.{Multi, Hts}
@@ -12,20 +12,21 @@ use Rattle.ringcore_laws.specs.declared.party.Party.{Party}
 use Rattle.ringcore_laws.specs.RingSide.{RingSide, side_of}
 
 module _ {I : Type 0} where
-  -- The position that the own word of a side shows: of a multi side how far it is reserved, of an HTS side how far it
+  -- The position that the own word of a side shows: on a multi side how far it is reserved, on an HTS side how far it
   -- is settled. It never goes back
   abbrev pub base : Mode → RingSide I → ℕ
   base Multi l = l.reach
   base Hts l = l.len
 
-  -- a side of a ring: nothing reaches behind what is settled, and of a multi side all from there on is reserved
+  -- a side of a ring: it reaches at least as far as it is settled, and on a multi side all positions from there up to
+  -- its reach are reserved
   pub record RuledSide (mode : Mode) (l : RingSide I) : Type 0 where
     pub behind : l.len ≤ l.reach
     pub last : l.reach ≤ LAST
     pub small : mode ≡ Hts → l.open_count < RESERVED_RANGE
     pub covered : mode ≡ Multi → (p : ℕ) → l.len ≤ p → p < l.reach → 0 < l.openers p
 
-  -- an open span: of an HTS side it is the only one, and starts where the settled items end
+  -- an open span: on an HTS side it is the only one, and starts where the settled items end
   pub record RuledSpan (plans : List RingPlan) (parties : List (Party I)) (s : Span) : Type 0 where
     pub positive : 0 < s.count
     pub known : s.ring < length plans

@@ -35,13 +35,14 @@ abbrev pub tags : Item → List ℕ
 tags (Word n) = []
 tags (Buffers numbers) = numbers
 
--- what the events so far leave of an actor: its spans and buffers, its look, and the buffers that it marked as cached
+-- the result for an actor of the events so far: its spans and buffers, its look, and the buffers that it marked as
+-- cached
 pub record Actor : Type 0 where
   pub party : Party Item
   pub observed : Option Observed
   pub cached : List ℕ
 
--- 1. What an event changes, of the actor that steps
+-- 1. What an event changes in the actor that steps
 
 abbrev pub with_tail : Option Observed → ℕ → Option Observed
 with_tail None tail = None
@@ -59,7 +60,7 @@ abbrev pub after_room : Actor → Reply → Actor
 after_room a (Seen tail) = record { party = a.party; observed = with_tail a.observed tail; cached = a.cached }
 after_room a _ = a
 
--- Every Reserve but one that is answered NoSpan ends the look
+-- Every Reserve ends the look, except one that is answered NoSpan
 abbrev pub after_reserve : Actor → ℕ → Side → Reply → Actor
 after_reserve a ring side NoSpan = a
 after_reserve a ring side (Granted start count left) =
@@ -68,7 +69,7 @@ after_reserve a ring side (Granted start count left) =
 after_reserve a ring side _ = record { party = a.party; observed = None; cached = a.cached }
 
 -- A settle of the open span. In a right history a Settle that is answered Done is of the span's ring and side, and its
--- count is the number of the items, so neither is asked for here: the reply's tests compare them
+-- count is the number of the items, so neither is tested here: the reply's tests compare them
 abbrev pub settled_span : Party Item → Option Span → List Item → Party Item
 settled_span party None items = party
 settled_span party (Some span) items = with_settled party span items
@@ -92,7 +93,7 @@ after_unstash a b (Seen _) =
     record { party = a.party; observed = a.observed; cached = filter (λ c. not (c == b)) a.cached }
 after_unstash a b _ = a
 
--- an actor after its step was answered so
+-- an actor after this reply to its step
 abbrev pub after_step : Actor → Step → Reply → Actor
 after_step a (Look ring side) reply = after_look a ring side reply
 after_step a (Room ring side) reply = after_room a reply
@@ -104,8 +105,8 @@ after_step a (Unstash b) reply = after_unstash a b reply
 
 -- 2. The reply to a step
 
--- The word of a side. A multi side shows how far it is reserved, an HTS side how far it is settled and how much is
--- reserved from there on
+-- The word of a side. A multi side shows how far it is reserved, an HTS side how far it is settled and how many
+-- positions are reserved from there on
 abbrev pub own_word : {I : Type 0} → Mode → RingSide I → ℕ
 own_word Multi l = l.reach
 own_word Hts l = l.len * RESERVED_RANGE + l.open_count
@@ -135,7 +136,7 @@ room_reply ring side other a =
     else if sees ring side a.observed then Seen other.len
     else NoSpan
 
--- the room that an actor has, by what it has seen
+-- the room of an actor, by what it has seen
 abbrev pub room_by_look : Side → ℕ → ℕ → ℕ → ℕ
 room_by_look Put capacity position tail = capacity + tail - position
 room_by_look Take capacity position tail = tail - position
@@ -197,7 +198,7 @@ is_cached a b = list_any (λ c. c == b) a.cached
 abbrev pub is_held : Actor → ℕ → Bool
 is_held a b = (holds tags b a.party == 1) && not (is_cached a b)
 
--- whether an actor may put these items: their buffers are held by it, and none stands twice
+-- whether an actor may put these items: it holds their buffers, and none is listed twice
 abbrev pub may_put : Bool → Actor → List Item → Bool
 may_put free a items =
     let numbers = flat_map tags items in
@@ -292,7 +293,7 @@ StaysSound plans pool actors (e ∷ events) =
 abbrev pub buffers_given : List ℕ → ℕ → List ℕ
 buffers_given gifts i = filter (λ b. slice_index gifts b == i) (range_with_len 0 (length gifts))
 
--- so many actors before any event, buffer b given to the actor that stands at b in the gifts
+-- this many actors before any event, with buffer b given to the actor at index b of the gifts
 abbrev pub opening : ℕ → List ℕ → List Actor
 opening actors gifts =
     map (λ i. record { party = newcomer (buffers_given gifts i); observed = None; cached = [] })

@@ -12,14 +12,14 @@ use Rattle.ringcore_laws.specs.Sound.{Sound}
 use Rattle.ringcore_laws.specs.HeadTailRule.{HeadTailRule, base}
 use Rattle.ringcore_laws.specs.History.{Actor, tags, parties_of, other_side, position_of}
 
--- a look that is true: an HTS word with nothing reserved, and a tail that was there
+-- a look that is true: an HTS word with nothing reserved, and a tail that once was there
 pub record TrueObserved {I : Type 0} (plans : List RingPlan) (parties : List (Party I)) (s : Observed) : Type 0 where
   pub known : s.ring < length plans
   pub whole : (plan : RingPlan) → slice_get plans s.ring ≡ Some plan → mode_of plan s.side ≡ Hts → (q : ℕ)
       × (s.looked_at ≡ q * RESERVED_RANGE)
   pub tail_seen : (t : ℕ) → s.tail_seen ≡ Some t → t ≤ (side_of parties s.ring (other_side s.side)).len
 
--- a look stands at or below the position that the own word of its side shows now
+-- a look is at or below the position that the own word of its side shows now
 abbrev pub IsBehind : {I : Type 0} → List RingPlan → List (Party I) → Observed → Type 0
 IsBehind plans parties s = (plan : RingPlan) → slice_get plans s.ring ≡ Some plan
     → position_of (mode_of plan s.side) s.looked_at ≤ base (mode_of plan s.side) (side_of parties s.ring s.side)

@@ -18,18 +18,18 @@ module _ {I : Type 0} where
   abbrev pub settled_by : List (Party I) → ℕ → Party I → Span → List I → List (Party I)
   settled_by parties i d span items = slice_set parties i (with_settled (slice_index_or parties i d) span items)
 
-  -- up to where a side may be reserved
+  -- how far a side may be reserved
   abbrev pub limit : Extent → List (Party I) → ℕ → Side → ℕ
   limit e parties ring Put = (side_of parties ring Take).len + e.capacity
   limit e parties ring Take = (side_of parties ring Put).len
 
-  -- a span that may be reserved: behind all that is settled or reserved on its side, and up to the limit
+  -- a span that may be reserved: after everything that is settled or reserved on its side, and up to the limit
   pub record IsReservable (e : Extent) (parties : List (Party I)) (span : Span) : Type 0 where
     pub behind : (side_of parties span.ring span.side).len ≤ span.start
     pub above : (p : ℕ) → span.start ≤ p → (side_of parties span.ring span.side).openers p ≡ 0
     pub room : span.start + span.count ≤ limit e parties span.ring span.side
 
 module _ {I : Type 0} (tags : I → List ℕ) where
-  -- what a party puts is its own: it holds each number at least as often as the items have it
+  -- a party puts only its own buffers: it holds each number at least as often as the items have it
   abbrev pub Owns : Party I → List I → Type 0
   Owns party items = (b : ℕ) → occurrences_in tags b items ≤ holds tags b party

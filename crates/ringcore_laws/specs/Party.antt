@@ -1,5 +1,5 @@
--- A party to the rings: an actor of the core, or a hand of a fabric. It has its spans of positions, and the buffers
--- that it was given.
+-- A party to the rings: an actor of the core, or a hand of a fabric. It has its spans of positions, and the buffers it
+-- was given.
 use Rattle.std.specs.Prelude.{ℕ, Bool, true, false, ◌&&◌, ◌==◌, nat_lt, nat_le, ◌+◌, List, [], ◌∷◌, ◌++◌, None, Some}
 use Rattle.geom.specs.declared.plan.Side.{Side}
 use Rattle.geom.specs.declared.plan.Side.TheVariants.{Put, Take}
@@ -12,7 +12,7 @@ same_side Put Take = false
 same_side Take Put = false
 same_side Take Take = true
 
--- whether the first ring and side are the second
+-- whether the first ring and side are the same as the second
 abbrev pub is_on : ℕ → Side → ℕ → Side → Bool
 is_on ring side r s = (ring == r) && same_side side s
 
@@ -29,7 +29,7 @@ module _ {I : Type 0} where
   abbrev pub with_open : Party I → Span → Party I
   with_open party span = record { given = party.given; settled = party.settled; span = Some span }
 
-  -- a party after it settled its open span with these items, the first so many of its positions
+  -- a party after it settled its open span with these items, at the span's first positions
   abbrev pub with_settled : Party I → Span → List I → Party I
   with_settled party span items = record {
     given = party.given;
@@ -37,6 +37,6 @@ module _ {I : Type 0} where
     span = None;
   }
 
-  -- what two parties without open spans are joined
+  -- the party that two parties without open spans become
   abbrev pub joined : Party I → Party I → Party I
   joined a b = record { given = a.given ++ b.given; settled = a.settled ++ b.settled; span = None }

@@ -10,14 +10,14 @@ use Rattle.ringcore_laws.specs.RingSide.{side_of}
 use Rattle.ringcore_laws.specs.Sound.{occurrences, holds, queue}
 use Rattle.ringcore_laws.specs.History.{Actor, tags, parties_of, is_cached}
 
--- the positions at which a buffer stands in items, the first of which is at this position
+-- the positions of a buffer in items, the first of which is at this position
 abbrev pub positions_from : ℕ → ℕ → List Item → List ℕ
 positions_from b position [] = []
 positions_from b position (x ∷ items) =
     if nat_lt 0 (occurrences b (tags x)) then position ∷ positions_from b (position + 1) items
     else positions_from b (position + 1) items
 
--- the queued positions of a ring at which a buffer stands
+-- the queued positions of a ring that have a buffer
 unfoldable pub queued_at : ℕ → List (Party Item) → ℕ → List ℕ
 queued_at b parties ring = positions_from b (side_of parties ring Take).len (queue parties ring)
 
@@ -32,7 +32,7 @@ abbrev pub places_with : ℕ → ℕ → List Actor → List Place
 places_with b i [] = []
 places_with b i (a ∷ actors) = place_with b i a ++ places_with b (i + 1) actors
 
--- all places of a buffer: on so many rings, and with the actors
+-- all places of a buffer: on this many rings, and with the actors
 abbrev pub all_places : ℕ → List Actor → ℕ → List Place
 all_places rings actors b =
     flat_map (places_on b (parties_of actors)) (range_with_len 0 rings) ++ places_with b 0 actors

@@ -1,4 +1,4 @@
--- When a refusal is true, of the events before it
+-- When a refusal is true, by the events before it
 use Rattle.std.specs.Prelude.{ℕ, Bool, true, false, ◌&&◌, ◌==◌, ◌+◌, ◌-◌, ◌<◌, ◌≡◌, ◌≢◌, if◌then◌else◌, List, [], ◌∷◌}
 use Rattle.std.specs.Prelude.{slice_get, Option, Some, None}
 use Rattle.geom.specs.declared.plan.How.{How}
@@ -53,7 +53,7 @@ HadNoRoom plan actors events i ring side how count =
     (past : List Actor) × (at_last_room actors None i events ≡ Some past)
     × IsTooLittle how count (room_on plan (parties_of past) ring side)
 
--- Contended: the own word is another one than the actor looked at
+-- Contended: the own word isn't the one the actor looked at
 abbrev pub HasMoved : RingPlan → List Actor → ℕ → ℕ → Side → ℕ → Type 0
 HasMoved plan actors i ring side word =
     (word ≡ own_word (mode_of plan side) (side_of (parties_of actors) ring side))

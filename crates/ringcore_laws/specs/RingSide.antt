@@ -39,7 +39,7 @@ pub record RingSide (I : Type 0) : Type 0 where
   pub reach : ℕ  -- the greatest end of a settled or open span
 
 module _ {I : Type 0} where
-  -- the item that stands at a position where these items stand at start, start + 1 and so on: none or one
+  -- the item at a position, if these items are at start, start + 1 and so on: none or one
   abbrev pub item_at : ℕ → List I → ℕ → List I
   item_at start items p = if nat_le start p then option_to_list (slice_get items (p - start)) else []
 

@@ -1,4 +1,4 @@
--- Runs of the machine: the history of a list of steps, and what the headline says of it
+-- Runs of the machine: the history of a list of steps, and what the headline states about it
 use Rattle.std.specs.Prelude.{ℕ, ◌<◌, ◌≤◌, ◌≡◌, Bool, true, false, List, [], ◌∷◌, map, length, slice_get, slice_index}
 use Rattle.std.specs.Prelude.{Some, None}
 use Rattle.geom.specs.Fit.{AllFit}

@@ -1,10 +1,10 @@
-//! What stands on rings: items, and the buffers that they carry.
+//! What a ring contains: items, and the buffers they carry.
 
 ghost use Rattle.std.specs.Prelude.{◌≡◌, ℕ, List};
 
 use std::marker::Model;
 
-/// Numbers of buffers, in order. Contracts see their list, and no capacity.
+/// Buffer numbers, in order. Contracts see their list, and not its capacity.
 #[derive(Drop, Debug)]
 pub struct Numbers {
     numbers: Vec<u64>,
@@ -32,7 +32,7 @@ impl Numbers {
     }
 }
 
-/// What stands at one position of a ring.
+/// What is at one position of a ring.
 #[derive(Drop, Debug)]
 pub enum Item {
     /// A number, without buffers.
@@ -41,7 +41,7 @@ pub enum Item {
     Buffers(Numbers),
 }
 
-/// Items, in order. Contracts see their list, and no capacity.
+/// Items, in order. Contracts see their list, and not its capacity.
 #[derive(Drop, Debug)]
 pub struct Items {
     items: Vec<Item>,

@@ -1,5 +1,5 @@
-//! The laws of the protocol, each the contract of a function without a body: what holds of every list of atomic steps
-//! of any number of actors, in any interleaving and wherever any actor stops for ever, and what changes of the parties
+//! The laws of the protocol, each the contract of a function without a body: what holds for every list of atomic steps
+//! of any number of actors, in any interleaving and wherever any actor stops for ever, and which changes of the parties
 //! keep it.
 
 ghost use Rattle.std.specs.Prelude.{◌≡◌, ◌≢◌, ◌<◌, ◌≤◌, ◌+◌, ◌++◌, ◌∷◌, [], ℕ, List, None, Some, false, length, slice_get, slice_index, slice_index_or, slice_set, take, true};
@@ -25,7 +25,7 @@ ghost use Rattle.ringcore_laws.specs.Place.{all_places};
 ghost use Rattle.ringcore_laws.specs.Runs.{IsPlan, OneSpanEach, history_of, is_done, is_grant, steps_of};
 
 /// Every list of steps is sound: before the first event and after each, no slot and no buffer has two holders, no two
-/// actors differ on the item at a position, what was dequeued from each ring is a beginning of what was published
+/// actors disagree about the item at a position, the items dequeued from each ring are a prefix of those published
 /// there, and each buffer of the pool has exactly one place. Each reply is the one to its step, and a span is granted
 /// only to an actor that has none open.
 pub fn every_list_of_steps_is_sound()
@@ -51,9 +51,9 @@ pub fn every_buffer_has_one_place()
         length (all_places (length plans) (after_all start (history_of plans (length gifts) start steps)) b) ≡ 0 }
 {}
 
-/// Refusals are true, after every list of steps: where the next step is answered `NoRoom`, there was too little room
-/// when that actor last asked for it; where `Contended`, the own word is another one than the actor looked at; where
-/// `Busy`, another actor's span of the side is open; where `NotYet`, a span of the side with a lower start is open.
+/// Refusals are true, after every list of steps: if the next step is answered `NoRoom`, there was too little room when
+/// that actor last asked for it; if `Contended`, the own word isn't the one the actor looked at; if `Busy`, another
+/// actor's span of the side is open; if `NotYet`, a span of the side with a lower start is open.
 pub fn every_refusal_is_true()
     ensures no_room { (plans : List RingPlan) (actors : ℕ) (gifts : List ℕ) (steps : List (ℕ × Step))
         → IsPlan plans actors gifts
@@ -95,14 +95,14 @@ pub fn a_free_ring_has_room()
         → reply_to plans (length gifts) now i (Reserve ring Put how count) ≢ NoRoom room }
 {}
 
-/// A history in which each reply is the one to its step is the history of its steps, so that what is said here of lists
-/// of steps is said of it.
+/// A history in which each reply is the one to its step is the history of its steps, so what is stated here of lists of
+/// steps also holds for it.
 pub fn a_right_history_is_that_of_its_steps()
     ensures { (plans : List RingPlan) (pool : ℕ) (actors : List Actor) (events : List Event)
         → IsRun plans pool actors events → events ≡ history_of plans pool actors (steps_of events) }
 {}
 
-/// The same said of histories that are given: where each reply is the one to its step, the history is sound throughout.
+/// The same for given histories: if each reply is the one to its step, the history is sound throughout.
 pub fn every_history_is_sound()
     ensures { (plans : List RingPlan) (actors : ℕ) (gifts : List ℕ) (events : List Event)
         → AllFit plans (length gifts)
@@ -111,8 +111,8 @@ pub fn every_history_is_sound()
         → StaysSound plans (length gifts) (opening actors gifts) events }
 {}
 
-/// A granted Reserve keeps soundness: a party without an open span opens one behind all that is settled or reserved on
-/// its side, up to where the ring has room, or items.
+/// A granted Reserve keeps soundness: a party without an open span opens one after everything that is settled or
+/// reserved on its side, within the ring's room, or its items.
 pub fn a_granted_reserve_keeps_soundness()
     ensures { (plans : List RingPlan) (pool : ℕ) (parties : List (Party Item)) (i : ℕ) (d : Party Item)
         (span : Span) (plan : RingPlan)
@@ -122,8 +122,8 @@ pub fn a_granted_reserve_keeps_soundness()
         → Sound tags plans pool (reserved_by parties i d span) }
 {}
 
-/// A Settle that is Done keeps soundness: a party settles the first open span of its side, a put with items that are
-/// its own and that the ring has room for, a take with the items that are queued there first.
+/// A Settle that is Done keeps soundness: a party settles the first open span of its side, a put with its own items,
+/// for which the ring has room, and a take with the items at the front of the queue.
 pub fn a_done_settle_keeps_soundness()
     ensures put { (plans : List RingPlan) (pool : ℕ) (parties : List (Party Item)) (i : ℕ) (d : Party Item)
         (ring start count : ℕ) (items : List Item) (plan : RingPlan)
@@ -142,14 +142,14 @@ pub fn a_done_settle_keeps_soundness()
         → Sound tags plans pool (settled_by parties i d span items) }
 {}
 
-/// Every other step leaves the parties as they are, whatever it is answered.
+/// Every other step leaves the parties as they are, whatever the reply.
 pub fn every_other_step_leaves_the_parties()
     ensures { (actors : List Actor) (e : Event) → is_grant e.reply ≡ false → is_done e.reply ≡ false
         → parties_of (after actors e) ≡ parties_of actors }
 {}
 
-/// A party without spans and buffers may join at any time: soundness stays, and how the open spans stand behind what is
-/// settled.
+/// A party without spans and buffers may join at any time: soundness is kept, and so is the order of open spans after
+/// settled positions.
 pub fn a_newcomer_keeps_soundness()
     ensures rule { (plans : List RingPlan) (parties : List (Party Item))
         → HeadTailRule plans parties → HeadTailRule plans (parties ++ newcomer [] ∷ []) }
@@ -157,8 +157,8 @@ pub fn a_newcomer_keeps_soundness()
         → Sound tags plans pool parties → Sound tags plans pool (parties ++ newcomer [] ∷ []) }
 {}
 
-/// Two parties without open spans may become one; the other is then as a newcomer. Soundness stays, and how the open
-/// spans stand behind what is settled.
+/// Two parties without open spans may become one; the other is then like a newcomer. Soundness is kept, and so is the
+/// order of open spans after settled positions.
 pub fn two_made_one_keep_soundness()
     ensures rule { (plans : List RingPlan) (pool : ℕ) (parties : List (Party Item)) (i j : ℕ) (d : Party Item)
         → Sound tags plans pool parties → HeadTailRule plans parties → i < length parties → j < length parties → j ≢ i

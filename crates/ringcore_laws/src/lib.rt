@@ -2,8 +2,8 @@
 //! Library": a producer or consumer reserves positions, works on them, and then moves the tail in the order of
 //! reservation).
 //!
-//! Nothing runs here. `specs/` says what a history of atomic steps is, what the reply to each step has to be, and when
-//! parties share rings and buffers soundly; the functions of `headline` carry the laws as their contracts.
+//! Nothing runs here. `specs/` defines what a history of atomic steps is, what the reply to each step has to be, and
+//! when parties share rings and buffers soundly; the functions of `headline` carry the laws as their contracts.
 #![tactic(auto)]
 
 mod contents;

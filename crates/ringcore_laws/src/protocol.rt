@@ -4,15 +4,15 @@
 use crate::contents::Items;
 use geom::{How, Side};
 
-/// An open span: the positions from `start` on, `count` of them, of one side of a ring, which one party has reserved
-/// and not settled.
+/// An open span: `count` positions from `start` on, of one side of a ring, which one party has reserved and not yet
+/// settled.
 #[derive(Clone, Copy, Debug)]
 pub struct Span {
     pub ring: usize,
     pub side: Side,
     /// The first position.
     pub start: u64,
-    /// How many positions.
+    /// How many positions it has.
     pub count: u64,
 }
 
@@ -21,25 +21,25 @@ pub struct Span {
 pub struct Observed {
     pub ring: usize,
     pub side: Side,
-    /// The own word of the side, as the last look found it.
+    /// The side's own word, as the last look found it.
     pub looked_at: u64,
-    /// The tail of the other side, once the actor asked for room.
+    /// The tail of the other side, if the actor has asked for room.
     pub tail_seen: Option<u64>,
 }
 
-/// One atomic step of an actor, or a local one, which touches no word.
+/// One atomic step of an actor, or a local step, which touches no word.
 #[derive(Drop, Debug)]
 pub enum Step {
     /// Loads the own word of a side of a ring.
     Look(usize, Side),
     /// Loads the tail of the other side, after a look.
     Room(usize, Side),
-    /// Reserves positions of a side from the one looked at on, by one exchange of the own word, after a look and a
+    /// Reserves positions of a side, starting at the one looked at, by one exchange of the own word, after a look and a
     /// question for room.
     Reserve(usize, Side, How, u64),
     /// Settles the own open put span with these items: publishes them.
     SettlePut(usize, Items),
-    /// Settles so many positions of the own open take span: dequeues their items.
+    /// Settles the given number of positions of the own open take span: dequeues their items.
     SettleTake(usize, u64),
     /// Marks a held buffer as cached. A local step.
     Stash(u64),
@@ -47,28 +47,28 @@ pub enum Step {
     Unstash(u64),
 }
 
-/// The answer to a step. A refusal leaves rings, spans and buffers as they were.
+/// The reply to a step. A refusal leaves rings, spans and buffers as they were.
 #[derive(Drop, Debug)]
 pub enum Reply {
     /// What a look, a question for room or a local step found.
     Seen(u64),
     /// A reservation: its first position, how many positions it has, and how much room is left.
     Granted(u64, u64, u64),
-    /// How many positions were settled, and the items of a take.
+    /// How many positions were settled, and the items for a take.
     Done(u64, Items),
-    /// A look at a head/tail-sync side that has an open span, with the word found.
+    /// A look at a head/tail-sync side that has an open span; carries the word found.
     Busy(u64),
-    /// The exchange of a Reserve lost against another actor, with the word found.
+    /// The exchange of a Reserve lost against another actor; carries the word found.
     Contended(u64),
-    /// There is too little room, by what was seen: so much.
+    /// There is too little room, by what was seen; carries the room.
     NoRoom(u64),
-    /// An earlier span of the side isn't settled yet, with the tail found.
+    /// An earlier span of the side isn't settled yet; carries the tail found.
     NotYet(u64),
     /// The positions of the ring are used up.
     Worn,
     /// A step out of turn.
     NoSpan,
-    /// A count of 0, of more than was reserved, or for a free ring of more than the actor's buffers.
+    /// A count of 0, more than was reserved, or for a free ring more than the actor's buffers.
     BadCount,
     /// A buffer that isn't the actor's to put.
     NotYours,
@@ -77,12 +77,12 @@ pub enum Reply {
 /// Where a buffer is.
 #[derive(Clone, Copy, Debug, PartialEq, Eq)]
 pub enum Place {
-    /// In the item that is queued on this ring at this position, also while an open take span holds it.
+    /// In the item queued on this ring at this position, even while an open take span holds it.
     AtRing(usize, u64),
     /// With this actor, and not marked as cached.
     Held(usize),
     /// With this actor, and marked as cached.
     Cached(usize),
-    /// It is no buffer of the pool.
+    /// Not a buffer of the pool.
     Nowhere,
 }

@@ -1,4 +1,4 @@
--- What a function makes of each element, one element after the other. The elements are seen by a view.
+-- The results of a function for each element, one after another. The elements are seen by a view.
 use Rattle.std.proofs.Common.{◌≡◌, ℕ, zero, suc, ◌+◌, ◌<◌, List, [], ◌∷◌, ◌++◌, length, take, map, get_or, Option, Some, None, refl, ap, ap₂, ◌∙◌, arith}
 use Rattle.std.proofs.lemmas.List.{take_more, map-append}
 use Rattle.settings.specs.Lists.{with_first, each_of}
@@ -35,7 +35,7 @@ none_first : {B : Type 0} (a : Option B) → with_first a None ≡ None
 none_first (Some x) = refl
 none_first None = refl
 
--- one element of which it makes nothing
+-- one element for which it has no result
 pub each_of_none : {A B X : Type 0} (f : A → Option B) (g : X → A) (xs : List X) (k : ℕ) (d : X)
     → k < length xs → f (g (get_or xs k d)) ≡ None → each_of f (map g xs) ≡ None
 each_of_none f g [] k d there here = absurd (omega arith)

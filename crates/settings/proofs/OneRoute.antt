@@ -35,14 +35,14 @@ counted true bits p =
     ∙ ap (λ n. n + 1) (fin_set.len-empty nat_cmp)
 counted false bits p = fin_set.len-empty nat_cmp
 
--- one where it is deeper than the first level, else none
+-- one if it is deeper than the first level, otherwise none
 groups_of-sole : (bits : ℕ) (p : Prefix) (hop : ℕ)
     → groups_of bits (fin_map.insert fin_map.empty p hop) ≡ cond (nat_lt bits p.depth) 1 0
 unfolding deeper_firsts
 groups_of-sole bits p hop =
     ap (λ ps. fin_set.len (fin_set.from_list {R = nat_cmp} (firsts_of bits ps))) (sole_key p hop) ∙ counted (nat_lt bits p.depth) bits p
 
--- the first route, whatever is made of it next
+-- the first route, whatever is done with it next
 pub first_route : {A : Type 0} (bits groups : ℕ) (route : Route) (next : Option Routed → A)
     → next (fitting bits groups no_routes route)
     ≡ next (if nat_lt groups (cond (nat_lt bits route.depth) 1 0) then None else Some (with_one no_routes route))

@@ -64,8 +64,8 @@ pub prefixes : map prefix_in (
     ∷ None ∷ None ∷ None ∷ None ∷ None ∷ None ∷ None ∷ None ∷ None ∷ None ∷ None ∷ None ∷ None ∷ None ∷ None ∷ None ∷ None ∷ []
 prefixes = refl
 
--- the table of numbers: the least and the greatest value, what is beside them on both sides, and an odd one between, each taken as it is written; and what is
--- taken where the key is missing
+-- the table of numbers: the least and the greatest value, the values next to them on both sides, and an odd one
+-- between, each taken as it is written; and the default if the key is missing
 abbrev numbers_at : Key → List ℕ → List (Result ℕ SettingsFault)
 numbers_at key ns = map (λ n. number_by key (Some (integer (pos n)))) ns
 
@@ -126,7 +126,7 @@ pub numbers_in_order : map settings_in (
 unfolding toml_on_literals settings_of numbers_of sources_of routes_of
 numbers_in_order = refl
 
--- texts that are no trees
+-- texts that have no tree
 pub no_documents : map settings_in (codes "buffers = " ∷ codes "buffers = 9223372036854775808" ∷ (239 ∷ 187 ∷ 191 ∷ codes "buffers = 0") ∷ [])
     ≡ Err NotToml ∷ Err NotToml ∷ Err NotToml ∷ []
 unfolding toml_on_literals settings_of numbers_of sources_of routes_of
@@ -178,12 +178,12 @@ pub routes_in_order : map (λ text. settings_in (with_port text)) (
 unfolding toml_on_literals settings_of numbers_of sources_of routes_of
 routes_in_order = refl
 
--- keys that no table names are ignored, in the document, in a port and in a table of another name
+-- unknown keys are ignored, in the document, in a port and in a table with another name
 pub other_keys : settings_in (codes "name = 1\nbuffers = 1\nport = [{name = 1, mac = \"02:00:00:00:00:10\"}]\n[other]\nroute = 1\n") ≡ Err TooFewBuffers
 unfolding toml_on_literals settings_of numbers_of sources_of routes_of
 other_keys = refl
 
--- the fewest buffers
+-- the minimum number of buffers
 abbrev by_cache : ℕ → ℕ → Result Content SettingsFault
 by_cache buffers cache = with_buffers (record {
   numbers = record { buffers = buffers; headroom = 128; room = 2048; cache = cache; burst = 32; ring = 512; bits = 24; groups = 256 };
@@ -236,11 +236,11 @@ route_table prefix =
     member (codes "prefix") (string prefix) (
     member (codes "to") (string (codes "02:00:00:00:00:20")) no_members))
 
--- a route deeper than the first level where there is no group, before a bad route
+-- a route deeper than the first level if there is no group, before a bad route
 pub no_group : routed_by 24 0 1 no_routes (route_table (codes "10.1.2.3/32") ∷ no_members ∷ []) ≡ Err (BadRoute 0)
 no_group = first_route 24 0 (route_to 167838211 32) (λ fitted. value_or (BadRoute 0) fitted >>= (λ next. routed_by 24 0 1 next (no_members ∷ [])))
 
--- the same where there is one, and the bad route has its own number
+-- the same if there is one, and the bad route has its own number
 pub second_route : routed_by 24 1 1 no_routes (route_table (codes "10.1.2.3/32") ∷ no_members ∷ []) ≡ Err (BadRoute 1)
 second_route = first_route 24 1 (route_to 167838211 32) (λ fitted. value_or (BadRoute 0) fitted >>= (λ next. routed_by 24 1 1 next (no_members ∷ [])))
 
@@ -248,7 +248,7 @@ second_route = first_route 24 1 (route_to 167838211 32) (λ fitted. value_or (Ba
 pub shallow_route : routed_by 24 0 1 no_routes (route_table (codes "10.1.2.0/24") ∷ no_members ∷ []) ≡ Err (BadRoute 1)
 shallow_route = first_route 24 0 (route_to 167838208 24) (λ fitted. value_or (BadRoute 0) fitted >>= (λ next. routed_by 24 0 1 next (no_members ∷ [])))
 
--- a key of a route that no table names is ignored
+-- an unknown key of a route is ignored
 pub other_key : routed_by 24 0 1 no_routes (
     member (codes "port") (integer (pos 0)) (
     member (codes "prefix") (string (codes "10.1.2.0/24")) (
@@ -259,7 +259,7 @@ pub other_key : routed_by 24 0 1 no_routes (
     ≡ Err (BadRoute 1)
 other_key = first_route 24 0 (route_to 167838208 24) (λ fitted. value_or (BadRoute 0) fitted >>= (λ next. routed_by 24 0 1 next (no_members ∷ [])))
 
--- a route to the same addresses takes the place of the one before
+-- a route to the same addresses replaces the one before
 pub replaced : (with_one (with_one no_routes (route_to 167838211 16)) (route_to 167837696 16)).members
     ≡ fin_map.insert (fin_map.insert fin_map.empty (prefix_of 167837696 16) 0) (prefix_of 167837696 16) 1
 replaced = refl

@@ -1,4 +1,4 @@
--- The tree that a text is, and what stands in it.
+-- The tree of a text, and the values in it.
 use Rattle.std.specs.Prelude.{String, ℕ, pos, ◌==◌, ◌&&◌, Bool, List, [], ◌∷◌, map, slice_index, Option, Some, None}
 use Rattle.std.specs.Prelude.{option_and_then, if◌then◌else◌}
 use Rattle.std.specs.Borrow.{Bor}
@@ -23,7 +23,7 @@ has_mark text = (slice_index text 0 == 0xEF && slice_index text 1 == 0xBB) && sl
 abbrev pub tree_of : Bytes → Option Members
 tree_of text = if has_mark text then None else parse_document text
 
--- an integer that is not negative
+-- an integer that isn't negative
 abbrev pub natural_of : Data → Option ℕ
 natural_of (integer (pos n)) = Some n
 natural_of _ = None
@@ -44,6 +44,6 @@ text_at key table = do
   d ← get_member key table
   as_str d
 
--- what tables of the code stand for
+-- what tables of the code represent
 abbrev pub tables_view : List (Bor (BTreeMap (String Global) Value)) → List Members
 tables_view tables = map (λ t. table_view t.now) tables

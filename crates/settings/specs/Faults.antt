@@ -1,4 +1,4 @@
--- Faults: their numbers, and what a function that may run out of memory gives of what a definition says.
+-- Faults: their numbers, and the result of a function that may run out of memory, compared with a definition.
 use Rattle.std.specs.Prelude.{◌≡◌, ℕ, List, [], ◌∷◌, Option, ok_or, Result, Ok, Err}
 use Rattle.settings.specs.declared.fault.SettingsFault.{SettingsFault}
 use Rattle.settings.specs.declared.fault.SettingsFault.TheVariants.{NotToml, Missing, BadValue, BadRoute, TooFewBuffers}
@@ -26,7 +26,7 @@ Fails (BadRoute n) read = read ≡ Err (BadRoute n)
 Fails TooFewBuffers read = read ≡ Err TooFewBuffers
 Fails Memory read = Unit {0}
 
--- what came out, seen by `shown`, is what a definition gives, unless memory ran out
+-- the result, seen by `shown`, is what a definition gives, unless memory ran out
 abbrev pub Gives : {A B : Type 0} → (A → B) → Result A SettingsFault → Result B SettingsFault → Type 0
 Gives shown (Ok x) read = read ≡ Ok (shown x)
 Gives shown (Err fault) read = Fails fault read
@@ -35,7 +35,7 @@ Gives shown (Err fault) read = Fails fault read
 abbrev pub value_or : {A : Type 0} → SettingsFault → Option A → Result A SettingsFault
 value_or fault o = ok_or o fault
 
--- what f gives of each, or its first fault
+-- the results of f for each element, or its first fault
 abbrev pub each_ok : {A B : Type 0} → (A → Result B SettingsFault) → List A → Result (List B) SettingsFault
 each_ok f [] = Ok []
 each_ok f (x ∷ xs) = do

@@ -32,7 +32,7 @@ is_allowed Port n = false
 is_allowed Mac n = false
 is_allowed Route n = false
 
--- its value where it is missing
+-- its default value
 abbrev pub default_of : Key → Option ℕ
 default_of Buffers = None
 default_of Headroom = Some 128

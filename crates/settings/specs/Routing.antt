@@ -1,4 +1,4 @@
--- Routes as a settings document gives them, and the table that they make. What is said of route tables is lpm's.
+-- Routes as a settings document gives them, and the table that they make. Route tables themselves are defined in lpm.
 use Rattle.std.specs.Prelude.{codes, ℕ, nat_lt, List, [], ◌∷◌, ◌++◌, length, Option, Some, None, option_and_then}
 use Rattle.std.specs.Prelude.{if◌then◌else◌}
 use Rattle.std.specs.FinMap as map
@@ -14,14 +14,14 @@ infixl 10 ◌>>=◌
 abbrev ◌>>=◌ : {A B : Type 0} → Option A → (A → Option B) → Option B
 o >>= f = option_and_then f o
 
--- the number at `port`, which is one of so many ports
+-- the number at `port`, if it is one of this many ports
 abbrev pub port_at : ℕ → toml.Members → Option ℕ
 port_at ports table = do
   d ← toml.get_member (codes "port") table
   n ← natural_of d
   if nat_lt n ports then Some n else None
 
--- a route to one of so many ports
+-- a route to one of this many ports
 abbrev pub route_of : ℕ → toml.Members → Option Route
 route_of ports table = do
   prefix ← text_at (codes "prefix") table
@@ -31,7 +31,7 @@ route_of ports table = do
   mac ← mac_of to
   Some (record { address = to_prefix.0; depth = to_prefix.1; hop = record { port = port; to = mac } })
 
--- the members of a route table, and the hops that they are numbered by
+-- the members of a route table, and the hops that their numbers refer to
 pub record Routed : Type 0 where
   pub members : Members
   pub hops : List Hop
@@ -46,7 +46,7 @@ with_one routed route = record {
   hops = routed.hops ++ route.hop ∷ [];
 }
 
--- the same, where the table has groups enough
+-- the same, if the table has enough groups
 abbrev pub fitting : ℕ → ℕ → Routed → Route → Option Routed
 fitting bits groups routed route =
     if nat_lt groups (groups_of bits (with_one routed route).members) then None else Some (with_one routed route)

@@ -51,7 +51,7 @@ numbers_of tree = do
   groups ← number_at tree Groups
   Ok (all_numbers buffers headroom room cache burst ring bits groups)
 
--- at most so many tables
+-- at most this many tables
 abbrev pub tables_to : ℕ → Key → Data → Result (List Members) SettingsFault
 tables_to most key d =
     value_or (BadValue key) (option_and_then (λ tables. if nat_le (length tables) most then Some tables else None)
@@ -89,7 +89,7 @@ abbrev pub next_of : ℕ → ℕ → ℕ → Routed → Members → Result Route
 next_of bits groups ports routed table =
     value_or (BadRoute (length routed.hops)) (option_and_then (fitting bits groups routed) (route_of ports table))
 
--- with routes, one after the other
+-- with routes, one after another
 abbrev pub routed_by : ℕ → ℕ → ℕ → Routed → List Members → Result Routed SettingsFault
 routed_by bits groups ports routed [] = Ok routed
 routed_by bits groups ports routed (table ∷ tables) = do
@@ -101,7 +101,7 @@ routes_of bits groups ports tree = do
   tables ← route_tables_by (get_member (name_of Route) tree)
   routed_by bits groups ports no_routes tables
 
--- the fewest buffers with a cache of this size: a burst of 64 and a full cache
+-- the minimum number of buffers with a cache of this size: a burst of 64 and a full cache
 abbrev pub least_buffers : ℕ → ℕ
 least_buffers cache = 64 + 3 * cache / 2
 
@@ -111,7 +111,7 @@ pub record Content : Type 0 where
   pub sources : List (List ℕ)
   pub routes : Routed
 
--- the settings, where there are buffers enough
+-- the settings, if there are enough buffers
 abbrev pub with_buffers : Content → Result Content SettingsFault
 with_buffers content =
     if nat_lt content.numbers.buffers (least_buffers content.numbers.cache) then Err TooFewBuffers else Ok content

@@ -15,7 +15,7 @@ Bytes = List ℕ
 abbrev pub is_within : ℕ → ℕ → ℕ → Bool
 is_within low high n = nat_le low n && nat_le n high
 
--- what stands between the signs of this code
+-- the parts between the separators with this code
 abbrev pub parts_at : ℕ → Bytes → List Bytes
 parts_at sign text = slice_split (λ b. b == sign) text
 
@@ -33,7 +33,7 @@ pair_of (high ∷ low ∷ []) = do
   Some (h * 16 + l)
 pair_of _ = None
 
--- a hardware address: six pairs of hexadecimal digits, parted by `:`
+-- a hardware address: six pairs of hexadecimal digits, separated by `:`
 abbrev pub mac_of : Bytes → Option (List ℕ)
 mac_of text = do
   octets ← each_of pair_of (parts_at 58 text)
@@ -42,7 +42,7 @@ mac_of text = do
 abbrev pub is_digit : ℕ → Bool
 is_digit b = is_within 48 57 b
 
--- the first digit is not 0 where others follow
+-- the first digit isn't 0 if others follow
 abbrev pub is_plain : Bytes → Bool
 is_plain part = length part == 1 || not (slice_index part 0 == 48)
 
@@ -50,15 +50,15 @@ is_plain part = length part == 1 || not (slice_index part 0 == 48)
 abbrev pub is_decimal : Bytes → Bool
 is_decimal part = (is_within 1 3 (length part) && list_all is_digit part) && is_plain part
 
--- the value of digits, the first one counting most
+-- the value of digits, most significant first
 abbrev pub value_of : Bytes → ℕ
 value_of digits = fold (λ value digit. value * 10 + (digit - 48)) 0 digits
 
--- a decimal number of at most this value
+-- a decimal number up to this value
 abbrev pub number_to : ℕ → Bytes → Option ℕ
 number_to most part = if is_decimal part && nat_le (value_of part) most then Some (value_of part) else None
 
--- an address: four numbers of at most 255, parted by `.`
+-- an address: four numbers up to 255, separated by `.`
 abbrev pub address_of : Bytes → Option ℕ
 address_of text = do
   octets ← each_of (number_to 255) (parts_at 46 text)

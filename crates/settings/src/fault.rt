@@ -1,4 +1,4 @@
-//! Why a document gives no settings.
+//! Why a document isn't valid settings.
 
 ghost use Rattle.std.specs.Prelude.{◌≡◌};
 ghost use Rattle.settings.specs.Faults.{number_of};
@@ -8,25 +8,25 @@ use crate::key::Key;
 use std::alloc::{AllocError, AllocFailed};
 use thiserror::Error;
 
-/// The first fault of a document, in the order in which it is judged.
+/// The first fault of a document, in the order in which it is tested.
 #[derive(Clone, Copy, Debug, PartialEq, Eq, Error)]
 pub enum SettingsFault {
-    /// The text is not UTF-8, or no TOML document, or begins with a byte order mark.
+    /// The text is not UTF-8, or not a TOML document, or begins with a byte order mark.
     #[error("NotToml")]
     NotToml,
-    /// A key is missing that may not be.
+    /// A required key is missing.
     #[error("Missing {0}")]
     Missing(Key),
-    /// The value of a key is of the wrong kind or out of its range.
+    /// The value of a key has the wrong type or is out of its range.
     #[error("BadValue {0}")]
     BadValue(Key),
-    /// The route of this number, from 0 on, lacks something, has something wrong, or needs a group too many.
+    /// The route with this number, from 0 on, has a missing or invalid key, or needs more groups than there may be.
     #[error("BadRoute {0}")]
     BadRoute(u32),
     /// There are fewer buffers than a burst of 64 and a full cache.
     #[error("TooFewBuffers")]
     TooFewBuffers,
-    /// There was no memory. It says nothing of the document.
+    /// Out of memory. This is no fault of the document.
     #[error("Memory")]
     Memory,
 }

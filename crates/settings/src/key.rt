@@ -8,23 +8,23 @@ use std::fmt;
 /// A key of a settings document.
 #[derive(Clone, Copy, Debug, PartialEq, Eq)]
 pub enum Key {
-    /// How many buffers there are: 1 to 65,536. It may not be missing.
+    /// The number of buffers: 1 to 65,536. Required.
     Buffers,
-    /// Bytes of headroom in each buffer: 0 to 1,024, without it 128.
+    /// Bytes of headroom in each buffer: 0 to 1,024, default 128.
     Headroom,
-    /// Bytes of room in each buffer beside the headroom: 64 to 65,536, without it 2,048.
+    /// Bytes of room in each buffer besides the headroom: 64 to 65,536, default 2,048.
     Room,
-    /// Buffers in the cache of each worker: 0 to 128, without it 32.
+    /// Buffers in the cache of each worker: 0 to 128, default 32.
     Cache,
-    /// The most packets that are moved at once: 1 to 64, without it 32.
+    /// The maximum number of packets moved at once: 1 to 64, default 32.
     Burst,
-    /// The capacity of each ring between stages: 1 to 65,536, without it 512.
+    /// The capacity of each ring between stages: 1 to 65,536, default 512.
     Ring,
-    /// Bits of the first level of the route table: 16 or 24, without it 24.
+    /// Bits of the first level of the route table: 16 or 24, default 24.
     Bits,
-    /// The most groups of the route table: 0 to 65,536, without it 256.
+    /// The maximum number of groups of the route table: 0 to 65,536, default 256.
     Groups,
-    /// The array of ports, 1 to 16 tables. It may not be missing.
+    /// The array of ports, 1 to 16 tables. Required.
     Port,
     /// The hardware address of a port.
     Mac,
@@ -33,7 +33,7 @@ pub enum Key {
 }
 
 impl Key {
-    /// The key as a document writes it.
+    /// The key as it is written in a document.
     pub fn name(self) -> &'static str
         ensures { result.now ≡ name_of self }
     {
@@ -69,7 +69,7 @@ impl Key {
         }
     }
 
-    /// The value of a number where its key is missing, if it has one.
+    /// The default value of a number, if it has one.
     pub(crate) fn default(self) -> Option<u32>
         ensures { result ≡ default_of self }
     {

@@ -1,5 +1,5 @@
-//! Settings of a forwarding run, read from a TOML document: what a document says is `settings_of` of its tree, a
-//! definition in `specs/Settings.antt`, and a document that says no settings is refused by its first fault.
+//! Settings of a forwarding run, read from a TOML document: the settings of a document are `settings_of` of its tree, a
+//! definition in `specs/Settings.antt`, and a document without valid settings is refused with its first fault.
 #![tactic(auto)]
 
 mod fault;

@@ -24,7 +24,7 @@ pub struct Numbers {
     pub groups: u32,
 }
 
-/// The numbers, or the first fault of theirs.
+/// The numbers, or their first fault.
 #[tactic(auto, unfolding(crate::specs::Settings::numbers_of))]
 pub fn read_numbers(tree: &Table) -> Result<Numbers, SettingsFault>
     ensures value { result ≡ numbers_of (table_view tree.now) }
@@ -50,7 +50,7 @@ pub fn read_numbers(tree: &Table) -> Result<Numbers, SettingsFault>
     })
 }
 
-/// The number at a key, or that it is missing, or not allowed.
+/// The number at a key, or the fault that it is missing or not allowed.
 fn number(tree: &Table, key: Key) -> Result<u32, SettingsFault>
     ensures value { result ≡ number_at (table_view tree.now) key }
     ensures allowed { IfOk result (Allows key) }

@@ -14,21 +14,21 @@ use ipv4::Ports;
 use std::alloc::Global;
 use toml::Table;
 
-/// The buffers that are asked for beside one and a half caches: those of one burst.
+/// The buffers required besides one and a half caches: those of one burst.
 const BURST: u32 = 64;
 
 /// The settings of a forwarding run.
 #[derive(Drop)]
 pub struct Settings {
-    /// How many buffers: 1 to 65,536, and at least a burst of 64 and one and a half caches.
+    /// The number of buffers: 1 to 65,536, and at least a burst of 64 and one and a half caches.
     pub buffers: u32,
     /// Bytes of headroom in each buffer: 0 to 1,024.
     pub headroom: u32,
-    /// Bytes of room in each buffer beside the headroom: 64 to 65,536.
+    /// Bytes of room in each buffer besides the headroom: 64 to 65,536.
     pub room: u32,
     /// Buffers in the cache of each worker: 0 to 128.
     pub cache: u32,
-    /// The most packets that are moved at once: 1 to 64.
+    /// The maximum number of packets moved at once: 1 to 64.
     pub burst: u32,
     /// The capacity of each ring between stages: 1 to 65,536.
     pub ring: u32,
@@ -55,9 +55,9 @@ impl Settings {
 
     /// The settings of a document, ready for a run.
     ///
-    /// Refused, in this order: 1 `NotToml`; for each number key 2 `Missing` or 3 `BadValue`; `Missing` or `BadValue`
-    /// of the array `port` as a whole, and of each `mac` in it; `BadValue` of the array `route` as a whole, 4
-    /// `BadRoute` of each route in it; 5 `TooFewBuffers`. 6 `Memory` may come at any moment.
+    /// Errors, in this order: 1 `NotToml`; for each number key 2 `Missing` or 3 `BadValue`; `Missing` or `BadValue` for
+    /// the array `port` as a whole, and for each `mac` in it; `BadValue` for the array `route` as a whole, 4 `BadRoute`
+    /// for each route in it; 5 `TooFewBuffers`. 6 `Memory` may come at any point.
     pub fn read(alloc: Global, text: &[u8]) -> Result<Settings, SettingsFault>
         ensures utf8 { OnOk result (IsUtf8 text.now) }
         ensures bytes { (¬ IsUtf8 text.now) → result ≡ Err SettingsFault.NotToml }
@@ -90,7 +90,7 @@ impl Settings {
         Settings::with_buffers(numbers, table, Ports { sources, hops })
     }
 
-    /// The settings of these parts, where there are buffers enough.
+    /// The settings of these parts, if there are enough buffers.
     fn with_buffers(
         numbers: Numbers,
         table: lpm::Table,

@@ -11,7 +11,7 @@ use ipv4::Hop;
 use std::alloc::{AllocError, Global};
 use toml::Table;
 
-/// A route: the first `depth` bits of an address, and where packets to them go.
+/// A route: the first `depth` bits of an address, and where matching packets go.
 #[derive(Clone, Copy)]
 pub struct Route {
     pub address: u32,
@@ -19,7 +19,7 @@ pub struct Route {
     pub hop: Hop,
 }
 
-/// The route that a table is, to one of so many ports, if nothing of it is missing or wrong.
+/// The route in a table, to one of `ports` ports, if nothing in it is missing or invalid.
 pub fn read_route(alloc: Global, ports: u32, table: &Table) -> Result<Option<Route>, AllocError>
     ensures value { IfOk result (λ route. route ≡ route_of ports (table_view table.now)) }
     ensures depth { IfOk result (λ route. IfSome route (λ r. IsDepth r.depth)) }
@@ -46,7 +46,7 @@ pub fn read_route(alloc: Global, ports: u32, table: &Table) -> Result<Option<Rou
     }))
 }
 
-/// The number at `port`, which is one of so many ports.
+/// The number at `port`, if it is one of `ports` ports.
 fn port(ports: u32, table: &Table) -> Option<u32>
     ensures { result ≡ port_at ports (table_view table.now) }
 {

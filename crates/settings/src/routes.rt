@@ -1,4 +1,4 @@
-//! The routes of a document, added one after the other to a table of `lpm`: route i is hop i.
+//! The routes of a document, added one after another to a table of `lpm`: route i is hop i.
 
 ghost use Rattle.std.specs.Prelude.{◌≡◌, ◌+◌, ◌<◌, ◌≤◌, ◌⊎◌, length, IfOk, OnOk};
 ghost use Rattle.toml.specs.Data.{get_member};
@@ -19,7 +19,7 @@ use lpm::RouteFault;
 use std::alloc::Global;
 use toml::Table;
 
-/// The most routes.
+/// The maximum number of routes.
 const MAX_ROUTES: usize = 65536;
 
 /// The table of the routes, and the hops that it names, or the first fault of the routes.
@@ -58,7 +58,7 @@ fn entries(alloc: Global, tree: &Table) -> Result<Vec<&Table>, SettingsFault>
     }
 }
 
-/// Adds the routes that tables are, one after the other.
+/// Adds the routes of these tables, one after another.
 fn add_all(
     alloc: Global,
     ports: u32,
@@ -78,7 +78,7 @@ fn add_all(
     Ok(())
 }
 
-/// Adds the route that a table is.
+/// Adds the route of a table.
 fn add(
     alloc: Global,
     ports: u32,

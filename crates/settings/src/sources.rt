@@ -17,7 +17,7 @@ use ipv4::MAX_PORTS;
 use std::alloc::Global;
 use toml::Table;
 
-/// The hardware addresses of the ports, or the first fault of theirs.
+/// The hardware addresses of the ports, or their first fault.
 #[tactic(auto, unfolding(crate::specs::Settings::sources_of))]
 pub fn read_sources(alloc: Global, tree: &Table) -> Result<Vec<[u8; 6]>, SettingsFault>
     ensures value { Gives (λ v. v.items) result (sources_of (table_view tree.now)) }

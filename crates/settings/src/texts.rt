@@ -1,4 +1,4 @@
-//! Texts of a document: hardware addresses and prefixes.
+//! Texts in a document: hardware addresses and prefixes.
 
 ghost use Rattle.std.specs.Prelude.{◌≡◌, ◌+◌, ◌≤◌, ◌<◌, IfOk, IfSome, IsTrue, map, option_map};
 ghost use Rattle.std.specs.List.{list_all};
@@ -7,10 +7,10 @@ ghost use Rattle.settings.specs.Texts.{parts_at, hex_digit, pair_of, mac_of, is_
 
 use std::alloc::{AllocError, Global};
 
-/// The most digits of a decimal number.
+/// The maximum number of digits of a decimal number.
 const MAX_DIGITS: usize = 3;
 
-/// The hardware address that a text is: six pairs of hexadecimal digits, parted by `:`.
+/// The hardware address in a text: six pairs of hexadecimal digits, separated by `:`.
 pub fn mac(alloc: Global, text: &[u8]) -> Result<Option<[u8; 6]>, AllocError>
     ensures { IfOk result (λ mac. mac ≡ mac_of text.now) }
 {
@@ -21,7 +21,7 @@ pub fn mac(alloc: Global, text: &[u8]) -> Result<Option<[u8; 6]>, AllocError>
     Ok(<[u8; 6]>::try_from(octets.as_slice()).ok())
 }
 
-/// What stands between the signs.
+/// The parts between the separators.
 fn parts<'a>(alloc: Global, sign: u8, text: &'a [u8]) -> Result<Vec<&'a [u8]>, AllocError>
     ensures { IfOk result (λ parts. map (λ part. part.now) parts.items ≡ parts_at sign text.now) }
 {
@@ -99,7 +99,7 @@ fn address(alloc: Global, text: &[u8]) -> Result<Option<u32>, AllocError>
     }
 }
 
-/// The values of decimal numbers of at most 255.
+/// The values of decimal numbers up to 255.
 fn numbers(alloc: Global, parts: &[&[u8]]) -> Result<Option<Vec<u8>>, AllocError>
     ensures { IfOk result (λ octets. option_map (λ v. v.items) octets
         ≡ each_of (number_to 255) (map (λ part. part.now) parts.now)) }
@@ -114,7 +114,7 @@ fn numbers(alloc: Global, parts: &[&[u8]]) -> Result<Option<Vec<u8>>, AllocError
     Ok(Some(octets))
 }
 
-/// The value of a decimal number of at most `most`.
+/// The value of a decimal number up to `most`.
 fn number_to(most: u8, part: &[u8]) -> Option<u8>
     ensures value { result ≡ number_to most part.now }
     ensures small { IfSome result (λ n. n ≤ most) }
@@ -130,7 +130,7 @@ fn number_to(most: u8, part: &[u8]) -> Option<u8>
     }
 }
 
-/// Whether a text is one to three decimal digits, the first not 0 where others follow.
+/// Whether a text is one to three decimal digits, the first not 0 if others follow.
 fn is_decimal(part: &[u8]) -> bool
     ensures { result ≡ is_decimal part.now }
 {
@@ -156,7 +156,7 @@ fn is_plain(part: &[u8]) -> bool
     }
 }
 
-/// The value of at most three digits, the first one counting most.
+/// The value of at most three digits, most significant first.
 fn value(digits: &[u8]) -> u32
     requires { IsTrue (is_decimal digits.now) }
     ensures { result ≡ value_of digits.now }

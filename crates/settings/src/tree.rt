@@ -1,4 +1,4 @@
-//! The tree of a document, and what stands in it.
+//! The tree of a document, and reading values in it.
 
 ghost use Rattle.std.specs.Prelude.{◌≡◌, IfOk, map, option_map};
 ghost use Rattle.toml.specs.Data.{as_table, get_member};
@@ -44,7 +44,7 @@ pub fn text_at<'a>(table: &'a Table, key: &str) -> Option<&'a str>
     }
 }
 
-/// An integer that is not negative.
+/// An integer that isn't negative.
 pub fn natural(value: &Value) -> Option<u64>
     ensures { result ≡ natural_of (view value.now) }
 {

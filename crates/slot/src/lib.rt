@@ -1,4 +1,4 @@
-//! A place in memory for a value that is moved in and out, with nothing written over what it leaves.
+//! A place in memory that a value is moved into and out of; what a moved value leaves is not overwritten.
 #![tactic(auto)]
 
 ghost use Rattle.std.specs.Prelude.{◌≡◌, Option, Some, None};
@@ -8,8 +8,8 @@ ghost use Rattle.slot.specs.Slot.{owned};
 use std::marker::{Model, Move, Owns};
 use std::mem::ManuallyDrop;
 
-/// Room for a value. Contracts see the value that it has, or none: its bits are then those of a value that has moved
-/// out. A value that a dropped place still has is forgotten, not dropped.
+/// Room for a value. Contracts see the value that is in the place, or none: its bits are then those of a value that was
+/// moved out. A value still in a place that is dropped is forgotten, not dropped.
 pub struct Slot<U> {
     bits: U,
 }
@@ -25,7 +25,7 @@ impl<U> Move for Slot<U> {
 }
 
 impl<U> Slot<U> {
-    /// A place that has the value.
+    /// A place that contains the value.
     #[inline]
     pub fn of(value: U) -> Slot<U>
         ensures { result ≡ Some value }
@@ -33,7 +33,7 @@ impl<U> Slot<U> {
         Slot { bits: value }
     }
 
-    /// The place with what it has. It stays as a place that has none, with the same bits.
+    /// Moves the place with its content. What stays is a place without a value, with the same bits.
     #[inline]
     pub fn lift(&mut self) -> Slot<U>
         ensures whole { result ≡ self.old }
@@ -43,7 +43,7 @@ impl<U> Slot<U> {
         unsafe { place.read() }
     }
 
-    /// A place that has no value, with the bits of this one.
+    /// A place without a value, with the bits of this one.
     #[inline]
     pub fn vacant(sample: U) -> Slot<U>
         ensures { result ≡ None }
@@ -53,7 +53,7 @@ impl<U> Slot<U> {
         place
     }
 
-    /// The value that the place has.
+    /// The value in the place.
     #[inline]
     pub fn into_value(self) -> U
         requires { (u : U) × (self ≡ Some u) }
@@ -73,7 +73,7 @@ impl<U> Slot<U> {
         self.lift().into_value()
     }
 
-    /// Drops the place, and forgets a value that it has.
+    /// Drops the place, and forgets its value if it has one.
     #[inline]
     pub fn forget(self) {
         let _forgotten = unsafe { ManuallyDrop::new_unchecked(self) };

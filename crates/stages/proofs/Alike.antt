@@ -1,4 +1,4 @@
--- Two runs over the same bytes tell the same.
+-- Two runs over the same bytes have the same result.
 use Rattle.std.proofs.Common.{◌≡◌, ◌<◌, ◌++◌, ℕ, zero, suc, List, [], ◌∷◌, Option, Some, length, map, slice_get, refl, sym, ap, ◌∙◌, arith}
 use Rattle.std.proofs.lemmas.List.{length-map}
 use Rattle.pcapio.specs.Counted.{told}
@@ -14,7 +14,7 @@ capture_of : Case → Capture → Capture
 capture_of (Captured c) d = c
 capture_of other d = d
 
--- two lists of one length give the same, where what stands at each place of both does
+-- two lists of the same length give the same, if the elements at each index of both do
 each_same : {A B : Type 0} (f : A → B) (xs ys : List A) → length xs ≡ length ys
     → ((q : ℕ) (x y : A) → q < length xs → slice_get xs q ≡ Some x → slice_get ys q ≡ Some y → f x ≡ f y) → map f xs ≡ map f ys
 each_same f [] [] many same = refl

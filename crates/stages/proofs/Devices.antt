@@ -1,4 +1,4 @@
--- What the devices of a run's ports were told at its end.
+-- What the devices of a run's ports have received at its end.
 use Rattle.std.proofs.Common.{◌≡◌, ℕ, List, ◌++◌, take, Option, None, Some, slice_get, refl, sym, ap, ◌∙◌, subst}
 use Rattle.std.specs.Io.KnownBytes.{Keeps}
 use Rattle.std.specs.Option.{option_map}
@@ -23,7 +23,7 @@ kept_known None x k = absurd k
 kept_known (Some y) x k = ap Some k
 
 module _ {W : Type 0} where
-  -- a device at a place is that of the writer there
+  -- a device at an index is that of the writer there
   pub writer_at : (writers : List (Writer W)) (q : ℕ) (d : Counted W) → slice_get (devices_of writers) q ≡ Some d
       → (w : Writer W) × (slice_get writers q ≡ Some w) × (sink_of w ≡ d)
   writer_at writers q d got = at (slice_get writers q) refl
@@ -79,7 +79,7 @@ module _ {W : Type 0} where
       (kept_begins (Some (x ++ output_of resolution q (take n all))) (told contents d) (subst (λ t. Keeps t (told contents d)) e m.2))
       (append_assoc x (output_of resolution q (take n all)) rest ∙ ap (λ l. x ++ l) (sym (output_front resolution q all n)))
 
-  -- after a failure nothing was told any more
+  -- after a failure nothing more was written
   pub begun_before : (contents : W → Option (List ℕ)) (before : List (Option (List ℕ))) (resolution : Resolution) (all : List Fate)
       (writers : List (Writer W)) (devices : List (Counted W))
       → AreBegun contents before resolution all writers → devices ≡ devices_of writers → AreBeginnings contents before resolution all devices

@@ -23,7 +23,7 @@ use Rattle.stages.proofs.Opened.{input_of, refused_whole}
 read_for_thread : {X : Type 0} {R : Type 0} → ◌≡◌ {A = Result X RunFault} (Err Read) (Err Thread) → R
 read_for_thread e = absurd (cc e)
 
--- what a reader told, and what the end of the run told of it
+-- what a reader returned, and what the end of the run returned of it
 pub why_ended : {J R W : Type 0} {G : Ghosts J} (input : Option Input) (failures : List ℕ) (before next : ℕ) (device : Option (Counted R))
     (answer : Result (InputTotals J G) RunFault) (devices : List (Counted W)) (fault : RunFault) → ReadFailed before device answer → IsHere device answer
     → IsNoCapture input answer → WhyFaulted failures next answer devices fault → WhyEnded input failures before device devices fault
@@ -59,7 +59,7 @@ why_of_threads order resolution remaining rest failures reader device opened wri
 why_of_threads order resolution remaining rest failures reader device opened writers devices Window header behind well same why = tt
 why_of_threads order resolution remaining rest failures reader device opened writers devices Worn header behind well same why = tt
 
--- what a run by one thread tells of no summary is what one in threads tells
+-- what a run by one thread states about a missing summary is what one in threads states
 pub of_threads : {R W : Type 0} (remaining : R → Option (List ℕ)) (reader source : Counted R) (writers devices : List (Counted W)) (fault : RunFault)
     → WhyNoSummary remaining reader source writers devices fault → WhyNoSummaryOfThreads remaining reader (Some source) writers devices fault
 of_threads remaining reader source writers devices Read why = (source, refl, why)

@@ -1,4 +1,4 @@
--- Ports before the first packet: each has a file header to tell.
+-- Ports before the first packet: each has a file header to write.
 use Rattle.std.proofs.Common.{◌≡◌, ℕ, zero, suc, ◌+◌, Bool, length, sum, arith, List, [], ◌++◌, Option, Some, slice_get, map, refl, sym, ap, ◌∙◌, subst}
 use Rattle.std.proofs.Common.{append-nil}
 use Rattle.std.specs.Io.KnownBytes.{Appends}
@@ -18,7 +18,7 @@ use Rattle.stages.specs.Tallies.{IsTally}
 use Rattle.stages.proofs.Texts.{appended_text}
 
 module _ {W : Type 0} where
-  -- what a device was told before the run is what it was told now
+  -- what a device received before the run is what it has received now
   told_before : (contents : W → Option (List ℕ)) (writers : List (Writer W)) (before : List (Option (List ℕ))) (q : ℕ) (w : Writer W) (x : List ℕ)
       → map (told contents) (devices_of writers) ≡ before → slice_get writers q ≡ Some w → slice_get before q ≡ Some (Some x) → told contents
       (sink_of w) ≡ Some x

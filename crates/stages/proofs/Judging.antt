@@ -1,4 +1,4 @@
--- What becomes of a record is what forwarding says of its frame.
+-- What becomes of a record is what forwarding does with its frame.
 use Rattle.std.proofs.Common.{◌≡◌, ℕ, Option, Some, slice_get, sym, ap, ◌∙◌}
 use Rattle.std.specs.Option.{option_map}
 use Rattle.std.proofs.lemmas.Option.{slice_get-map}

@@ -5,7 +5,7 @@ use Rattle.std.specs.Prelude.{reverse}
 use Rattle.std.proofs.lemmas.List.{reverse-append, map-append}
 
 module _ {T : Type 0} where
-  -- what holds of each element of two lists holds of each of the list of both
+  -- what holds for each element of two lists holds for each element of their concatenation
   pub each_append : (P : T → Type 0) (xs ys : List T) → ((q : ℕ) (w : T) → slice_get xs q ≡ Some w → P w)
       → ((q : ℕ) (w : T) → slice_get ys q ≡ Some w → P w) → (q : ℕ) (w : T) → slice_get (xs ++ ys) q ≡ Some w → P w
   each_append P [] ys one two q w got = two q w got
@@ -23,7 +23,7 @@ module _ {T : Type 0} where
       each_append P (reverse xs) (x ∷ []) (each_reverse P xs (λ n v is. each (suc n) v is)) (each_alone P x (each zero x refl)) q w
       (ap (λ l. slice_get l q) (sym (reverse-append (x ∷ []) xs)) ∙ got)
 
-  -- what stands at place q of a list with y at place p
+  -- what is at index q of a list with y at index p
   pub at_set : (xs : List T) (p q : ℕ) (was y w : T) → slice_get xs p ≡ Some was → slice_get (slice_set xs p y) q ≡ Some w
       → ((q ≡ p) × (w ≡ y)) ⊎ ((q ≢ p) × (slice_get xs q ≡ Some w))
   at_set [] p q was y w at got = absurd (cc at)
@@ -35,7 +35,7 @@ module _ {T : Type 0} where
     | inr e ↦ inr (λ f. e.0 (omega (arith, f)), e.1)
   ]
 
-  -- a relation of each element to what it was: of the one that changed, and of the others
+  -- a relation of each element to what it was: for the one that changed, and for the others
   pub changed : (R : ℕ → T → T → Type 0) (xs : List T) (p : ℕ) (was y : T) → slice_get xs p ≡ Some was → R p was y
       → ((q : ℕ) (w : T) → q ≢ p → R q w w)
       → (q : ℕ) (w : T) → slice_get (slice_set xs p y) q ≡ Some w → (old : T) × (slice_get xs q ≡ Some old) × R q old w

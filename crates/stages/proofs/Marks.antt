@@ -106,7 +106,7 @@ module _ {J : Type 0} {G : Ghosts J} where
   mark_append (p ∷ ps) qs clear = let ih = mark_append ps qs (tail_clear p ps clear) in
       let e = head_clear p ps clear in rw e ih
 
-  -- packets up to an end mark, of which one is an end mark, end with it
+  -- packets up to an end mark, one of which is an end mark, end with it
   pub ends_in_mark : (ps : List (Packet J G)) → until_mark ps ≡ ps → has_mark ps ≡ true
       → (front : List (Packet J G)) × (ps ≡ front ++ Mark ∷ []) × (has_mark front ≡ false)
   ends_in_mark [] cut mark = absurd (cc mark)

@@ -1,4 +1,4 @@
--- A run of the records behind a file header as a run of the whole file.
+-- A run over the records after a file header as a run over the whole file.
 use Rattle.std.proofs.Common.{◌≡◌, ℕ, ◌-◌, ◌^◌, ◌≤◌, List, [], ◌++◌, length, drop, map, Option, None, Some, IfSome, Result, Ok, Err, IfOk, OnOk, refl, sym, ap}
 use Rattle.std.proofs.Common.{◌∙◌, subst, arith, append-nil, slice_get}
 use Rattle.std.specs.Option.{option_map}
@@ -32,7 +32,7 @@ use Rattle.stages.specs.declared.fault.RunFault.{RunFault}
 use Rattle.stages.specs.declared.fault.RunFault.TheVariants.{Memory, Thread, Read, Write, Capture as Refused, Window, Worn}
 use Rattle.stages.proofs.Texts.{beginning}
 
--- the records that bytes are, and their end
+-- the records in bytes, and their end
 abbrev pub input_in : ByteOrder → List ℕ → Input
 input_in order bytes = let found = exists order (length bytes) bytes (omega arith) in record { packets = found.0; ending = found.1 }
 
@@ -47,7 +47,7 @@ input_known order None = refl
 input_known order (Some bytes) = read_in order bytes
 
 module _ {W : Type 0} where
-  -- devices that were told nothing in the run were told a beginning
+  -- devices to which nothing was written in the run have received a prefix
   pub untold : (contents : W → Option (List ℕ)) (before : List (Option (List ℕ))) (resolution : Resolution) (all : List Fate) (devices : List (Counted W))
       → map (told contents) devices ≡ before → AreBeginnings contents before resolution all devices
   untold contents before resolution all devices same q d x got known =
@@ -69,7 +69,7 @@ module _ {W : Type 0} where
   untouched_still contents settings (Some x) writers devices same = λ none. same
 
   module _ (contents : W → Option (List ℕ)) (settings : Settings) (order : ByteOrder) (resolution : Resolution) where
-    -- with a file header that is right
+    -- with a valid file header
     pub header_there : (a : Option (List ℕ)) (writers devices : List (Counted W)) → IfSome a (λ bytes. HasHeader bytes order resolution)
         → IfSome a (λ bytes. IsUntouched contents settings bytes writers devices)
     header_there None writers devices header = tt

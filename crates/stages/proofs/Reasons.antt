@@ -1,4 +1,4 @@
--- Why a run has no summary, from what its parts answer.
+-- Why a run has no summary, from the results of its parts.
 use Rattle.std.proofs.Common.{◌≡◌, ◌≢◌, ℕ, List, Option, Result, Ok, Err, IfOk, IfErr, refl, sym, subst}
 use Rattle.pcapio.specs.Counted.{HasFailed}
 use Rattle.pcapio.specs.Reader.{source_of}

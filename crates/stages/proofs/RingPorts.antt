@@ -1,4 +1,4 @@
--- The hand and the cache at a thread's place.
+-- The hand and the cache that a thread accesses the rings with.
 use Rattle.std.proofs.Common.{◌≡◌, ◌<◌, ℕ, ◌++◌, List, [], length, true, Option, None, Some, Result, Ok, refl, ap, ◌∙◌, subst, arith}
 use Rattle.std.specs.List.{flat_map}
 use Rattle.std.specs.Option.{is_some}
@@ -62,11 +62,11 @@ module _ {T : Type 0} {S : Type 0} {G : Ghosts T} {H : StoredGhosts S T} {N : �
   pub ring_there : (f : Fabric T N S) (l : Local T N S G H) → IsLocalOf f l → l.ring < length (rings_of f)
   ring_there f l is = ring_below f l.hand l.ring is l.free
 
-  -- what a cache gave has distinct buffers
+  -- what a cache returned has distinct buffers
   pub given_apart : (l : Local T N S G H) (items : List T) → Owns G.numbers (view_of l).party (items ++ cache_of l) → AreDistinct (flat_map G.numbers items)
   given_apart l items own = apart_here l.hand items l.cache l.here own
 
-  -- a put that came through leaves nothing
+  -- a put that succeeded leaves nothing
   pub put_leaves : (tags : T → List ℕ) (plan : RingPlan) (l m : Local T N S G H) (list rest : List T)
       → PutBackTells tags plan l m list (let r : Result (Unit {0}) PoolFault = Ok tt in r) rest → rest ≡ []
   put_leaves tags plan l m list rest told = told.1

@@ -1,4 +1,4 @@
--- One more turn of a worker: packets are taken, and what becomes of them is put.
+-- One more turn of a worker: packets are taken, and the results for them are put.
 use Rattle.std.proofs.Common.{◌≡◌, ℕ, true, false, List, [], ◌∷◌, ◌++◌, sym, ap, ◌∙◌, subst, append_assoc, arith}
 use Rattle.geom.specs.declared.plan.RingPlan.{RingPlan}
 use Rattle.geom.specs.declared.plan.Side.TheVariants.{Take}

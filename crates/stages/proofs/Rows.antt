@@ -1,4 +1,4 @@
--- Worked rows of what a run answers and of its rings, computed by the definitions.
+-- Worked rows of a run's results and of its rings, computed by the definitions.
 use Rattle.std.proofs.Common.{◌≡◌, ℕ, true, false, List, [], ◌∷◌, map, ap, sym, refl, arith}
 use Rattle.std.proofs.lemmas.Option.{same_Some}
 use Rattle.geom.specs.declared.plan.Mode.TheVariants.{Hts, Multi}
@@ -18,7 +18,7 @@ use Rattle.stages.specs.Passing.{AreAsked, AreRings, settled_on}
 numbers : map number_of (Memory ∷ Thread ∷ Read ∷ Write 9 ∷ Capture CapFault.NotPcap ∷ Window ∷ Worn ∷ []) ≡ 1 ∷ 2 ∷ 3 ∷ 4 ∷ 5 ∷ 6 ∷ 7 ∷ []
 numbers = refl
 
--- beside the fault of port 9
+-- together with the fault of port 9
 beside_a_port : map (lowest_of 9) (Memory ∷ Thread ∷ Read ∷ Capture CapFault.BadRecord ∷ Window ∷ Worn ∷ [])
     ≡ Memory ∷ Thread ∷ Read ∷ Write 9 ∷ Write 9 ∷ Write 9 ∷ []
 beside_a_port = refl
@@ -47,7 +47,7 @@ rings = record {
   mixed = λ plan there. ap (λ (p : RingPlan). p.free) (sym (same_Some _ plan there));
 }
 
--- and as they are asked for, with 112 segments and room for 512 packets on each of the others
+-- and as they are planned, with 112 segments and room for 512 packets on each of the others
 asked : AreAsked 112 512 (
     record { geometry = record { size = 128; capacity = 112 }; put = Multi; take = Multi; free = true }
     ∷ record { geometry = record { size = 1024; capacity = 512 }; put = Multi; take = Hts; free = false }
@@ -55,7 +55,7 @@ asked : AreAsked 112 512 (
     ∷ [])
 asked = refl
 
--- spans of a hand, newest first: what it took of the input ring, and what it put on the output ring, oldest first
+-- spans of a hand, newest first: what it took from the input ring, and what it put on the output ring, oldest first
 spans : List (Settled ℕ)
 spans =
     record { ring = 2; side = Put; start = 4; items = 5 ∷ 6 ∷ [] } ∷ record { ring = 1; side = Take; start = 9; items = 3 ∷ 4 ∷ [] }
@@ -66,7 +66,7 @@ in_order : (settled_on 1 Take spans ≡ 1 ∷ 2 ∷ 3 ∷ 4 ∷ []) × (settled_
 unfolding spans
 in_order = (refl, refl, refl)
 
--- up to the first end mark, with it
+-- up to the first end mark, inclusive
 first_marks : {J : Type 0} {G : Ghosts J} (x y : Segment J G) → (until_mark (Free x ∷ Mark ∷ Free y ∷ Mark ∷ []) ≡ Free x ∷ Mark ∷ [])
     × (until_mark (Free x ∷ Free y ∷ []) ≡ Free x ∷ Free y ∷ []) × (has_mark (Free x ∷ Mark ∷ Free y ∷ []) ≡ true) × (has_mark (Free x ∷ Free y ∷ []) ≡ false)
 first_marks x y = (refl, refl, refl, refl)

@@ -45,7 +45,7 @@ last-made headroom room (suc n) xs x e =
     let long : length xs ≡ n = ap length parts.0 ∙ length-map-range_with_len (λ number. made headroom room number ∷ []) 0 n in
     (omega (arith, long), parts.0 ∙ ap (made_all headroom room) (sym long), parts.1 ∙ ap (λ k. row headroom room k 1) (sym long))
 
--- one segment before those behind it
+-- one segment before those after it
 pub row-joined : (headroom room n m count : ℕ) → m ≡ n + 1 → m ≤ count
     → row headroom room n 1 ++ row headroom room m (count - m) ≡ row headroom room n (count - n)
 row-joined headroom room n m count same fits =

@@ -1,4 +1,4 @@
--- What whole puts and takes change of the view of a hand: the items that it settled, and those that are its own.
+-- What whole puts and takes change in the view of a hand: the items that it settled, and its own items.
 use Rattle.std.proofs.Common.{◌≡◌, ℕ, ◌-◌, ◌<◌, ◌≤◌, List, [], ◌∷◌, ◌++◌, length, take, Bool, true, false, refl, sym, ap, ◌∙◌, subst, arith, append-nil}
 use Rattle.std.proofs.Common.{append_assoc}
 use Rattle.std.specs.Prelude.{◌==◌, ◌&&◌, if◌then◌else◌}
@@ -113,7 +113,7 @@ module _ {T : Type 0} (tags : T → List ℕ) (how : How) (n ring : ℕ) (plan :
       )
 
 module _ {T : Type 0} {S : Type 0} {G : Ghosts T} {H : StoredGhosts S T} (tags : T → List ℕ) (most : ℕ) (how : How) (ring : ℕ) (plan : RingPlan) where
-  -- what is left of a list whose first items were put is the hand's own still
+  -- what is left of a list whose first items were put is still the hand's own
   pub rest_yours : (v : View T) (h : Hand T S G H) (m : Moved) (items rest : List T) → PutHasTold {N = most} tags how ring plan v items (Done h m) rest
       → AreYours tags plan v items → AreYours tags plan (view h) rest
   rest_yours v h m items rest told yours =
@@ -144,7 +144,7 @@ module _ {T : Type 0} {S : Type 0} {G : Ghosts T} {H : StoredGhosts S T} (tags :
       let is = refused_party v h why items rest told in
       subst (AreYours tags plan (view h)) (sym is.1) (kept_yours tags plan v (view h) items is.0 yours)
 
-  -- items that are the hand's to put are refused for want of room, or where the ring is worn
+  -- items that are the hand's to put are refused only if there is no room, or if the ring is worn
   pub refused_worn : (v : View T) (h : Hand T S G H) (why : Refusal) (items rest : List T) → PutHasTold {N = most} tags how ring plan v items (Refused h why) rest
       → PutSettles {N = most} ring v items (Refused h why) → (IsUnfinishedPut {N = most} (Refused h why) → ⊥) → ((left : ℕ) → why ≡ Start (NoRoom left) → ⊥)
       → 0 < length items → length items ≤ most → IsHeldOnce tags v.pool v.party → AreYours tags plan v items → IsWornAt most (view h)

@@ -1,4 +1,4 @@
--- What one more record makes of the records read so far, and what the end tells.
+-- How one more record changes what was read so far, and what is reported at the end.
 use Rattle.std.proofs.Common.{◌≡◌, ◌≤◌, ◌<◌, ◌*◌, ◌+◌, ◌++◌, ◌-◌, ◌^◌, ℕ, Bool, List, [], ◌∷◌, length, Option, None, Some, refl, sym, ap, ◌∙◌, subst, arith}
 use Rattle.std.proofs.Common.{length-append}
 use Rattle.counters.specs.Counted.{counts_of}
@@ -43,7 +43,7 @@ module _ {R : Type 0} (remaining : R → Option (List ℕ)) (input : Option Inpu
     },
   )
 
-  -- a record that is oversize was passed over, and counted
+  -- an oversize record was skipped, and counted
   pub passed_over : (old new : Reader R) (before after : ReadState) (packet : Packet) → HasRead remaining input room ports old before
       → order_of new ≡ order_of old → Takes remaining old new packet → 64 * room < length packet.bytes → after.count ≡ before.count
       → ((n : ℕ) → before.share ≡ counts_of (length before.share.sent) n [] → after.share ≡ counts_of (length before.share.sent) (n + 1) []) → length
@@ -84,7 +84,7 @@ module _ {R : Type 0} (remaining : R → Option (List ℕ)) (input : Option Inpu
     },
   )
 
-  -- its number is that of the records before it
+  -- its number is the number of records before it
   pub read_is : (old new : Reader R) (progress : ReadState) (packet : Packet) → HasRead remaining input room ports old progress
       → Takes remaining old new packet → length packet.bytes ≤ 64 * room → IsRecord input room progress.count packet
   read_is old new progress packet (order, all, packets, f) takes small =
@@ -108,13 +108,13 @@ module _ {R : Type 0} (remaining : R → Option (List ℕ)) (input : Option Inpu
   none_further old new progress fault (order, all, packets, f) why =
       stopped remaining order all input old old new None packets fault f.whole f.same f.stand refl why
 
-  -- so many were read that the input has too many
+  -- this many have been read: the input has too many
   pub too_many : (reader : Reader R) (progress : ReadState) → HasRead remaining input room ports reader progress
       → 2 ^ 64 - 1 ≤ progress.count + records_of progress.share → IsEndless input
   too_many reader progress (order, all, packets, f) many =
       endless _ _ _ input packets (2 ^ 64 - 1) f.whole f.stand (omega (arith, many, f.many))
 
--- why the reader stopped, since the beginning of a run
+-- why the reader stopped, since the start of a run
 pub stopped_since : {R : Type 0} (input : Option Input) (start old new : Reader R) (failed later : Option ℕ) (fault : RunFault)
     → HasNotFailed (source_of start) (source_of old) → failed ≡ None → WhyStopped input old new failed fault → WhyStopped input start new later fault
 stopped_since input start old new failed later Read worked none why = failed-later _ _ _ worked why

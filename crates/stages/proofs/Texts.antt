@@ -1,4 +1,4 @@
--- One more packet leaves: what it makes of the ports' texts and of the counts.
+-- One more packet leaves: how it changes the ports' texts and the counts.
 use Rattle.std.proofs.Common.{◌≡◌, ℕ, ◌+◌, ◌⊎◌, inl, inr, Bool, true, false, List, [], ◌∷◌, ◌++◌, length, take, drop, Option, Some, None, slice_get, refl, sym}
 use Rattle.std.proofs.Common.{ap, ◌∙◌, subst, append_assoc, append-nil, take-append-drop}
 use Rattle.std.specs.List.{flat_map}
@@ -42,12 +42,12 @@ output_one_more resolution q all n o at =
     ap (output_of resolution q) (sym (take_one_more all n o at)) ∙ (output_more resolution q (take n all) (o ∷ []) ∙ ap
     (λ l. output_of resolution q (take n all) ++ l) (part_of q o))
 
--- the whole is what the first fates give, and then something
+-- the whole is the output of the first fates, and then something
 pub output_front : (resolution : Resolution) (q : ℕ) (all : List Fate) (n : ℕ)
     → output_of resolution q all ≡ output_of resolution q (take n all) ++ flat_map record_text (records_at q (drop n all))
 output_front resolution q all n = ap (output_of resolution q) (sym (take-append-drop n all)) ∙ output_more resolution q (take n all) (drop n all)
 
--- what was told and goes on to a part of the whole is a beginning of it
+-- what was written and continues to a part of the whole is a prefix of it
 pub beginning : (t : Option (List ℕ)) (part more whole : List ℕ) → Begins t (Some part) → part ++ more ≡ whole → IsBeginning t whole
 beginning None part more whole b e = absurd b.1
 beginning (Some y) part more whole b e =
@@ -89,7 +89,7 @@ module _ {W : Type 0} where
       (ap (λ l. l ++ rest) (append_assoc x so_far part ∙ ap (λ l. x ++ l) (sym (output_one_more resolution q all n o at)))
       ∙ (append_assoc x (output_of resolution q (take (n + 1) all)) rest ∙ ap (λ l. x ++ l) (sym (output_front resolution q all (n + 1)))))
 
-  -- what stands in the buffers is told later: so far each port was told a beginning
+  -- what is in the buffers is written later: so far each port has received a prefix
   pub texts_begun : (contents : W → Option (List ℕ)) (before : List (Option (List ℕ))) (resolution : Resolution) (all : List Fate) (n : ℕ)
       (writers : List (Writer W))
       → AreTexts contents before resolution (take n all) writers → AreBegun contents before resolution all writers
@@ -99,7 +99,7 @@ module _ {W : Type 0} where
       (begins_waiting (told contents (sink_of w)) (waiting w.behind) (x ++ output_of resolution q (take n all)) (texts q w x got known))
       (append_assoc x (output_of resolution q (take n all)) rest ∙ ap (λ l. x ++ l) (sym (output_front resolution q all n)))
 
-  -- where no port fails, one more fate; where one fails, or failed before, a beginning of the whole
+  -- if no port fails, one more fate; if one fails, or failed before, a prefix of the whole
   pub texts_turn : (contents : W → Option (List ℕ)) (before : List (Option (List ℕ))) (resolution : Resolution) (outs : Option (List Fate)) (n : ℕ) (o : Fate)
       (was failed : Option ℕ) (old new : List (Writer W)) → ((all : List Fate) → outs ≡ Some all → slice_get all n ≡ Some o)
       → HasTexts contents before resolution outs n was old → ((p : ℕ) → was ≡ Some p → failed ≡ Some p)

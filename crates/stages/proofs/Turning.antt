@@ -1,4 +1,4 @@
--- The turns of a run by one thread: what one more record makes of the numbers so far, and what the last one tells.
+-- The turns of a run by one thread: how one more record changes the numbers so far, and what follows from the last one.
 use Rattle.std.proofs.Common.{◌≡◌, ◌≢◌, ℕ, ◌+◌, ◌*◌, ◌<◌, ◌≤◌, Bool, true, false, cond, if◌then◌else◌, List, [], ◌∷◌, ◌++◌, length, slice_get, Option, None}
 use Rattle.std.proofs.Common.{Some, IfSome, refl, sym, ap, ◌∙◌, arith, append_assoc, length-append}
 use Rattle.std.specs.List.{count_by}
@@ -27,7 +27,7 @@ use Rattle.stages.specs.declared.fault.RunFault.{RunFault}
 use Rattle.stages.specs.declared.fault.RunFault.TheVariants.{Memory, Thread, Read, Write, Capture, Window, Worn}
 use Rattle.stages.proofs.Windows.{untied}
 
--- records that stand in the whole input and end so are the input's
+-- records with this end that are in the whole input are the input's
 pub input_is : (order : ByteOrder) (a : Option (List ℕ)) (input : Option Input) (packets : List Packet) (end : End) → IsInput order a input
     → IfSome a (λ bytes. AreRecords order bytes packets end) → (i : Input) → input ≡ Some i → (i.packets ≡ packets) × (i.ending ≡ end)
 input_is order None input packets end is r i known = absurd (cc (sym is ∙ known))
@@ -81,7 +81,7 @@ at_seam (x ∷ xs) y ys = at_seam xs y ys
 first_fits : (room : ℕ) (packet : Packet) (more : List Packet) → length packet.bytes ≤ 64 * room → stamped room (packet ∷ more) ≡ packet ∷ stamped room more
 first_fits room packet more small = ap (λ t. if t then packet ∷ stamped room more else stamped room more) (le-leb (length packet.bytes) (64 * room) small)
 
--- the record that was found has the number of those before it
+-- the number of the record that was found is the number of those before it
 pub found_is : (order now : ByteOrder) (a b c : Option (List ℕ)) (input : Option Input) (room : ℕ) (packets : List Packet) (packet : Packet) → IsInput
     order a input
     → now ≡ order → Stand order a b packets → TakesRecord now b c packet → length packet.bytes ≤ 64 * room

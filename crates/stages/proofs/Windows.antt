@@ -47,7 +47,7 @@ module _ {T : Type 0} where
   take_one_more (y ∷ xs) (suc n) x got =
       let e : suc n + 1 ≡ suc (n + 1) = omega arith in rw e (ap (λ zs. y ∷ zs) (take_one_more xs n x got))
 
-  -- what an insert leaves, by its answer
+  -- what an insert leaves, by its result
   pub all_inserted : (P : ℕ → T → Type 0) {E : Type 0} (w u : Waiting T) (k : ℕ) (y : T) (r : Result (Unit {0}) E)
       → OnOk r (u ≡ with_number w k y) → OnErr r (u ≡ w) → P k y
       → ((n : ℕ) (x : T) → map.get w.held n ≡ Some x → P n x)
@@ -57,6 +57,6 @@ module _ {T : Type 0} where
   all_inserted P w u k y (Err _) ok err here all =
       (λ n x is. all n x (subst (λ v. map.get v.held n ≡ Some x) err is), ap (λ v. v.next) err)
 
-  -- the item that came last under a number is the one that is held there
+  -- the item that came last with a number is the one that is held there
   pub got_here : (w : Waiting T) (k : ℕ) (y : T) → k ≡ w.next → map.get (with_number w k y).held w.next ≡ Some y
   got_here w k y same = get-insert nat_cmp_total w.held k y w.next ∙ ap (λ b. cond b (Some y) (map.get w.held w.next)) (tied w.next k (sym same))

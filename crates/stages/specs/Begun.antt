@@ -1,4 +1,4 @@
--- What the parts of a run ask at its beginning: of the reader, of the settings, and of the writers
+-- What the parts of a run require at its start: of the reader, of the settings, and of the writers
 use Rattle.std.specs.Prelude.{◌≡◌, ◌≤◌, ℕ, List, [], length, map, vec_len, Option, None}
 use Rattle.pcapio.specs.Counted.{told, failures_of}
 use Rattle.pcapio.specs.Reader.{order_of, rest, source_of, state_of}
@@ -13,7 +13,7 @@ use Rattle.stages.specs.Ports.{AreFresh, devices_of}
 use Rattle.stages.specs.Whole.{forwarding_by}
 use Rattle.stages.specs.declared.ports.Outputs.{Outputs}
 
--- the reader is before the first of these records, and its device failed so often
+-- the reader is before the first of these records, and its device had failed this often
 pub record HasInput {R : Type 0} (remaining : R → Option (List ℕ)) (reader : Reader R) (records : Option Input)
     (count : ℕ) : Type 0 where
   pub input : IsInput (order_of reader) (rest remaining reader) records
@@ -26,7 +26,8 @@ pub record GoesBy (settings : Settings) (bytes : ℕ) (forwarding : Forwarding) 
   pub rules : forwarding_by settings ≡ forwarding
   pub ports : vec_len settings.ports.sources ≡ count
 
--- nothing was told yet, and each writer has a file header to tell; the emptied list has room for all their devices
+-- nothing has been written yet, and each writer has a file header to write; the emptied list has room for all their
+-- devices
 pub record AreReady {W : Type 0} (contents : W → Option (List ℕ)) (outputs : Outputs W) (spare : List (Counted W))
     (space : ℕ) (begun : List (Option (List ℕ))) (counts : List ℕ) (resolution : Resolution) : Type 0 where
   pub before : map (told contents) (devices_of outputs.writers.items) ≡ begun

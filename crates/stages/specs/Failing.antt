@@ -6,7 +6,7 @@ use Rattle.pcapio.specs.Writer.{sink_of}
 use Rattle.pcapio.specs.declared.counted.Counted.{Counted}
 use Rattle.pcapio.specs.declared.writer.Writer.{Writer}
 
--- how often device q failed, after n times, where the device of this port failed
+-- how often device q failed, after n times before, if the device of this port failed
 abbrev pub failures_after : ℕ → ℕ → Option ℕ → ℕ
 failures_after n q None = n
 failures_after n q (Some p) = if p == q then min (n + 1) (2 ^ 64 - 1) else n
@@ -23,7 +23,7 @@ module _ {W : Type 0} where
       → (was : Writer W) × (slice_get old q ≡ Some was)
       × (failures_of (sink_of w) ≡ failures_after (failures_of (sink_of was)) q failed)
 
-  -- the same of the devices that were the writers'
+  -- the same for the devices that were the writers'
   abbrev pub AllFailOnce : List (Writer W) → List (Counted W) → Option ℕ → Type 0
   AllFailOnce writers devices failed = (q : ℕ) (d : Counted W) → slice_get devices q ≡ Some d
       → (w : Writer W) × (slice_get writers q ≡ Some w)

@@ -15,24 +15,24 @@ number_of (Capture fault) = 5
 number_of Window = 6
 number_of Worn = 7
 
--- of the fault of a port and another one, the one with the lower number
+-- the fault with the lower number, of the fault of a port and another one
 abbrev pub lowest_of : ℕ → RunFault → RunFault
 lowest_of port Memory = Memory
 lowest_of port Thread = Thread
 lowest_of port Read = Read
 lowest_of port fault = Write port
 
--- of two faults the one with the lower number; of two with one number the first
+-- the fault with the lower number; of two with the same number the first
 abbrev pub lower_of : RunFault → RunFault → RunFault
 lower_of a b = if nat_lt (number_of b) (number_of a) then b else a
 
--- the fault of a run whose input has this fault
+-- the fault of a run whose input had this fault
 abbrev pub fault_of_input : CapFault → RunFault
 fault_of_input CapFault.Read = Read
 fault_of_input CapFault.Memory = Memory
 fault_of_input fault = Capture fault
 
--- the fault of a run whose stage can't go on
+-- the fault of a run whose stage can't continue
 abbrev pub fault_of_stage : StageFault → RunFault
 fault_of_stage ring.Window = Window
 fault_of_stage ring.Worn = Worn

@@ -11,8 +11,8 @@ use Rattle.stages.specs.Turns.{EndsBad}
 use Rattle.stages.specs.declared.fault.RunFault.{RunFault}
 use Rattle.stages.specs.declared.fault.RunFault.TheVariants.{Memory, Thread, Read, Write, Capture, Window, Worn}
 
--- why not all records were read and sent: the input's device failed, the input is no capture, or it or a ring has no
--- further numbers
+-- why not all records were read and sent: the input's device failed, the input isn't a valid capture, or the numbers of
+-- it or of a ring are used up
 abbrev pub WhyUnfed : {R : Type 0} → Option Input → Reader R → Reader R → RunFault → Type 0
 WhyUnfed input old new Memory = ⊥
 WhyUnfed input old new Thread = ⊥
@@ -23,7 +23,7 @@ WhyUnfed input old new Window = ⊤
 WhyUnfed input old new Worn = ⊤
 
 module _ {R X : Type 0} where
-  -- Read is told where the input's device is here, and failed once more
+  -- Read is returned if the input's device is here, and failed once more
   abbrev pub ReadFailed : ℕ → Option (Counted R) → Result X RunFault → Type 0
   ReadFailed before device answer = (d : Counted R) → device ≡ Some d → answer ≡ Err Read
       → failures_of d ≡ min (before + 1) (2 ^ 64 - 1)
@@ -32,10 +32,10 @@ module _ {R X : Type 0} where
   abbrev pub IsHere : Option (Counted R) → Result X RunFault → Type 0
   IsHere device answer = device ≡ None → answer ≡ Err Thread
 
--- Capture is told of a record that none of a capture is
+-- Capture is returned for an invalid record
 abbrev pub IsNoCapture : {X : Type 0} → Option Input → Result X RunFault → Type 0
 IsNoCapture input answer = (fault : CapFault) → answer ≡ Err (Capture fault) → (fault ≡ BadRecord) × EndsBad input
 
--- Write is told by no reader
+-- Write is returned by no reader
 abbrev pub WroteNothing : {X : Type 0} → Result X RunFault → Type 0
 WroteNothing answer = (p : ℕ) → answer ≡ Err (Write p) → ⊥

@@ -6,14 +6,14 @@ use Rattle.pcapio_laws.specs.Capture.{end_of}
 use Rattle.stages_laws.specs.Input.{Input}
 use Rattle.stages_laws.specs.Output.{stamped, oversize}
 
--- so many records are numbered
+-- this is the number of numbered records
 abbrev pub IsCount : Option Input → ℕ → ℕ → Type 0
 IsCount input room count = (i : Input) → input ≡ Some i → count ≡ length (stamped room i.packets)
 
--- the counts are those of the records that are oversize
+-- the counts are those of the oversize records
 abbrev pub IsShare : Option Input → ℕ → ℕ → Tally → Type 0
 IsShare input room ports share = (i : Input) → input ≡ Some i → share ≡ counts_of ports (oversize room i.packets) []
 
--- the input ends so behind its last record
+-- this is how the input ends after its last record
 abbrev pub HasEnd : Option Input → Bool → Type 0
 HasEnd input torn = (i : Input) → input ≡ Some i → i.ending ≡ end_of torn

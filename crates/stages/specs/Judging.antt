@@ -1,4 +1,4 @@
--- What a worker makes of packets.
+-- What a worker does with packets.
 use Rattle.std.specs.Prelude.{◌≡◌, ℕ, Bool, true, false, if◌then◌else◌, List, [], ◌∷◌, ◌++◌}
 use Rattle.mbuf.specs.Buffer.{Buffer}
 use Rattle.mbuf.specs.Chain.{numbers_of}
@@ -13,7 +13,7 @@ use Rattle.stages.specs.declared.packet.Packet.{Packet}
 use Rattle.stages.specs.declared.packet.Packet.TheVariants.{Free, Before, After, Mark}
 use Rattle.stages.specs.declared.packet.Unjudged.{Unjudged}
 
--- two lists of one length, with R of each pair
+-- two lists of the same length, with R for each pair
 abbrev pub AllPairs : {X Y : Type 0} → (X → Y → Type 0) → List X → List Y → Type 0
 AllPairs R [] [] = Unit {0}
 AllPairs R [] (y ∷ ys) = ⊥
@@ -31,19 +31,19 @@ module _ {J : Type 0} {G : Ghosts J} where
   has_mark [] = false
   has_mark (p ∷ ps) = if is_mark p then true else has_mark ps
 
-  -- the packets up to the first end mark, with it
+  -- the packets up to the first end mark, inclusive
   abbrev pub until_mark : List (Packet J G) → List (Packet J G)
   until_mark [] = []
   until_mark (p ∷ ps) = if is_mark p then p ∷ [] else p ∷ until_mark ps
 
-  -- the packet of the same number and in the same buffers, with the verdict on its frame, and as it leaves
+  -- the packet with the same number and in the same buffers, with the verdict on its frame, and as it leaves
   pub record IsVerdictOf (forwarding : Forwarding) (x : Unjudged J G) (y : Judged J G) : Type 0 where
     pub seq : y.seq ≡ x.seq
     pub fate : fate_with y.verdict (packet_in y.seconds y.fraction y.wire y.chain)
         ≡ fate forwarding (packet_in x.seconds x.fraction x.wire x.chain)
     pub numbers : numbers_of y.chain ≡ numbers_of x.chain
 
-  -- what becomes of a packet: one before its verdict gets it, and any other stays as it is
+  -- what becomes of a packet: one before its verdict gets it, and any other is unchanged
   abbrev pub IsJudged : Forwarding → Packet J G → Packet J G → Type 0
   IsJudged forwarding (Free x) q = q ≡ Free x
   IsJudged forwarding (Before x) (Free y) = ⊥
@@ -53,8 +53,8 @@ module _ {J : Type 0} {G : Ghosts J} where
   IsJudged forwarding (After x) q = q ≡ After x
   IsJudged forwarding Mark q = q ≡ Mark
 
-  -- A worker's hand took packets and one end mark as the last, and put what became of these packets, in order, and then
-  -- one end mark
+  -- A worker's hand took packets and one end mark as the last, and put the results for these packets, in order, and
+  -- then one end mark
   pub record HasWorked (forwarding : Forwarding) (before after : List (Settled (Packet J G))) : Type 0 where
     pub taken : List (Packet J G)
     pub sent : List (Packet J G)
@@ -62,7 +62,7 @@ module _ {J : Type 0} {G : Ghosts J} where
     pub judged : AllPairs (IsJudged forwarding) taken sent
     pub unended : has_mark taken ≡ false
 
-  -- a segment that no packet uses
+  -- a segment that isn't in use by a packet
   abbrev pub IsFree : Packet J G → List Buffer → Type 0
   IsFree (Free x) chain = x.chain ≡ chain
   IsFree (Before x) chain = ⊥

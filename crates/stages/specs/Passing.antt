@@ -10,15 +10,15 @@ use Rattle.pool.specs.Hands.{IsFreeRing}
 use Rattle.ringcore_laws.specs.declared.party.Settled.{Settled}
 use Rattle.ringcore_laws.specs.Party.{is_on}
 
--- The rings of a run: of segments that no packet uses; of packets before their verdict, at which workers peek; and of
--- packets after it, with any number of segments
+-- The rings of a run: of segments not in use; of packets before their verdict, at which workers peek; and of packets
+-- after it, with any number of segments
 pub record AreRings (plans : List RingPlan) : Type 0 where
   pub many : length plans ≡ 3
   pub free : IsFreeRing plans 0
   pub peeked : (plan : RingPlan) → slice_get plans 1 ≡ Some plan → plan.take ≡ Hts
   pub mixed : (plan : RingPlan) → slice_get plans 2 ≡ Some plan → plan.free ≡ false
 
--- what is asked of a ring: its capacity, the modes of its sides, and whether it holds free segments
+-- what a ring is planned with: its capacity, the modes of its sides, and whether it holds free segments
 abbrev pub asked_of : RingPlan → ℕ × (Mode × (Mode × Bool))
 asked_of plan = (plan.geometry.capacity, (plan.put, (plan.take, plan.free)))
 
@@ -28,8 +28,8 @@ AreAsked buffers ring plans = map asked_of plans
     ≡ (buffers, (Multi, (Multi, true))) ∷ (ring, (Multi, (Hts, false))) ∷ (ring, (Multi, (Multi, false))) ∷ []
 
 module _ {T : Type 0} where
-  -- The items that a hand settled on a side of a ring, in the order in which it did so: its settled spans stand newest
-  -- first
+  -- The items that a hand settled on a side of a ring, in the order in which it settled them: its settled spans are
+  -- listed newest first
   abbrev pub settled_on : ℕ → Side → List (Settled T) → List T
   settled_on ring side [] = []
   settled_on ring side (s ∷ older) =

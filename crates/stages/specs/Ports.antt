@@ -1,4 +1,4 @@
--- What the ports of a run were told.
+-- What the ports of a run received.
 use Rattle.std.specs.Prelude.{◌≡◌, ℕ, List, ◌++◌, length, take, map, Option, None, Some, slice_get}
 use Rattle.std.specs.Io.KnownBytes.{Appends}
 use Rattle.pcapio.specs.Counted.{told}
@@ -14,18 +14,18 @@ abbrev pub known_len : Option (List ℕ) → ℕ
 known_len None = 0
 known_len (Some bytes) = length bytes
 
--- the bytes are known, and the first of these
+-- the bytes are known, and a prefix of these
 abbrev pub IsBeginning : Option (List ℕ) → List ℕ → Type 0
 IsBeginning told whole = told ≡ Some (take (known_len told) whole)
 
--- each port has the text of these fates, part of it still in its writer's buffer, behind what its device was told
--- before the run
+-- each port has the text of these fates, part of it still in its writer's buffer, after what its device received before
+-- the run
 abbrev pub AreTexts : {W : Type 0}
     → (W → Option (List ℕ)) → List (Option (List ℕ)) → Resolution → List Fate → List (Writer W) → Type 0
 AreTexts contents before resolution outs writers = (q : ℕ) (w : Writer _) (x : List ℕ) → slice_get writers q ≡ Some w
     → slice_get before q ≡ Some (Some x) → text contents w ≡ Some (x ++ output_of resolution q outs)
 
--- each port was told a beginning of that text
+-- each port received a prefix of that text
 abbrev pub AreBegun : {W : Type 0}
     → (W → Option (List ℕ)) → List (Option (List ℕ)) → Resolution → List Fate → List (Writer W) → Type 0
 AreBegun contents before resolution outs writers = (q : ℕ) (w : Writer _) (x : List ℕ) → slice_get writers q ≡ Some w
@@ -35,13 +35,13 @@ AreBegun contents before resolution outs writers = (q : ℕ) (w : Writer _) (x :
 abbrev pub AreWell : {W : Type 0} → List (Writer W) → Type 0
 AreWell writers = (q : ℕ) (w : Writer _) → slice_get writers q ≡ Some w → fault_of w ≡ None
 
--- where no port failed, each has the text of the fates so far
+-- if no port failed, each has the text of the fates so far
 abbrev pub HasTexts : {W : Type 0} → (W → Option (List ℕ)) → List (Option (List ℕ)) → Resolution
     → Option (List Fate) → ℕ → Option ℕ → List (Writer W) → Type 0
 HasTexts contents before resolution outs next failed writers =
     (all : List Fate) → outs ≡ Some all → failed ≡ None → AreTexts contents before resolution (take next all) writers
 
--- where one failed, each was told a beginning of the whole
+-- if one failed, each received a prefix of the whole
 abbrev pub HasBegun : {W : Type 0} → (W → Option (List ℕ)) → List (Option (List ℕ)) → Resolution
     → Option (List Fate) → Option ℕ → List (Writer W) → Type 0
 HasBegun contents before resolution outs failed writers =
@@ -52,18 +52,18 @@ HasBegun contents before resolution outs failed writers =
 abbrev pub devices_of : {W : Type 0} → List (Writer W) → List (Counted W)
 devices_of writers = map sink_of writers
 
--- each writer has a file header to tell, and nothing else
+-- each writer has a file header to write, and nothing else
 abbrev pub AreFresh : {W : Type 0} → (W → Option (List ℕ)) → Resolution → List (Writer W) → Type 0
 AreFresh contents resolution writers = (q : ℕ) (w : Writer _) → slice_get writers q ≡ Some w
     → Appends (told contents (sink_of w)) (text contents w) (file_header resolution) × (fault_of w ≡ None)
 
--- each device was told the text of these fates, behind what it was told before the run
+-- each device received the text of these fates, after what it received before the run
 abbrev pub AreOutputs : {W : Type 0}
     → (W → Option (List ℕ)) → List (Option (List ℕ)) → Resolution → List Fate → List (Counted W) → Type 0
 AreOutputs contents before resolution outs devices = (q : ℕ) (d : Counted _) (x : List ℕ) → slice_get devices q ≡ Some d
     → slice_get before q ≡ Some (Some x) → told contents d ≡ Some (x ++ output_of resolution q outs)
 
--- each device was told a beginning of that text
+-- each device received a prefix of that text
 abbrev pub AreBeginnings : {W : Type 0}
     → (W → Option (List ℕ)) → List (Option (List ℕ)) → Resolution → List Fate → List (Counted W) → Type 0
 AreBeginnings contents before resolution outs devices = (q : ℕ) (d : Counted _) (x : List ℕ) → slice_get devices

@@ -7,7 +7,7 @@ use Rattle.stages.specs.declared.fault.RunFault.{RunFault}
 use Rattle.stages.specs.declared.fault.RunFault.TheVariants.{Read, Capture}
 
 module _ {R : Type 0} (remaining : R → Option (List ℕ)) where
-  -- why there is none: the device failed, or the record is none of a capture
+  -- why there is none: the device failed, or the record is invalid
   abbrev pub WhyNone : Reader R → Reader R → RunFault → Type 0
   WhyNone old new Read = Fails old new
   WhyNone old new (Capture fault) = (fault ≡ BadRecord) × IsBadAhead old.order (rest remaining old)

@@ -1,4 +1,4 @@
--- What a contract sees of a thread's place at the rings.
+-- What a contract sees of a thread's access to the rings.
 use Rattle.std.specs.Prelude.{◌≡◌, ◌↔◌, ℕ, List, Some, Result, Err}
 use Rattle.burst.specs.declared.tagged.Tagged.{Ghosts}
 use Rattle.fabric.specs.declared.stored.Stored.{Ghosts as StoredGhosts}
@@ -24,7 +24,7 @@ module _ {T : Type 0} {S : Type 0} {G : Ghosts T} {H : StoredGhosts S T} {N : �
   abbrev pub IsOf : Fabric T N S → Local T N S G H → Type 0
   IsOf f local = (k : CacheHand T S G H) → local.hand ≡ Some k → IsCacheHandOf f k
 
--- Why a thread goes no further: what the last call answered, told as Worn where it was Worn and nowhere else
+-- Why a thread can't continue: the result of the last call, returned as Worn exactly if it was Worn
 module _ {T : Type 0} {S : Type 0} {G : Ghosts T} {H : StoredGhosts S T} {N : ℕ} (tags : T → List ℕ) (f : Fabric T N S) where
   -- a put of segments
   abbrev pub KeepsBack : Local T N S G H → Local T N S G H → List T → List T → StageFault → Type 0

@@ -1,4 +1,4 @@
--- How far the reader of a run is in its input.
+-- How far the reader of a run has got in its input.
 use Rattle.std.specs.Prelude.{◌≡◌, ◌≤◌, ◌<◌, ◌*◌, ◌+◌, ℕ, Bool, List, [], length, Option}
 use Rattle.std.specs.Io.KnownBytes.{Keeps}
 use Rattle.counters.specs.Counted.{counts_of}
@@ -24,8 +24,8 @@ pub record IsAll (input : Option Input) (room ports : ℕ) (progress : ReadState
   pub wide : length progress.share.sent ≡ ports
 
 module _ {R : Type 0} (remaining : R → Option (List ℕ)) where
-  -- what stands ahead of a reader: the head of a record that has at most 64 segments of bytes, one that has more and
-  -- was passed over, or the end
+  -- what comes next for a reader: the head of a record with at most 64 segments of bytes, a record with more, which was
+  -- skipped, or the end
   abbrev pub IsAhead : ℕ → Reader R → Reader R → NextRecord → Type 0
   IsAhead room old new (Record head) =
       (state_of new ≡ Pending head) × Keeps (rest remaining old) (rest remaining new) × (head.captured ≤ 64 * room)
@@ -50,7 +50,7 @@ module _ {R : Type 0} (remaining : R → Option (List ℕ)) where
     HasRead reader progress = (order : ByteOrder) × (all : Option (List ℕ)) × (packets : List Packet)
         × IsFront order all packets reader progress
 
-    -- what a look ahead tells
+    -- the result of a look ahead
     abbrev pub Looks : Reader R → ReadState → ReadState → NextRecord → Type 0
     Looks new before after (Record head) = HasRead new after × (after ≡ before) × (state_of new ≡ Pending head)
         × (head.captured ≤ 64 * room) × (head.captured ≤ 262144)

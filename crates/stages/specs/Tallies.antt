@@ -1,4 +1,4 @@
--- What was counted so far.
+-- What has been counted so far.
 use Rattle.std.specs.Prelude.{◌≡◌, ℕ, List, take, Option, Some}
 use Rattle.counters.specs.Counted.{counts_of}
 use Rattle.counters.specs.Tally.{Tally}
@@ -6,7 +6,7 @@ use Rattle.stages_laws.specs.Input.{Input}
 use Rattle.stages_laws.specs.Output.{Forwarding, Fate, fates, verdicts}
 use Rattle.std.specs.Option.{option_map}
 
--- what becomes of the records of an input, where they are known
+-- what becomes of the records of an input, if they are known
 abbrev pub fates_of : Forwarding → ℕ → Option Input → Option (List Fate)
 fates_of forwarding room input = option_map (λ i. fates forwarding room i.packets) input
 

@@ -11,8 +11,8 @@ use Rattle.stages.specs.declared.fault.RunFault.{RunFault}
 use Rattle.stages.specs.declared.fault.RunFault.TheVariants.{Memory, Thread, Read, Write, Capture as Refused, Window}
 use Rattle.stages.specs.declared.fault.RunFault.TheVariants.{Worn}
 
--- from the first record on: the input's device failed, or that of a port, and no other; or the input ends with a header
--- that no record has. Of the other faults nothing is told
+-- from the first record on: the input's device failed, or that of a port, and no other; or the input ends with an
+-- invalid record header. Nothing is stated about the other faults
 abbrev pub WhyEnded : {R W : Type 0}
     → Option Input → List ℕ → ℕ → Option (Counted R) → List (Counted W) → RunFault → Type 0
 WhyEnded {R} input failures before device devices Read =
@@ -24,8 +24,8 @@ WhyEnded input failures before device devices Thread = ⊤
 WhyEnded input failures before device devices Window = ⊤
 WhyEnded input failures before device devices Worn = ⊤
 
--- the input's device failed, or that of a port, and no other; or the input is refused. Of the other faults nothing is
--- told
+-- the input's device failed, or that of a port, and no other; or the input is refused. Nothing is stated about the
+-- other faults
 abbrev pub WhyNoSummaryOfThreads : {R W : Type 0} → (R → Option (List ℕ)) → Counted R → Option (Counted R)
     → List (Counted W) → List (Counted W) → RunFault → Type 0
 WhyNoSummaryOfThreads {R} remaining reader device writers devices Read =

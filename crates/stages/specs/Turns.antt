@@ -10,19 +10,20 @@ use Rattle.stages_laws.specs.Input.{Input}
 use Rattle.stages.specs.declared.fault.RunFault.{RunFault}
 use Rattle.stages.specs.declared.fault.RunFault.TheVariants.{Read, Write, Capture, Window}
 
--- a window in which no number is held from its turn on
+-- a window that holds no number from its turn on
 abbrev pub IsVacant : {T : Type 0} → Waiting T → Type 0
 IsVacant w = (n : ℕ) → w.next ≤ n → map.get w.held n ≡ None
 
--- the input ends with a header that no record has
+-- the input ends with an invalid record header
 abbrev pub EndsBad : Option Input → Type 0
 EndsBad input = (i : Input) → input ≡ Some i → i.ending ≡ Bad
 
--- it has more records than a number counts
+-- it has more records than can be counted
 abbrev pub IsEndless : Option Input → Type 0
 IsEndless input = (i : Input) → input ≡ Some i → 2 ^ 64 - 1 ≤ length i.packets
 
--- why not all records were taken: the input's device failed, that of a port, the input is no capture, or it is endless
+-- why not all records were taken: the input's device failed, that of a port, the input isn't a valid capture, or it is
+-- endless
 abbrev pub WhyStopped : {R : Type 0} → Option Input → Reader R → Reader R → Option ℕ → RunFault → Type 0
 WhyStopped input old new failed Read = Fails old new
 WhyStopped input old new failed (Write p) = failed ≡ Some p

@@ -1,4 +1,4 @@
--- A whole run: a capture in, and what the device of each port is told of it.
+-- A whole run: a capture in, and what the device of each port receives.
 use Rattle.std.specs.Prelude.{◌≡◌, ◌<◌, ℕ, List, length, drop, map, slice_get, Option, Some, IfSome, ⊤}
 use Rattle.ipv4.specs.Forwarding.{forwarded}
 use Rattle.pcapio.specs.Copy.{IsEndlessCapture}
@@ -21,7 +21,7 @@ use Rattle.stages.specs.declared.fault.RunFault.{RunFault}
 use Rattle.stages.specs.declared.fault.RunFault.TheVariants.{Memory, Thread, Read, Write, Capture as Refused, Window}
 use Rattle.stages.specs.declared.fault.RunFault.TheVariants.{Worn}
 
--- what becomes of a frame by these settings
+-- what becomes of a frame with these settings
 abbrev pub forwarding_by : Settings → Forwarding
 forwarding_by settings = forwarded settings.table.members settings.ports
 
@@ -30,8 +30,8 @@ abbrev pub HasSomeHeader : List ℕ → Type 0
 HasSomeHeader bytes = (order : ByteOrder) × (resolution : Resolution) × HasHeader bytes order resolution
 
 module _ {W : Type 0} (contents : W → Option (List ℕ)) (settings : Settings) (bytes : List ℕ) where
-  -- the bytes are a capture; the device of each port came back, and received its whole output; and the counts are those
-  -- of its records
+  -- the bytes are a capture; the device of each port was handed back, and received its whole output; and the counts are
+  -- those of its records
   pub record IsRun (writers devices : List (Counted W)) (summary : Summary) : Type 0 where
     pub capture : Capture
     pub is : IsCapture bytes capture
@@ -41,14 +41,14 @@ module _ {W : Type 0} (contents : W → Option (List ℕ)) (settings : Settings)
     pub counts : summary.counts ≡ tally_of (length writers) (forwarding_by settings) settings.room capture.packets
     pub torn : summary.torn ≡ capture.torn
 
-  -- each port was told a beginning of the output of the records that stand behind the file header, however they end
+  -- each port received a prefix of the output of the records after the file header, however they end
   abbrev pub IsBegun : List (Counted W) → List (Counted W) → Type 0
   IsBegun writers devices = (order : ByteOrder) (resolution : Resolution) (packets : List Packet) (end : End)
       → HasHeader bytes order resolution → AreRecords order (drop 24 bytes) packets end
       → AreBeginnings contents (map (told contents) writers) resolution
       (fates (forwarding_by settings) settings.room packets) devices
 
-  -- without a file header nothing was told
+  -- without a file header nothing was written
   abbrev pub IsUntouched : List (Counted W) → List (Counted W) → Type 0
   IsUntouched writers devices = (¬ HasSomeHeader bytes) → devices ≡ writers
 
@@ -56,8 +56,8 @@ module _ {W : Type 0} (contents : W → Option (List ℕ)) (settings : Settings)
 abbrev pub AreKnown : List (Option (List ℕ)) → Type 0
 AreKnown texts = (q : ℕ) → q < length texts → (x : List ℕ) × (slice_get texts q ≡ Some (Some x))
 
--- why there is no summary of the records: a device failed, the input ends with a header that no record has, it is
--- endless, or memory was refused
+-- why there is no summary of the records: a device failed, the input ends with an invalid record header, it is endless,
+-- or memory was refused
 abbrev pub WhyStoppedAt : {R W : Type 0}
     → Option Input → List ℕ → Reader R → Counted R → List (Counted W) → RunFault → Type 0
 WhyStoppedAt input failures reader source devices Memory = ⊤

@@ -1,10 +1,10 @@
-//! Why a run has no answer.
+//! Why a run failed.
 ghost use Rattle.std.specs.Prelude.{◌≡◌, ◌⊎◌};
 ghost use Rattle.stages.specs.Faults.{number_of, lower_of, fault_of_stage};
 
 use pcapio::CapFault;
 
-/// Why a run has no answer. Of several faults the one with the lowest number is told.
+/// Why a run failed. Of several faults the one with the lowest number is returned.
 #[derive(Clone, Copy, Debug, PartialEq, Eq)]
 pub enum RunFault {
     /// 1: memory was refused.
@@ -15,9 +15,9 @@ pub enum RunFault {
     Read,
     /// 4: the device of this port failed.
     Write(u32),
-    /// 5: the input is no capture.
+    /// 5: the input isn't a valid capture.
     Capture(CapFault),
-    /// 6: the input has more records than a number counts, or a record didn't come to the sink.
+    /// 6: the input has more records than can be counted, or a record didn't arrive at the sink.
     Window,
     /// 7: the positions of a ring are used up.
     Worn,
@@ -40,17 +40,17 @@ impl RunFault {
     }
 }
 
-/// Why a stage of a run in threads can't go on.
+/// Why a stage of a run in threads can't continue.
 #[derive(Clone, Copy)]
 pub(crate) enum StageFault {
-    /// A packet or a segment isn't what it has to be on its ring.
+    /// A packet or a segment isn't of the kind required on its ring.
     Window,
     /// The positions of a ring are used up.
     Worn,
 }
 
 impl StageFault {
-    /// The run's fault of that name.
+    /// The fault of the run with that name.
     pub(crate) fn to_run_fault(self) -> RunFault
         ensures { result ≡ fault_of_stage self }
     {
@@ -61,7 +61,7 @@ impl StageFault {
     }
 }
 
-/// Of two faults the one with the lower number; of two with one number the first.
+/// The fault with the lower number; of two with the same number the first.
 pub(crate) fn lower(a: RunFault, b: RunFault) -> RunFault
     ensures value { result ≡ lower_of a b }
     ensures either { (result ≡ a) ⊎ (result ≡ b) }

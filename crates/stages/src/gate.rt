@@ -1,15 +1,15 @@
-//! Who watches packets while they are judged.
+//! Watching packets while they are judged.
 
 /// Watches the packets of a run while workers judge them.
 pub trait Gate {
-    /// Called by a worker before the verdict of the packet of this number.
+    /// Called by a worker before the verdict on the packet with this number.
     fn enter(&self, seq: u64);
 
-    /// Called by that worker after it.
+    /// Called by the same worker after it.
     fn leave(&self, seq: u64);
 }
 
-/// The gate that lets every packet pass at once.
+/// The gate that lets every packet through at once.
 pub struct Open;
 
 impl Gate for Open {

@@ -8,9 +8,9 @@ ghost use Rattle.stages.specs.declared.summary.Summary.{Summary};
 
 use std::io::Write;
 
-/// Workers change nothing: of two runs over the same bytes by the same settings that have a summary, by one thread or
-/// by any number of workers each, both have the same one, and each port's device received the same bytes; all ports
-/// did, where it is known what each device received before.
+/// The number of workers makes no difference: if two runs over the same bytes with the same settings, by one thread or
+/// by any number of workers each, both return a summary, it is the same one, and each port's device received the same
+/// bytes; this holds for all ports if it is known what each device had received before.
 pub fn workers_change_nothing<W: Write>()
     ensures summary { (settings : Settings) (bytes : List ℕ) (writers one many : List (Counted W)) (a b : Summary)
         → IsRun W.contents settings bytes writers one a → IsRun W.contents settings bytes writers many b

@@ -1,13 +1,13 @@
 //! A run: a capture in, captures out.
 //!
-//! `one` is a run by one thread: it reads a record into a chain, judges the packet and hands it to the sink.
-//! `threads` is the same run by several, over three rings: `threads::reader` reads records into free segments and sends
-//! packets, each `threads::worker` judges packets, and `threads::sink_loop` takes them to the sink and gives their
-//! segments back.
+//! `one` is a run by one thread: it reads a record into a chain, judges the packet and hands it to the sink. `threads`
+//! is the same run by several threads, over three rings: `threads::reader` reads records into free segments and sends
+//! packets, each `threads::worker` judges packets, and `threads::sink_loop` takes them to the sink and frees their
+//! segments.
 //!
 //! Both share `records` (what the input has next), `packet` (what goes from stage to stage, and its verdict), `sink`
-//! (packets in the order of the input, and their counts), `ports` (the writers, opened and closed) and `summary` (what
-//! a run answers). `gate` lets a caller watch packets while they are judged; `laws` compares runs.
+//! (packets in the order of the input, and their counts), `ports` (the writers, opened and closed) and `summary` (the
+//! result of a run). `gate` lets a caller watch packets while they are judged; `laws` compares runs.
 #![tactic(auto)]
 
 mod fault;

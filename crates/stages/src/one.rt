@@ -1,4 +1,4 @@
-//! A whole run by one thread: the input is opened, each of its records is taken to the ports, and all are closed.
+//! A whole run by one thread: the input is opened, each of its records goes to the ports, and everything is closed.
 ghost use Rattle.std.specs.Prelude.{◌≡◌, ◌≤◌, ◌*◌, List, Some, IfErr, IfOk, IfSome, OnOk};
 ghost use Rattle.std.specs.Prelude.{length, min, vec_len, vec_capacity};
 ghost use Rattle.mbuf.specs.Chain.{space_of};
@@ -30,14 +30,15 @@ use std::alloc::Global;
 use std::io::{Read, Write};
 use std::marker::Brand;
 
-/// Forwards the capture that `reader` has, by these settings, and tells each port's device a capture of the frames that
-/// are sent there, in the order of the input. Asked: a device for each port. Records are streamed: memory is taken at
-/// the beginning, for one packet and a buffer of 64 KiB for each device, and doesn't grow with the capture.
+/// Forwards the capture that `reader` has, with these settings, and writes to each port's device a capture of the
+/// frames that are sent there, in the order of the input. Requires: a device for each port. Records are streamed:
+/// memory is taken at the start, for one packet and a buffer of 64 KiB for each device, and doesn't grow with the
+/// capture.
 ///
-/// All devices come back, the ports' in their order. Refused with 1 `Memory`; 3 `Read` and 4 `Write(port)`, where that
-/// device failed in this call; 5 `Capture`, where the input is refused; 6 `Window`, where it has 2^64 - 1 records or
-/// more. Each port's device was then told a beginning of its output, and after a port's device failed nothing more was
-/// written to any port. 2 `Thread` and 7 `Worn` are never answered.
+/// All devices are handed back, the ports' in their order. Errors: 1 `Memory`; 3 `Read` and 4 `Write(port)`, if that
+/// device failed in this call; 5 `Capture`, if the input is refused; 6 `Window`, if it has 2^64 - 1 records or more. A
+/// prefix of its output has then been written to each port's device, and after a port's device failed nothing more was
+/// written to any port. 2 `Thread` and 7 `Worn` are never returned.
 pub fn run_one<R: Read, W: Write + Drop>(
     alloc: Global,
     reader: Counted<R>,
@@ -70,7 +71,7 @@ pub fn run_one<R: Read, W: Write + Drop>(
     }
 }
 
-/// The same from the first record on: nothing was told yet, and each writer has a file header to tell.
+/// The same from the first record on: nothing has been written yet, and each writer has a file header to write.
 fn run_opened<J: Run, R: Read, W: Write + Drop>(
     alloc: Global,
     mut reader: Reader<R>,

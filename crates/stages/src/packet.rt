@@ -1,4 +1,4 @@
-//! Packets on their way through a run. Each has, in its type, the fact that it belongs to the record of its number.
+//! Packets on their way through a run. The type of each carries the fact that it belongs to the record with its number.
 ghost use Rattle.std.specs.Prelude.{◌≡◌, ◌≤◌, length};
 ghost use Rattle.mbuf.specs.Chain.{bytes_of};
 ghost use Rattle.pcapio.specs.Record.{packet_in};
@@ -17,11 +17,11 @@ use std::marker::PhantomData;
 /// A packet before its verdict.
 #[derive(Drop)]
 pub struct Unjudged<J: Run> {
-    /// The number of its record, among those that are numbered.
+    /// The number of its record, among the numbered records.
     pub(crate) seq: u64,
     pub(crate) seconds: u32,
     pub(crate) fraction: u32,
-    /// How many bytes it had on the wire.
+    /// Its length on the wire, in bytes.
     pub(crate) wire: u32,
     pub(crate) chain: Chain,
     pub(crate) of: PhantomData<J>,
@@ -32,7 +32,7 @@ pub struct Unjudged<J: Run> {
 /// A packet after its verdict.
 #[derive(Drop)]
 pub struct Judged<J: Run> {
-    /// The number of its record, among those that are numbered.
+    /// The number of its record, among the numbered records.
     pub(crate) seq: u64,
     pub(crate) seconds: u32,
     pub(crate) fraction: u32,
@@ -44,7 +44,7 @@ pub struct Judged<J: Run> {
     pub ghost port: { HasPort (length J.before) verdict },
 }
 
-/// A segment that no packet uses.
+/// A segment that isn't in use by a packet.
 #[derive(Drop)]
 pub struct Segment<J: Run> {
     pub(crate) chain: Chain,
@@ -52,15 +52,15 @@ pub struct Segment<J: Run> {
     pub ghost one: { length chain ≡ 1 },
 }
 
-/// What stands on the rings of a run.
+/// What is on the rings of a run.
 #[derive(Drop)]
 pub enum Packet<J: Run> {
-    /// A segment that no packet uses.
+    /// A segment that isn't in use by a packet.
     Free(Segment<J>),
     /// A packet before its verdict.
     Before(Unjudged<J>),
     /// A packet after its verdict.
     After(Judged<J>),
-    /// The end of what one worker takes, and of what it puts.
+    /// An end mark: the last item that one worker takes, and the last it puts.
     Mark,
 }

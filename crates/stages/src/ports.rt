@@ -1,4 +1,4 @@
-//! The writers of a run, one for each port. After one of them failed, nothing more is written to any.
+//! The writers of a run, one for each port. After one of them has failed, nothing more is written to any.
 ghost use Rattle.std.specs.Prelude.{◌≡◌, ◌<◌, ℕ, Some, None, vec_len};
 ghost use Rattle.pcapio.specs.Record.{packet_in};
 ghost use Rattle.stages.specs.Packets.{HasPort};
@@ -25,7 +25,7 @@ pub(crate) struct Outputs<W> {
 }
 
 impl<W: Write + Drop> Outputs<W> {
-    /// Writes a packet at the port that it is sent to, if it is. Asked: nothing failed so far.
+    /// Writes a packet to the port that it is sent to, if any. Requires: nothing has failed so far.
     pub(crate) fn put(
         &mut self,
         verdict: Verdict,
@@ -55,7 +55,7 @@ impl<W: Write + Drop> Outputs<W> {
         }
     }
 
-    /// `put`, unless something failed before.
+    /// `put`, unless something has failed before.
     pub(crate) fn put_unless_failed(
         &mut self,
         verdict: Verdict,

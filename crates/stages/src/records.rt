@@ -1,4 +1,4 @@
-//! The records of a run's input, one after the other: read into a chain, or passed over where they are oversize.
+//! The records of a run's input, one after another: read into a chain, or skipped if they are oversize.
 ghost use Rattle.std.specs.Prelude.{◌≡◌, ◌≤◌, ◌<◌, ◌*◌, ◌+◌, ◌-◌, ◌^◌, length, None, Ok, IfOk, IfErr, IfSome, OnOk, OnSome, true};
 ghost use Rattle.counters.specs.Tally.{records_of};
 ghost use Rattle.mbuf.specs.Chain.{space_of, HasSameSegments};
@@ -24,10 +24,10 @@ use stages_laws::Run;
 use std::io::Read;
 use std::marker::PhantomData;
 
-/// The most segments of a packet, as sizes are counted.
+/// The maximum number of segments of a packet, as a `usize`.
 pub(crate) const MAX_SEGMENTS: usize = mbuf::MAX_SEGMENTS as usize;
 
-/// The fault of a run whose input has this fault.
+/// The fault of a run whose input had this fault.
 pub(crate) fn input_fault(fault: CapFault) -> RunFault
     ensures { result ≡ fault_of_input fault }
 {
@@ -38,7 +38,7 @@ pub(crate) fn input_fault(fault: CapFault) -> RunFault
     }
 }
 
-/// What comes next: a record that has too many bytes is passed over. Asked: the reader is before a record.
+/// What comes next: a record with too many bytes is skipped. Requires: the reader is before a record.
 fn ahead<R: Read>(reader: &mut Reader<R>, room: usize) -> Result<NextRecord, RunFault>
     requires between { state_of reader.old ≡ Between }
     requires at_most { room ≤ 65536 }
@@ -62,8 +62,8 @@ fn ahead<R: Read>(reader: &mut Reader<R>, room: usize) -> Result<NextRecord, Run
     }
 }
 
-/// Looks at what comes next: the head of a record that is to be read then, or a record that is oversize, which is
-/// counted and passed over, or the end. Asked: the reader is before a record.
+/// Looks at what comes next: the head of a record, which is to be read then, or an oversize record, which is counted
+/// and skipped, or the end. Requires: the reader is before a record.
 pub(crate) fn look<J: Run, R: Read>(
     reader: &mut Reader<R>,
     progress: &mut ReadState,
@@ -83,7 +83,7 @@ pub(crate) fn look<J: Run, R: Read>(
         Ok(found) => found,
         Err(fault) => return Err(fault),
     };
-    // an arm for each, so that the proof has each case by itself
+    // an arm for each, so that the proof has each case separately
     match found {
         NextRecord::Oversize => progress.share.add_oversize(),
         NextRecord::Record(_) => (),
@@ -92,8 +92,8 @@ pub(crate) fn look<J: Run, R: Read>(
     Ok(found)
 }
 
-/// Reads the record that was looked at into a chain, under its number. None where the input ends inside it.
-/// Asked: the chain has space for it.
+/// Reads the record that was looked at into a chain, under its number. `None` if the input ends inside it. Requires:
+/// the chain has space for it.
 pub(crate) fn read_record<J: Run, R: Read>(
     reader: &mut Reader<R>,
     progress: &mut ReadState,

@@ -1,4 +1,4 @@
-//! The sink of a run: packets come in any order, and leave in that of their numbers.
+//! The sink of a run: packets arrive in any order, and leave in the order of their numbers.
 ghost use Rattle.std.specs.Prelude.{◌≡◌, ◌≤◌, ◌+◌, ◌-◌, ◌^◌, ◌<◌, ◌↔◌, None, Some, length, vec_len};
 ghost use Rattle.std.specs.Prelude.{IfOk, IfErr, IsOk, OnOk};
 ghost use Rattle.std.specs.Prelude.{map as mapped};
@@ -20,7 +20,7 @@ use stages_laws::Run;
 use std::alloc::Global;
 use std::io::Write;
 
-/// What waits for its turn, what was written, and what was counted.
+/// What is waiting for its turn, what was written, and what was counted.
 #[derive(Drop)]
 pub(crate) struct Sink<J: Run, W: Write> {
     pub(crate) window: Window<Judged<J>>,
@@ -39,8 +39,8 @@ pub(crate) struct Sink<J: Run, W: Write> {
 }
 
 impl<J: Run, W: Write + Drop> Sink<J, W> {
-    /// A sink before the first packet, with a window of `size` numbers. Refused for want of memory, and the writers
-    /// come back.
+    /// A sink before the first packet, with a window of `size` numbers. Errors: out of memory, with the writers handed
+    /// back.
     pub(crate) fn new(
         alloc: Global,
         size: usize,
@@ -71,7 +71,7 @@ impl<J: Run, W: Write + Drop> Sink<J, W> {
         }
     }
 
-    /// Takes a packet, to leave in its turn.
+    /// Accepts a packet, which leaves in its turn.
     pub(crate) fn accept(&mut self, packet: Judged<J>) -> Result<(), Judged<J>>
         ensures free { IsOk result ↔ IsFree self.old.window packet.seq }
         ensures joined { OnOk result (self.new.window ≡ with_number self.old.window packet.seq packet) }
@@ -84,7 +84,7 @@ impl<J: Run, W: Write + Drop> Sink<J, W> {
         }
     }
 
-    /// Lets the packet go whose turn it is, where it is here: it is counted, and written where it is sent.
+    /// Releases the next packet in sequence, if it has arrived: counts it, and writes it to its port if it is sent.
     pub(crate) fn give(&mut self) -> Option<Chain>
         ensures gone { LetsGo self.old.window self.new.window result }
         ensures length { vec_len self.new.outputs.writers ≡ vec_len self.old.outputs.writers }
@@ -105,15 +105,15 @@ impl<J: Run, W: Write + Drop> Sink<J, W> {
         Some(chain)
     }
 
-    /// The number of the packet whose turn it is: so many have left.
+    /// The number of the packet whose turn it is, which is how many have left.
     pub(crate) fn next(&self) -> u64
         ensures { result ≡ self.now.window.next }
     {
         self.window.next()
     }
 
-    /// Takes the packet whose turn it is, lets it go at once, and gives its segments back: what a run by one thread
-    /// does with each.
+    /// Accepts the packet whose turn it is, releases it at once, and returns its segments: what a run by one thread
+    /// does with each packet.
     pub(crate) fn forward(&mut self, packet: Judged<J>) -> Chain
         requires turn { packet.seq ≡ self.old.window.next }
         requires below { self.old.window.next < 2 ^ 64 - 1 }

@@ -1,4 +1,4 @@
-//! The end of a run: what was written is told to the devices, and compared with what the reader numbered.
+//! The end of a run: everything is written to the devices, and compared with what the reader numbered.
 ghost use Rattle.std.specs.Prelude.{◌≡◌, ◌≢◌, ◌≤◌, ◌+◌, ℕ, [], List, Some, Err, OnOk, IfOk, IfErr, length, vec_len, vec_capacity};
 ghost use Rattle.counters.specs.Tally.{records_of};
 ghost use Rattle.stages_laws.specs.Output.{Fate};
@@ -17,7 +17,7 @@ use pcapio::Counted;
 use stages_laws::Run;
 use std::io::Write;
 
-/// What a run tells.
+/// The result of a run.
 #[derive(Drop)]
 pub struct Summary {
     /// The counts of the whole input.
@@ -26,7 +26,7 @@ pub struct Summary {
     pub torn: bool,
 }
 
-/// The fault with the lower number: that of a port, or that of the reader.
+/// The fault with the lower number: the one of a port, or the one of the reader.
 fn lowest(port: u32, fault: RunFault) -> RunFault
     ensures { result ≡ lowest_of port fault }
 {
@@ -37,7 +37,7 @@ fn lowest(port: u32, fault: RunFault) -> RunFault
     }
 }
 
-/// The summary, where all records that were numbered have left.
+/// The summary, if all numbered records have left.
 fn summed<J: Run>(next: u64, counts: Counts, totals: InputTotals<J>) -> Result<Summary, RunFault>
     requires counted { IsTally (fates_of J.forwarding J.room J.input) (length J.before) next counts }
     requires ports { length counts.sent ≡ length J.before }
@@ -56,7 +56,7 @@ fn summed<J: Run>(next: u64, counts: Counts, totals: InputTotals<J>) -> Result<S
     })
 }
 
-/// What a run answers, with the devices of its ports.
+/// The result of a run, with the devices of its ports.
 pub(crate) fn end<J: Run, W: Write + Drop>(
     sink: Sink<J, W>,
     spare: Vec<Counted<W>>,

@@ -48,17 +48,17 @@ use std::sync::Wait;
 use std::thread::{self, JoinHandle, Scope, Threads};
 pub use worker::{Worked, work};
 
-/// Forwards the capture that `reader` has, as `run_one` does, by a reader, so many workers, each in a thread of its
-/// own, and the sink on the calling thread: each port's device is told what `run_one` tells it, and the counts are the
-/// same. Asked: a device for each port, and 1 to 16 workers. Memory is taken at the beginning, and doesn't grow with
-/// the capture. `gate` watches the packets while they are judged.
+/// Forwards the capture that `reader` has, as `run_one` does, by a reader and `workers` workers, each in a thread of
+/// its own, and the sink on the calling thread: each port's device receives what `run_one` writes to it, and the counts
+/// are the same. Requires: a device for each port, and 1 to 16 workers. Memory is taken at the start, and doesn't grow
+/// with the capture. `gate` watches the packets while they are judged.
 ///
-/// All devices come back, the ports' in their order; the input's is None only where its thread couldn't be started.
-/// Refused with 1 `Memory`; 2 `Thread`, where a thread couldn't be started; 3 `Read` and 4 `Write(port)`, where that
-/// device failed in this call; 5 `Capture`, where the input is refused; 6 `Window`, where it has 2^64 - 1 records or
-/// more, or a record didn't come to the sink; 7 `Worn`, where the positions of a ring are used up. Of several the one
-/// with the lowest number. Each port's device was then told a beginning of its output, and after a port's device failed
-/// nothing more was written to any port. The threads have ended then, too; a run of more than 2^44 - 512 packets may
+/// All devices are handed back, the ports' in their order; the input's is `None` only if its thread couldn't be
+/// started. Errors: 1 `Memory`; 2 `Thread`, if a thread couldn't be started; 3 `Read` and 4 `Write(port)`, if that
+/// device failed in this call; 5 `Capture`, if the input is refused; 6 `Window`, if it has 2^64 - 1 records or more, or
+/// a record didn't arrive at the sink; 7 `Worn`, if the positions of a ring are used up. Of several the one with the
+/// lowest number. A prefix of its output has then been written to each port's device, and after a port's device failed
+/// nothing more was written to any port. The threads have ended by then, too; a run of more than 2^44 - 512 packets may
 /// not end.
 pub fn run_threads<
     G: Gate + Sync,
@@ -102,7 +102,7 @@ pub fn run_threads<
     }
 }
 
-/// The same from the first record on: nothing was told yet, and each writer has a file header to tell.
+/// The same from the first record on: nothing has been written yet, and each writer has a file header to write.
 fn run_started<
     J: Run + Send + Sync,
     G: Gate + Sync,
@@ -188,7 +188,7 @@ fn over_rings<
     }
 }
 
-/// The threads of a run, over rings on which all segments are free.
+/// The threads of a run, over rings whose segments are all free.
 fn run_stages<
     J: Run + Send + Sync,
     G: Gate + Sync,
@@ -247,8 +247,8 @@ fn run_stages<
     )
 }
 
-/// Starts the workers, each with a hand of its own. Where one can't be started, the hand comes back with the number of
-/// those that were.
+/// Starts the workers, each with a hand of its own. If one can't be started, returns the hand, and the number of those
+/// that were.
 fn start_workers<
     's,
     E: 's,
@@ -284,7 +284,7 @@ fn start_workers<
     Ok(hand)
 }
 
-/// Starts a worker in a thread of its own. Answers whether the thread could be started.
+/// Starts a worker in a thread of its own. Returns whether the thread could be started.
 fn start_worker<
     's,
     E: 's,
@@ -313,7 +313,7 @@ fn start_worker<
     worker.is_ok()
 }
 
-/// Starts the reader in a thread of its own. None where the thread couldn't be started; the reader is then lost.
+/// Starts the reader in a thread of its own. Returns `None` if the thread couldn't be started; the reader is then lost.
 fn start_reader<
     's,
     E: 's,
@@ -348,8 +348,8 @@ fn start_reader<
     reader.ok()
 }
 
-/// Ends the workers that were started, where a further thread couldn't be: each gets an end mark, and what comes of
-/// them is taken.
+/// Ends the workers that were started, after another thread couldn't be: each gets an end mark, and their output is
+/// taken.
 fn call_off<J: Run, W: Write + Drop, T: Wait>(
     rt: &T,
     f: &Fabric<Packet<J>, SPAN>,

@@ -5,17 +5,17 @@ use Rattle.ipv4.specs.declared.verdicts.Verdict.TheVariants.{Send, Drop}
 use Rattle.pcapio_laws.specs.Capture.{Packet}
 use Rattle.stages_laws.specs.Output.{Forwarding}
 
--- sent by the port that the first byte says, 0 or 1, with its length on the wire in that byte's place; else dropped
+-- sent through port 0 or 1, by the first byte, which is replaced by the length on the wire; otherwise dropped
 abbrev pub by_first : Forwarding
 by_first (zero ∷ frame) wire = record { verdict = Send 0 false; frame = wire ∷ frame }
 by_first (suc zero ∷ frame) wire = record { verdict = Send 1 true; frame = wire ∷ frame }
 by_first frame wire = record { verdict = Drop NoRoute; frame = frame }
 
--- a record of these bytes, each of its times and lengths another number
+-- a record with these bytes, whose times and lengths are all different
 abbrev pub packet : List ℕ → Packet
 packet bytes = record { seconds = 1; fraction = 5; wire = 34; bytes = bytes }
 
--- a record of so many bytes
+-- a record with this many bytes
 abbrev pub packet_of_len : ℕ → Packet
 packet_of_len n = packet (replicate n 0)
 
@@ -25,7 +25,7 @@ leaving =
     2 ∷ 0 ∷ 0 ∷ 0 ∷ 0 ∷ 32 ∷ 2 ∷ 0 ∷ 0 ∷ 0 ∷ 0 ∷ 16 ∷ 8 ∷ 0 ∷ 69 ∷ 0 ∷ 0 ∷
     20 ∷ 0 ∷ 0 ∷ 0 ∷ 0 ∷ 63 ∷ 17 ∷ 101 ∷ 213 ∷ 10 ∷ 0 ∷ 0 ∷ 1 ∷ 10 ∷ 1 ∷ 2 ∷ 3 ∷ []
 
--- whatever comes is sent by port 0 as that frame
+-- whatever comes is sent through port 0 as that frame
 abbrev pub always : Forwarding
 always frame wire = record { verdict = Send 0 false; frame = leaving }
 

@@ -6,8 +6,8 @@ ghost use Rattle.pcapio_laws.specs.declared.format.Resolution.TheVariants.{Nano}
 ghost use Rattle.stages_laws.specs.Output.{Forwarding, fits, fates, records_at, output_of, tally_of};
 ghost use Rattle.stages_laws.specs.Rows.{by_first, always, packet, packet_of_len, five, whole_output};
 
-/// Parts add up: where the records of an input are those of two inputs, one after the other, each port is told the
-/// records of the two outputs, one after the other, and the counts are the sums of the two runs' counts.
+/// Parts add up: if the records of an input are those of two inputs, concatenated, each port receives the records of
+/// the two outputs, concatenated, and the counts are the sums of the two runs' counts.
 pub fn runs_add_up()
     ensures records { (forwarding : Forwarding) (room port : ℕ) (first then : List Packet)
         → records_at port (fates forwarding room (first ++ then))
@@ -17,7 +17,8 @@ pub fn runs_add_up()
         ≡ gathered (tally_of ports forwarding room first ∷ tally_of ports forwarding room then ∷ []) }
 {}
 
-/// Which records fit, which are told to which port and in which order, what is counted, and a whole port in bytes.
+/// Which records fit, which are written to which port and in which order, what is counted, and the bytes of one whole
+/// port.
 pub fn worked_outputs()
     ensures longest { fits 64 (packet_of_len 4096) ≡ true }
     ensures oversize { fits 64 (packet_of_len 4097) ≡ false }

@@ -1,4 +1,4 @@
-//! A run as contracts see it: what it makes of its input.
+//! A run as contracts see it: the output that it makes from its input.
 #![tactic(auto)]
 
 mod laws;

@@ -1,27 +1,27 @@
-//! Which run a packet belongs to. No value of a run is made: its name is for contracts alone.
+//! Which run a packet belongs to. No value of a run is ever made: its name is for contracts alone.
 
 use std::marker::Brand;
 
-/// A run: its input, the room of its segments, what becomes of a frame, and the ports that are told.
+/// A run: its input, the room of its segments, what becomes of a frame, and the devices of its ports.
 pub trait Run {
     ghost use Rattle.std.specs.Prelude.{ℕ, List, Option};
     ghost use Rattle.pcapio_laws.specs.declared.format.Resolution.{Resolution};
     ghost use Rattle.stages_laws.specs.Output.{Forwarding};
     ghost use Rattle.stages_laws.specs.Input.{Input};
 
-    /// The records of the input and its end, where its bytes are known.
+    /// The records of the input and its end, if its bytes are known.
     ghost input: { Option Input };
-    /// How many bytes a segment takes.
+    /// The number of bytes that a segment has room for.
     ghost room: { ℕ };
     /// What becomes of a frame.
     ghost forwarding: { Forwarding };
     /// The resolution of the input's time stamps.
     ghost resolution: { Resolution };
-    /// What the device of each port was told before the run, where that is known.
+    /// What was written to the device of each port before the run, if that is known.
     ghost before: { List (Option (List ℕ)) };
-    /// How often the device of each port had failed before the run.
+    /// How many times the device of each port had failed before the run.
     ghost failures: { List ℕ };
-    /// How often the device of the input had failed before the run.
+    /// How many times the device of the input had failed before the run.
     ghost read_failures: { ℕ };
 }
 

@@ -1,4 +1,4 @@
--- What a function makes of each word, one word after the other
+-- The results of a function for each word, one after another
 use Rattle.std.proofs.Common.{◌≡◌, ℕ, zero, suc, ◌+◌, ◌<◌, List, [], ◌∷◌, ◌++◌, length, take, get_or, Option, Some, None, Bor, refl, ap, ap₂, ◌∙◌, arith}
 use Rattle.std.proofs.lemmas.List.{take_more, map-append}
 use Rattle.command_file.specs.Text.{Bytes, texts}
@@ -42,7 +42,7 @@ none_first : {A : Type 0} (a : Option A) → with_first a None ≡ None
 none_first (Some x) = refl
 none_first None = refl
 
--- one word of which it makes nothing
+-- one word for which it has no result
 pub each_of_none : {A : Type 0} (f : Bytes → Option A) (words : List (Bor Bytes)) (k : ℕ) (d : Bor Bytes)
     → k < length words → f (get_or words k d).now ≡ None → each_of f (texts words) ≡ None
 each_of_none f [] k d there here = absurd (omega arith)

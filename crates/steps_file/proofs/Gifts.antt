@@ -1,4 +1,4 @@
--- Gifts, one after the other, and the table of owners
+-- Gifts, one after another, and the table of owners
 use Rattle.std.proofs.Common.{◌≡◌, ◌≢◌, ℕ, ◌+◌, ◌<◌, ◌≤◌, max, List, [], ◌∷◌, ◌++◌, map, length, length-append, take, drop, get_or, set, Option, Some, None}
 use Rattle.std.proofs.Common.{◌==◌, true, false, inl, inr, refl, sym, ap, ◌∙◌, subst, arith}
 use Rattle.std.specs.Prelude.{is_some}
@@ -138,7 +138,7 @@ pub length-gifts_of : (gifts : List Gift) → length (gifts_of gifts) ≡ buffer
 length-gifts_of gifts =
     length-map (range_with_len 0 (buffer_count gifts)) (λ b. get_or (owners b gifts) 0 0) ∙ length-range_with_len 0 (buffer_count gifts)
 
--- gifts that no lawful plan has
+-- gifts that no valid plan has
 pub unlawful_gifts : (p : Named) (gifts : List Gift) → gifts ≡ p.gifts → (AreGivenOnce gifts → buffer_count gifts ≤ 65536 → ⊥) → IsLawful p → ⊥
 unlawful_gifts p gifts same bad lawful =
     bad (subst AreGivenOnce (sym same) lawful.once) (omega (arith, lawful.plan.few_buffers, length-gifts_of p.gifts, ap buffer_count same))

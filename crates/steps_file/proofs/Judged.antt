@@ -1,4 +1,4 @@
--- When the plan of a steps file is judged, and that lines without a step line get no reply
+-- When the plan of a steps file is checked, and that lines without a step line get no reply
 use Rattle.std.proofs.Common.{◌≡◌, ℕ, ◌+◌, ◌<◌, List, [], ◌∷◌, ◌++◌, length, take, get_or, Bool, true, false, Option, Some, None, inl, inr, refl, sym, ap, ap₂}
 use Rattle.std.proofs.Common.{subst, ◌∙◌}
 use Rattle.std.specs.Prelude.{IsTrue, is_some, if◌then◌else◌}
@@ -16,7 +16,7 @@ use Rattle.steps_file.specs.declared.command.Command.{Command}
 use Rattle.steps_file.specs.declared.command.Command.TheVariants.{Plan, Act, Ask}
 use Rattle.steps_file.specs.declared.stage.Stage.{Stage}
 
--- a world that runs was opened by a lawful plan
+-- a world that runs was opened with a valid plan
 run_lawful : (p : Named) (w : Option World) (r : Option History) → KeepsRun p w r → IsTrue (is_some r) → IsLawful p
 run_lawful p None None keeps some = absurd (let h : false ≡ true = some in cc)
 run_lawful p (Some w) (Some h) keeps some = keeps.lawful
@@ -86,7 +86,7 @@ pub none_replied : (lines : List Bytes) (k : ℕ) (old out : Bytes) → IsAnswer
 none_replied lines k old out so_far none =
     so_far.replies ∙ ap (λ xs. old ++ xs) (no_replies start (take k lines) none) ∙ append-nil old
 
--- what a definition says of a line that isn't skipped
+-- what a definition gives for a line that isn't skipped
 pub unskipped : {A : Type 0} (a : A) (g : Option Command → A) (words read : List Bytes) (command : Option Command)
     → read ≡ words → is_blank_or_comment read ≡ false → command ≡ form_of read
     → (if is_blank_or_comment words then a else g (form_of words)) ≡ g command

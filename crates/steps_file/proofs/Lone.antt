@@ -1,4 +1,4 @@
--- An item of one buffer: a number has no sign in it, so that it is the one part between signs
+-- An item of one buffer: a number has no sign in it, so it is the one part between signs
 use Rattle.std.proofs.Common.{◌≡◌, ℕ, ◌^◌, ◌&&◌, ◌==◌, nat_lt, nat_le, [], ◌∷◌, length, Bool, true, false, Some, None, refl, ap, ◌∙◌, rules, arith}
 use Rattle.std.specs.Prelude.{All, if◌then◌else◌}
 use Rattle.std.proofs.lemmas.Bool.Decides.{nat_tests}
@@ -23,7 +23,7 @@ no_signs [] all = search rules
 no_signs (digit ∷ digits) all = let parts = both (is_digit digit) (list_all is_digit digits) all in All-cons (λ b. (b == 43) ≡ false) digit digits
     (no_sign digit parts.0) (no_signs digits parts.1)
 
--- a test that answers by a number is passed
+-- a test whose result is a number is passed
 passed : (b : Bool) (m n : ℕ) → (if b then Some m else None) ≡ Some n → (b ≡ true) × (m ≡ n)
 passed true m n here = (refl, search rules)
 passed false m n here = absurd (search rules)

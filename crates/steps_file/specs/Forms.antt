@@ -1,4 +1,4 @@
--- The lines of a steps file: what forms they have
+-- The forms of the lines of a steps file
 use Rattle.std.specs.Prelude.{ℕ, ◌==◌, nat_le, Bool, true, false, List, [], ◌∷◌, length, Option, Some, None, Result, Ok}
 use Rattle.std.specs.Prelude.{Err, if◌then◌else◌, codes}
 use Rattle.std.specs.Option.{option_map}
@@ -37,7 +37,7 @@ abbrev pub side_named : Bytes → Option Side
 side_named word =
     if bytes_eq word (codes "put") then Some Put else (if bytes_eq word (codes "take") then Some Take else None)
 
--- what f makes of each word, where it makes something of all of them
+-- the results of f for each word, if it has one for all of them
 abbrev pub with_first : {A : Type 0} → Option A → Option (List A) → Option (List A)
 with_first (Some x) (Some xs) = Some (x ∷ xs)
 with_first _ _ = None
@@ -78,7 +78,7 @@ abbrev pub ring_with : Extent → Bool → Option Mode → Option Mode → Optio
 ring_with e free (Some put) (Some take) = Some record { geometry = e; put = put; take = take; free = free }
 ring_with e free _ _ = None
 
--- `MODE` for both sides or one for the put side and one for the take side, and then perhaps `free`
+-- `MODE` for both sides or one for the put side and one for the take side, and then optionally `free`
 abbrev pub ring_by : Extent → List Bytes → Option RingPlan
 ring_by e [] = None
 ring_by e (mode ∷ []) = ring_with e false (mode_named mode) (mode_named mode)
@@ -93,7 +93,7 @@ abbrev pub ring_of : Option Extent → List Bytes → Option PlanLine
 ring_of None words = None
 ring_of (Some e) words = option_map Ring (ring_by e words)
 
--- `ring power N MODE..` or `ring exact N MODE..`, by the words after `ring`; a refused size fits no form
+-- `ring power N MODE..` or `ring exact N MODE..`, by the words after `ring`; an invalid size has no form
 abbrev pub ring_line : List Bytes → Option PlanLine
 ring_line (kind ∷ n ∷ modes) = ring_of (geometry_for kind (number_of n)) modes
 ring_line _ = None
@@ -107,7 +107,7 @@ abbrev pub give_by : Option ℕ → Option (List ℕ) → Option PlanLine
 give_by (Some actor) (Some buffers) = Some (Give actor buffers)
 give_by _ _ = None
 
--- `give A B..`, by the words after `give`; there is one buffer at least
+-- `give A B..`, by the words after `give`; there is at least one buffer
 abbrev pub give_line : List Bytes → Option PlanLine
 give_line [] = None
 give_line (actor ∷ buffers) =
@@ -174,7 +174,7 @@ span_step_of verb rest =
     if bytes_eq verb (codes "reserve") then reserve_of rest
     else (if bytes_eq verb (codes "settle") then settle_of rest else local_of verb rest)
 
--- the step that a verb and the words after it name
+-- the step in a verb and the words after it
 abbrev pub step_of : Bytes → List Bytes → Option Step
 step_of verb rest =
     if bytes_eq verb (codes "look") then look_of rest
@@ -195,7 +195,7 @@ actor_form_of first rest =
     if bytes_eq first (codes "give") then option_map Plan (give_line rest)
     else (if bytes_eq first (codes "place") then option_map Ask (only_number rest) else act_of first rest)
 
--- the command that a line of these words is, if they have one of the forms
+-- the command of a line with these words, if they have one of the forms
 --   ring KIND N MODE [MODE] [free]    actors N    give A B..
 --   A look R SIDE    A room R SIDE    A reserve R SIDE HOW N    A settle R put ITEM..    A settle R take N
 --   A stash B    A unstash B    place B

@@ -1,4 +1,4 @@
--- The plan that the first lines of a steps file name, and when it is lawful
+-- The plan in the first lines of a steps file, and when it is valid
 use Rattle.std.specs.Prelude.{ℕ, ◌+◌, ◌<◌, ◌≡◌, ◌==◌, List, [], ◌∷◌, ◌++◌, map, length, slice_index, slice_index_or}
 use Rattle.std.specs.Prelude.{Option, None, if◌then◌else◌}
 use Rattle.std.specs.Option.{option_to_list}
@@ -34,11 +34,11 @@ with_line p (Actors n) = record { rings = p.rings; counts = p.counts ++ n ∷ []
 with_line p (Give actor buffers) =
     record { rings = p.rings; counts = p.counts; gifts = p.gifts ++ gifts_to actor buffers }
 
--- what the code has kept of them
+-- what the code has stored of them
 abbrev pub named : Draft → Named
 named draft = record { rings = draft.rings.items; counts = draft.counts.items; gifts = draft.gifts.items }
 
--- the actors to whom a buffer is given
+-- the actors to which a buffer is given
 abbrev pub owner_in : ℕ → Gift → List ℕ
 owner_in b gift = if gift.0 == b then gift.1 ∷ [] else []
 
@@ -49,7 +49,7 @@ owners b gifts = flat_map (owner_in b) gifts
 abbrev pub buffer_count : List Gift → ℕ
 buffer_count gifts = greatest (λ gift. gift.0 + 1) gifts
 
--- to whom each buffer is given first
+-- to which actor each buffer is given first
 abbrev pub gifts_of : List Gift → List ℕ
 gifts_of gifts = map (λ b. slice_index (owners b gifts) 0) (range_with_len 0 (buffer_count gifts))
 
@@ -57,7 +57,7 @@ gifts_of gifts = map (λ b. slice_index (owners b gifts) 0) (range_with_len 0 (b
 abbrev pub AreGivenOnce : List Gift → Type 0
 AreGivenOnce gifts = (b : ℕ) → b < buffer_count gifts → length (owners b gifts) ≡ 1
 
--- a table of owners: at each buffer to whom it is given, if it is
+-- a table of owners: at each buffer the actor it is given to, if any
 pub record IsTable (count : ℕ) (table : List (Option ℕ)) (gifts : List Gift) : Type 0 where
   pub sized : length table ≡ count
   pub each : (b : ℕ) → b < count → owners b gifts ≡ option_to_list (slice_index_or table b None)

@@ -31,7 +31,7 @@ use Rattle.steps_file.specs.declared.command.Command.TheVariants.{Plan, Act, Ask
 
 -- 1. The text of a reply
 
--- a value that a step shows, of this mode: the own word of a head/tail-sync side is its position, `+`, and what is
+-- a value that a step shows, in this mode: the own word of a head/tail-sync side is its position, `+`, and what is
 -- reserved
 abbrev pub value_text : Mode → ℕ → Bytes
 value_text Multi value = decimal value
@@ -51,7 +51,7 @@ mode_shown rings (SettleTake ring count) = Multi
 mode_shown rings (Stash b) = Multi
 mode_shown rings (Unstash b) = Multi
 
--- the numbers of the buffers, a sign between two
+-- the numbers of the buffers, with a sign between them
 abbrev pub buffers_text : List ℕ → Bytes
 buffers_text [] = []
 buffers_text (b ∷ buffers) = decimal b ++ flat_map (λ n. 43 ∷ decimal n) buffers
@@ -64,7 +64,7 @@ item_text (Buffers buffers) = codes "b" ++ buffers_text buffers
 abbrev pub items_text : List Item → Bytes
 items_text items = flat_map (λ item. 32 ∷ item_text item) items
 
--- a reply without its end of line, where the step shows values of this mode
+-- a reply without its end of line, if the step shows values in this mode
 abbrev pub answer_text : Mode → Reply → Bytes
 answer_text mode (Seen value) = codes "seen " ++ value_text mode value
 answer_text mode (Granted start count left) =
@@ -85,9 +85,9 @@ place_text (Held actor) = codes "held " ++ decimal actor
 place_text (Cached actor) = codes "cached " ++ decimal actor
 place_text Nowhere = codes "nowhere"
 
--- 2. One line after the other
+-- 2. One line after another
 
--- what the lines so far leave: what the plan lines named, and the history of the steps, once there was a step line
+-- the state after the lines so far: what the plan lines named, and the history of the steps, once there was a step line
 pub record State : Type 0 where
   pub plan : Named
   pub run : Option History
@@ -95,7 +95,7 @@ pub record State : Type 0 where
 abbrev pub start : State
 start = record { plan = nothing_named; run = None }
 
--- the history at a step line: the plan is judged at the first one
+-- the history at a step line: the plan is checked at the first one
 abbrev pub running : State → History
 running s = unwrap_or s.run (opened s.plan)
 
@@ -110,7 +110,7 @@ stepped h actor step = followed_by h (record { actor = actor; step = step; reply
 abbrev pub place_in : History → ℕ → Place
 place_in h b = place (length h.plans) (actors_of h) b
 
--- whether the ring of a step is among so many
+-- whether the ring of a step is below this number
 abbrev pub is_on_ring : ℕ → Step → Bool
 is_on_ring rings (Look ring side) = nat_lt ring rings
 is_on_ring rings (Room ring side) = nat_lt ring rings
@@ -124,14 +124,14 @@ is_on_ring rings (Unstash b) = true
 abbrev pub has_both : History → ℕ → Step → Bool
 has_both h actor step = nat_lt actor h.actors && is_on_ring (length h.plans) step
 
--- whether a line may stand here: a plan line before all step lines, and a step of an actor and a ring that there are
+-- whether a line is allowed here: a plan line before all step lines, and a step of an existing actor and ring
 abbrev pub may_stand : State → Option Command → Bool
 may_stand s None = false
 may_stand s (Some (Plan line)) = not (is_some s.run)
 may_stand s (Some (Act actor step)) = has_both (running s) actor step
 may_stand s (Some (Ask b)) = true
 
--- what it leaves
+-- the state after it
 abbrev pub after_line : State → Option Command → State
 after_line s None = s
 after_line s (Some (Plan line)) = record { plan = with_line s.plan line; run = s.run }
@@ -156,9 +156,9 @@ steps_file =
       follow = λ s words. after_line s (form_of words);
     }
 
--- 3. When the plan is judged
+-- 3. When the plan is checked
 
--- whether a line is a step line: the plan is judged at the first one
+-- whether a line is a step line: the plan is checked at the first one
 abbrev pub is_step : Option Command → Bool
 is_step None = false
 is_step (Some (Plan line)) = false
@@ -168,16 +168,16 @@ is_step (Some (Ask b)) = true
 abbrev pub judges : List Bytes → Bool
 judges words = if is_blank_or_comment words then false else is_step (form_of words)
 
--- if a step line is among the first k lines, the plan is lawful
+-- if a step line is among the first k lines, the plan is valid
 abbrev pub IsJudgedBy : ℕ → List Bytes → Type 0
 IsJudgedBy k lines = IsTrue (is_some (left_by steps_file k lines).run) → IsLawful (left_by steps_file k lines).plan
 
--- if line n is a step line, the plan before it is lawful
+-- if line n is a step line, the plan before it is valid
 abbrev pub IsJudgedAt : ℕ → List Bytes → Type 0
 IsJudgedAt n lines = IsTrue (judges (words_at n lines)) → IsLawful (left_by steps_file (n - 1) lines).plan
 
--- the first k lines may stand and are without a step line, then comes a step line or the end, and what they name is no
--- lawful plan
+-- the first k lines are allowed and without a step line, then comes a step line or the end, and the plan they name
+-- isn't valid
 pub record IsBadPlan (k : ℕ) (lines : List Bytes) : Type 0 where
   pub within : k ≤ length lines
   pub admitted : AreAdmitted steps_file k lines

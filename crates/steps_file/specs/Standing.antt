@@ -1,4 +1,4 @@
--- When what the code has kept of the lines so far is what the definitions say
+-- When what the code has stored of the lines so far agrees with the definitions
 use Rattle.std.specs.Prelude.{◌≡◌, ◌++◌, true, false, Option, Some, None, IsTrue}
 use Rattle.ringcore.specs.declared.world.World.{World}
 use Rattle.ringcore.specs.Histories.{History, AgreesWith, IsRight}
@@ -8,7 +8,7 @@ use Rattle.steps_file.specs.Replies.{State, may_stand, after_line, line_text, is
 use Rattle.steps_file.specs.declared.command.Command.{Command}
 use Rattle.steps_file.specs.declared.stage.Stage.{Stage}
 
--- a world that is what a right history of a lawful plan leaves
+-- a world that is what a right history of a valid plan leaves
 pub record IsRunning (p : Named) (w : World) (h : History) : Type 0 where
   pub agrees : AgreesWith w h
   pub right : IsRight h
@@ -29,12 +29,12 @@ pub record LineAnswered (s : State) (line : Option Command) (after : Stage) (old
   pub admitted : may_stand s line ≡ true
   pub reply : new ≡ old ++ line_text s line
 
--- a line that may not stand where it does
+-- a line that isn't allowed at its place
 pub record LineRefused (s : State) (line : Option Command) : Type 0 where
   pub bad : may_stand s line ≡ false
   pub plan : IsTrue (is_step line) → IsLawful s.plan
 
--- a plan that was judged at a line
+-- a plan that was checked at a line
 pub record PlanRefused (s : State) : Type 0 where
   pub unopened : s.run ≡ None
   pub unlawful : ¬ IsLawful s.plan

@@ -16,30 +16,30 @@ use ringcore_laws::{Numbers, Step};
 use std::alloc::{AllocError, Global};
 use word::{is_word, only_number};
 
-/// A line of the plan that a steps file begins with.
+/// A line of the plan at the start of a steps file.
 #[derive(Drop, Debug)]
 pub enum PlanLine {
     /// `ring KIND N MODE..`: the next ring.
     Ring(RingPlan),
-    /// `actors N`: how many actors there are.
+    /// `actors N`: the number of actors.
     Actors(u64),
-    /// `give A B..`: buffers that an actor holds at the opening.
+    /// `give A B..`: buffers that an actor holds at the start.
     Give(u64, Numbers),
 }
 
-/// What a line of a steps file asks for.
+/// The content of a line of a steps file.
 #[derive(Drop, Debug)]
 pub enum Command {
     /// A line of the plan.
     Plan(PlanLine),
     /// `A VERB ..`: a step of an actor.
     Act(u64, Step),
-    /// `place B`: the question where a buffer is.
+    /// `place B`: asks where a buffer is.
     Ask(u64),
 }
 
 impl Command {
-    /// The command that these words are, if they have one of the forms.
+    /// The command in these words, if they have one of the forms.
     pub fn parse(alloc: Global, words: &[&[u8]]) -> Result<Option<Command>, AllocError>
         ensures { IfOk result (λ command. command ≡ form_of (texts words.now)) }
     {

@@ -1,4 +1,4 @@
-//! A caller, by the contract alone.
+//! A caller, using the contract alone.
 ghost use Rattle.std.specs.Prelude.{[], length, IfOk};
 ghost use Rattle.command_file.specs.Text.{lines_of};
 ghost use Rattle.command_file.specs.Files.{IsAnsweredTo};
@@ -8,7 +8,7 @@ use crate::steps_text;
 use command_file::TextFault;
 use std::alloc::Global;
 
-/// The replies to a steps file, and nothing else, where each of its lines may stand.
+/// The replies to a steps file, and nothing else, if each of its lines is allowed at its place.
 pub(crate) fn replies(alloc: Global, bytes: &[u8]) -> Result<Vec<u8>, TextFault>
     ensures { let lines = lines_of bytes.now in
         IfOk result (λ text. IsAnsweredTo steps_file (length lines) lines [] text.items) }

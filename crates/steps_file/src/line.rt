@@ -1,4 +1,4 @@
-//! One line of a steps file: its words, and what they ask for.
+//! One line of a steps file: its words, and their command.
 
 ghost use Rattle.std.specs.Prelude.{◌≡◌, [], ℕ, OnOk, Err, IsTrue, true, false};
 ghost use Rattle.command_file.specs.Text.{words_of};
@@ -12,7 +12,7 @@ use crate::stage::Stage;
 use command_file::{TextFault, is_blank_or_comment, split_words};
 use std::alloc::Global;
 
-/// Answers the line of this number, whose words go into `words`.
+/// Answers the line with this number, whose words go into `words`.
 pub fn answer_line<'a>(
     alloc: Global,
     stage: &mut Stage,

@@ -108,7 +108,7 @@ fn item_text(text: &mut Vec<u8>, item: &Item) -> Result<(), AllocError>
     }
 }
 
-/// Writes the numbers of buffers, a sign between two.
+/// Writes the numbers of buffers, with a sign between them.
 fn buffers_text(text: &mut Vec<u8>, buffers: &[u64]) -> Result<(), AllocError>
     ensures { OnOk result (text.new.items ≡ text.old.items ++ buffers_text buffers.now) }
 {

@@ -1,5 +1,5 @@
-//! Where a steps file stands: what its plan lines named, and the world once there was a step line. So it is here that a
-//! line is found to stand where it may not.
+//! How far a steps file has got: what its plan lines named, and the world once there was a step line. So this is where
+//! a line that isn't allowed at its place is found.
 
 ghost use Rattle.std.specs.Prelude.{◌≡◌, ℕ, [], IfOk, IfSome, OnOk, Err, Some, None, IsTrue, is_some, true};
 ghost use Rattle.ringcore.specs.Histories.{AgreesWith, IsRight};
@@ -16,12 +16,12 @@ use ringcore::{World, WorldFault};
 use ringcore_laws::Step;
 use std::alloc::Global;
 
-/// Where a steps file stands.
+/// How far a steps file has got.
 #[derive(Drop)]
 pub struct Stage {
     /// What the plan lines named.
     draft: Draft,
-    /// The world that the steps so far left, once there was a step line.
+    /// The world that the steps so far have left, once there was a step line.
     world: Option<World>,
 }
 
@@ -29,7 +29,7 @@ impl Stage {
     ghost use Rattle.steps_file.specs.Standing.{IsRunning, Keeps, LineAnswered, LineRefused, PlanRefused};
     ghost use Rattle.steps_file.specs.declared.command.Command.TheVariants.{Plan, Act, Ask};
 
-    /// A file of no lines.
+    /// The stage before any line.
     pub fn new(alloc: Global) -> Stage
         ensures { Keeps result start }
     {
@@ -39,7 +39,7 @@ impl Stage {
         }
     }
 
-    /// Answers the line of this number, by its command if it has one. After a refusal the stage is of no more use.
+    /// Answers the line with this number, by its command if it has one. After an error the stage is of no further use.
     pub fn answer(
         &mut self,
         alloc: Global,
@@ -80,7 +80,7 @@ impl Stage {
         Ok(())
     }
 
-    /// Answers a step of an actor with a line.
+    /// Answers a step of an actor, with a line.
     fn act(
         &mut self,
         alloc: Global,
@@ -110,7 +110,7 @@ impl Stage {
         Ok(())
     }
 
-    /// Answers where a buffer is with a line.
+    /// Answers where a buffer is, with a line.
     fn ask(&mut self, alloc: Global, b: u64, reply: &mut Vec<u8>) -> Result<(), TextFault>
         ensures ok { OnOk result ((s : State) → Keeps self.old s
             → LineAnswered s (Some (Ask b)) self.new reply.old.items reply.new.items) }
@@ -127,7 +127,7 @@ impl Stage {
         Ok(())
     }
 
-    /// Judges the plan, unless a step line did.
+    /// Checks the plan, unless a step line did.
     pub fn judge(&mut self, alloc: Global) -> Result<(), TextFault>
         ensures ok { OnOk result ((s : State) → Keeps self.old s → IsLawful s.plan) }
         ensures never { (n : ℕ) → result ≡ Err (TextFault.BadLine n) → ⊥ }
@@ -136,7 +136,7 @@ impl Stage {
         self.open_world(alloc)
     }
 
-    /// Opens the world of the plan, unless a step line did. It stays where it is: a step moves no world.
+    /// Opens the world of the plan, unless a step line did. It stays in its place: a step doesn't move the world.
     fn open_world(&mut self, alloc: Global) -> Result<(), TextFault>
         ensures there { OnOk result (is_some self.new.world ≡ true) }
         ensures opened { OnOk result ((s : State) → Keeps self.old s
@@ -151,7 +151,7 @@ impl Stage {
         self.open_first(alloc)
     }
 
-    /// Opens the world of the plan. Called once for a file: what a step calls stays small without it.
+    /// Opens the world of the plan. Called once per file: without it, what a step calls stays small.
     #[inline(never)]
     fn open_first(&mut self, alloc: Global) -> Result<(), TextFault>
         requires { self.old.world ≡ None }

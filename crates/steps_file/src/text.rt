@@ -12,12 +12,12 @@ use command_file::{TextFault, strip_carriage_return};
 use std::alloc::Global;
 
 /// Appends the replies to a steps file to `out`: first the lines of its plan, and then steps of actors and questions
-/// where a buffer is, each answered by the rules of shared rings.
+/// about where a buffer is, each answered by the rules of shared rings.
 ///
-/// The plan is judged at the first step line, or at the end. Refused: 1 `BadLine(n)`, where line n is the first that
-/// fits no form, is a plan line after a step line, or names an actor or a ring that the plan doesn't have: `out` has
-/// then gained the replies to the lines before; 2 `Memory`: `out` has then gained the replies to some of the first
-/// lines; 3 `BadPlan`, where the plan isn't lawful as a whole: `out` is as it was.
+/// The plan is checked at the first step line, or at the end. Errors: 1 `BadLine(n)`, if line n is the first that has
+/// no valid form, is a plan line after a step line, or names an actor or a ring that the plan doesn't have: the replies
+/// to the lines before it have then been appended to `out`; 2 `Memory`: the replies to some of the first lines have
+/// then been appended; 3 `BadPlan`, if the plan isn't valid as a whole: `out` is unchanged.
 pub fn steps_text(alloc: Global, bytes: &[u8], out: &mut Vec<u8>) -> Result<(), TextFault>
     ensures ok { let lines = lines_of bytes.now in
         OnOk result (IsAnsweredTo steps_file (length lines) lines out.old.items out.new.items

@@ -1,4 +1,4 @@
-//! The world of rings and actors: a step that is made, and a buffer that is looked for.
+//! The world of rings and actors: making a step, and looking up a buffer.
 
 ghost use Rattle.std.specs.Prelude.{◌≡◌, ◌++◌, OnOk, codes};
 ghost use Rattle.ringcore.specs.Histories.{History, AgreesWith, IsRight, StepExists};
@@ -32,7 +32,7 @@ pub fn answer_step(
     Ok(())
 }
 
-/// Answers where a buffer is with a line.
+/// Answers where a buffer is, with a line.
 pub fn answer_place(world: &World, b: u64, reply: &mut Vec<u8>) -> Result<(), AllocError>
     ensures { OnOk result ((h : History) → AgreesWith world.now h → IsRight h
         → reply.new.items ≡ reply.old.items ++ (place_text (place_in h b) ++ codes "\n")) }

@@ -53,7 +53,7 @@ impl Owned {
     }
 
     /// Clears the buffers of an item that doesn't carry exactly one, where each is marked, and on a free ring never:
-    /// there each item has one. Else nothing changes.
+    /// there each item has one. Otherwise nothing changes.
     fn disown_several<T: Tagged>(&mut self, free: bool, item: &T) -> bool
         requires several { only (T.numbers item.now) ≡ None }
         ensures mine { result ≡ true → (self.new ≡ cleared self.old (T.numbers item.now))
@@ -128,7 +128,7 @@ impl Owned {
     }
 
     /// Clears the buffers of the items, where each is marked and none stands twice, and, on a free ring, where each
-    /// item carries exactly one; else nothing changes.
+    /// item carries exactly one; otherwise nothing changes.
     #[inline]
     pub(crate) fn disown<T: Tagged, const N: usize>(
         &mut self,

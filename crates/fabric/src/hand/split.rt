@@ -44,7 +44,7 @@ impl<T: Tagged, S: Stored<T>> Hand<T, S> {
     /// A second hand, for another thread: it owns nothing, and gets half of the parts, rounded down. Takes the memory
     /// of a byte for each buffer, and makes no step on a word.
     ///
-    /// Refused, in the order of the tests: `TooMany`; `Memory`. The hand comes back.
+    /// Errors, in the order of the tests: `TooMany`; `Memory`. The hand comes back.
     pub fn split<const N: usize>(
         self,
         alloc: Global,

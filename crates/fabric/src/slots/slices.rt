@@ -25,7 +25,8 @@ impl<T: Word, const N: usize, S: Stored<T>> Ring<'_, T, N, S> {
         requires held { seat.old.me.1 ≡ run (λ p. p) slot (replicate (length items.now) None)
             ++ drop (length items.now) seat.old.me.1 }
         ensures seat { IsSameSeat seat.old seat.new × (seat.new.me.0 ≡ seat.old.me.0) }
-        ensures filled { seat.new.me.1 ≡ drop (length items.now) seat.old.me.1 ++ run (λ p. p) slot (map Some items.now) }
+        ensures filled { seat.new.me.1 ≡ drop (length items.now) seat.old.me.1
+            ++ run (λ p. p) slot (map Some items.now) }
     {
         for i in 0..items.len() {
             let found = self
@@ -47,7 +48,8 @@ impl<T: Word, const N: usize, S: Stored<T>> Ring<'_, T, N, S> {
         requires held { seat.old.me.1 ≡ run (λ p. p) slot (replicate (length items.now) None)
             ++ drop (length items.now) seat.old.me.1 }
         ensures seat { IsSameSeat seat.old seat.new × (seat.new.me.0 ≡ seat.old.me.0) }
-        ensures filled { seat.new.me.1 ≡ drop (length items.now) seat.old.me.1 ++ run (λ p. p) slot (map Some items.now) }
+        ensures filled { seat.new.me.1 ≡ drop (length items.now) seat.old.me.1
+            ++ run (λ p. p) slot (map Some items.now) }
     {
         let blocks = items.len() / BLOCK;
         for i in 0..blocks {

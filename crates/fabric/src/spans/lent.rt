@@ -43,7 +43,7 @@ impl<'f, T: Tagged, const N: usize, S: Stored<T>> PutOpen<'f, T, N, S> {
     /// at most so many, and the others are given up. One step on a word at most. The burst is empty then; at a refusal
     /// it is as it was, and the span stays open.
     ///
-    /// Refused, in the order of the tests: `BadCount`, `NotYours`, before any step; `NotYet`.
+    /// Errors, in the order of the tests: `BadCount`, `NotYours`, before any step; `NotYet`.
     pub fn try_settle_from(
         self,
         items: &mut Burst<T, N>,
@@ -80,7 +80,7 @@ impl<'f, T: Tagged, const N: usize, S: Stored<T>> PutOpen<'f, T, N, S> {
     }
 
     /// Gives up all positions of a span on a head/tail-sync side: `try_settle_from` with no item, without a burst.
-    /// Asked: the side is one. One step on a word.
+    /// Requires: the side is one. One step on a word.
     pub fn abort(self) -> Hand<T, S>
         requires hts { self.ring.shape.plan.put ≡ Hts }
         ensures { HasPut self.entry [] result }
@@ -123,10 +123,10 @@ impl<'f, T: Tagged, const N: usize, S: Stored<T>> TakeOpenLent<'f, T, N, S> {
 
     /// Tries once to take the items at the first `k` positions of the span: on a multi side all, on an HTS side any
     /// number, and the other items are queued again. One step on a word at most. The burst, as the start filled it,
-    /// then has the items that were taken; at a refusal it is as it was, and the span stays open. Asked: the burst has
+    /// then has the items that were taken; at a refusal it is as it was, and the span stays open. Requires: the burst has
     /// the items that the start showed.
     ///
-    /// Refused, in the order of the tests: `BadCount`, before any step; `NotYet`.
+    /// Errors, in the order of the tests: `BadCount`, before any step; `NotYet`.
     pub fn try_settle_into(
         self,
         k: usize,

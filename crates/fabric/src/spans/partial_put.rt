@@ -11,7 +11,7 @@ use burst::{Burst, Tagged};
 
 impl<'f, T: Tagged, const N: usize, S: Stored<T>> PutOpen<'f, T, N, S> {
     /// `try_settle_from` with the first `k` items alone: the others stay in the burst, in order, as all do at a
-    /// refusal. Asked: there are so many. Where it leaves items it costs as much as a burst of `N` places by value.
+    /// refusal. Requires: there are so many. Where it leaves items it costs as much as a burst of `N` places by value.
     pub fn try_settle_first_from(
         self,
         k: usize,

@@ -23,10 +23,10 @@ use geom::{How, Side};
 
 impl<T: Word, const N: usize, S: Stored<T>> Fabric<T, N, S> {
     /// Tries once to reserve a span of positions for a take: by bulk `n` of them, by burst at most `n`. Its words are
-    /// copied to the front of the slice at once; they stay queued until the span is settled. Asked: the slice has `n`
+    /// copied to the front of the slice at once; they stay queued until the span is settled. Requires: the slice has `n`
     /// places. At most three steps on words.
     ///
-    /// Refused, in the order of the tests: `BadCount` if `n` is 0 or above `N`, before any step; `Busy`; `NoRoom`;
+    /// Errors, in the order of the tests: `BadCount` if `n` is 0 or above `N`, before any step; `Busy`; `NoRoom`;
     /// `Worn`; `Contended`. The hand comes back, and the slice is as it was.
     pub fn try_start_take_slice(
         &self,
@@ -42,7 +42,8 @@ impl<T: Word, const N: usize, S: Stored<T>> Fabric<T, N, S> {
         ensures started { IfOk result (λ o. (take_fabric o ≡ self.now) × ((take_span o).ring ≡ ring)
             × OnRing self.now ring (λ plan. Starts T.numbers how n ring Take plan (view hand)
             (take_span o).start (take_span o).count (take_left o) (take_view o).shown (take_view o))) }
-        ensures copied { IfOk result (λ o. into.new ≡ (take_view o).shown ++ drop (length (take_view o).shown) into.old) }
+        ensures copied { IfOk result
+            (λ o. into.new ≡ (take_view o).shown ++ drop (length (take_view o).shown) into.old) }
         ensures refused { IfErr result (λ e. IsHandOf self.now e.0 × (into.new ≡ into.old)
             × OnRing self.now ring (λ plan. RefusesStart T.numbers N how n ring Take plan (view hand) (view e.0) e.1)) }
         ensures asked { OnRing self.now ring (λ plan. IfOk result (λ _. MayAsk T.numbers N n Take plan (view hand))
@@ -80,7 +81,7 @@ impl<'f, T: Word, const N: usize, S: Stored<T>> PutOpen<'f, T, N, S> {
     /// Tries once to publish words at the positions of the span: on a multi side as many as it has, on an HTS side at
     /// most so many, and the others are given up. One step on a word at most. At a refusal the span stays open.
     ///
-    /// Refused, in the order of the tests: `BadCount`, `NotYours`, before any step; `NotYet`.
+    /// Errors, in the order of the tests: `BadCount`, `NotYours`, before any step; `NotYet`.
     pub fn try_settle_slice(
         self,
         items: &[T],
@@ -119,10 +120,10 @@ impl<'f, T: Word, const N: usize, S: Stored<T>> PutOpen<'f, T, N, S> {
 
 impl<'f, T: Word, const N: usize, S: Stored<T>> TakeOpenLent<'f, T, N, S> {
     /// Tries once to take the words at the first `k` positions of the span: on a multi side all, on an HTS side any
-    /// number, and the others are queued again. One step on a word at most. At a refusal the span stays open. Asked:
+    /// number, and the others are queued again. One step on a word at most. At a refusal the span stays open. Requires:
     /// these are the words that the start copied.
     ///
-    /// Refused, in the order of the tests: `BadCount`, before any step; `NotYet`.
+    /// Errors, in the order of the tests: `BadCount`, before any step; `NotYet`.
     pub fn try_settle_slice(
         self,
         k: usize,

@@ -244,7 +244,7 @@ impl<T: Tagged, const N: usize, S: Stored<T>> Fabric<T, N, S> {
     /// Tries once to reserve a span of positions for a put: by bulk `n` of them, by burst at most `n`. At most three
     /// steps on words.
     ///
-    /// Refused, in the order of the tests: `BadCount` where `n` is 0 or above `N`, or above the number of the hand's
+    /// Errors, in the order of the tests: `BadCount` where `n` is 0 or above `N`, or above the number of the hand's
     /// buffers on a free ring, before any step; `Busy`; `NoRoom`, never on a free ring; `Worn`; `Contended`. The hand
     /// comes back.
     pub fn try_start_put(
@@ -287,7 +287,7 @@ impl<T: Tagged, const N: usize, S: Stored<T>> Fabric<T, N, S> {
     /// Tries once to reserve a span of positions for a take: by bulk `n` of them, by burst at most `n`. Its items go
     /// into an empty burst at once; they stay queued until the span is settled. At most three steps on words.
     ///
-    /// Refused, in the order of the tests: `BadCount` where `n` is 0 or above `N`, before any step; `Busy`; `NoRoom`;
+    /// Errors, in the order of the tests: `BadCount` where `n` is 0 or above `N`, before any step; `Busy`; `NoRoom`;
     /// `Worn`; `Contended`. The hand comes back, and the burst stays empty.
     pub fn try_start_take_into(
         &self,

@@ -1,4 +1,4 @@
-//! The groups: memory for one more, an entry that gets one, and an entry that gives one back.
+//! The groups: memory for one more, giving an entry a group, and taking it back.
 
 ghost use Rattle.std.specs.Prelude.{◌≡◌, ◌+◌, ◌<◌, ◌^◌, ◌↔◌, ℕ, true, false, if◌then◌else◌, OnOk, OnErr, IfErr};
 ghost use Rattle.std.specs.Prelude.{◌⊎◌};
@@ -14,7 +14,7 @@ use crate::places::{place, size};
 use std::alloc::AllocError;
 
 impl Levels {
-    /// Sees to it that a group is free, by memory for one more where none is.
+    /// Makes sure that a group is free, taking memory for one more if none is.
     fn make_room(&mut self) -> Result<(), AllocError>
         requires within { used_of self.old < self.old.limit }
         requires fewer { used_of self.old < 2 ^ self.old.bits }
@@ -33,7 +33,7 @@ impl Levels {
         Ok(())
     }
 
-    /// Gives an entry a free group, each place of which says what the entry said.
+    /// Gives an entry a free group, with the entry's content in each of its places.
     fn open_group(&mut self, first: usize)
         requires first { first < 2 ^ self.old.bits }
         requires plain { is_group (first_at self.old first) ≡ false }
@@ -48,7 +48,7 @@ impl Levels {
         self.first[first] = PackedEntry::group(group);
     }
 
-    /// Takes the group of an entry back, where each of its places says the same.
+    /// Takes back the group of an entry, if all of its places have the same content.
     pub fn close_group(&mut self, first: usize)
         requires first { first < 2 ^ self.old.bits }
         requires grouped { is_group (first_at self.old first) ≡ true }
@@ -64,8 +64,8 @@ impl Levels {
         self.free.push_reserved(group);
     }
 
-    /// Sees to it that the entry has a group, or that one is free for it. Refused: 3 `NoGroup` where each group that
-    /// there may be stands for another entry, 4 `Memory`. A refusal changes nothing.
+    /// Makes sure that the entry has a group, or that one is free for it. Errors: 3 `NoGroup` if the maximum number of
+    /// groups is in use for other entries, 4 `Memory`. An error changes nothing.
     pub fn reserve_group(&mut self, first: usize) -> Result<(), RouteFault>
         requires { first < 2 ^ self.old.bits }
         ensures ok { OnOk result (Grows self.old self.new) }

@@ -1,4 +1,4 @@
-//! Writes of the places that a prefix holds: whole entries, or a stretch of one entry's group.
+//! Writes to the places that a prefix covers: whole entries, or a range of one entry's group.
 
 ghost use Rattle.std.specs.Prelude.{◌≡◌, ◌+◌, ◌≤◌, ◌<◌, ◌^◌, true, false};
 ghost use Rattle.lpm.specs.TableEntry.{is_group};
@@ -12,7 +12,7 @@ use crate::places::{first_of, low_of, place, size};
 use crate::prefix::Prefix;
 
 impl Levels {
-    /// Overwrites the places of one entry's group from `from` to below `to`.
+    /// Overwrites the places of one entry's group from `from` up to `to`, exclusive.
     fn overwrite_group(
         &mut self,
         first: usize,
@@ -49,7 +49,7 @@ impl Levels {
         }
     }
 
-    /// Overwrites every place of the entries from `from` to below `to`.
+    /// Overwrites every place of the entries from `from` up to `to`, exclusive.
     fn overwrite_entries(&mut self, from: usize, to: usize, depth: u8, entry: PackedEntry)
         requires ordered { from ≤ to }
         requires within { to ≤ 2 ^ self.old.bits }
@@ -62,7 +62,7 @@ impl Levels {
         }
     }
 
-    /// Overwrites the places of a prefix. Of a deep one, the entry has to have a group.
+    /// Overwrites the places of a prefix. If it is deeper than the first level, its entry has to have a group.
     pub fn overwrite(&mut self, prefix: Prefix, entry: PackedEntry)
         requires depth { IsDepth prefix.depth }
         requires masked { masked prefix.address prefix.depth ≡ prefix.address }

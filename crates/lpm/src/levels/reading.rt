@@ -1,5 +1,5 @@
-//! What the levels say: of an address, of a burst of addresses, of one entry and of one place in a group. A lookup
-//! shifts by constants alone, as there is a form of it for either first level.
+//! Reads of the levels: for an address, a burst of addresses, one entry, and one place in a group. A lookup shifts by
+//! constants only, as there is one form of it for each width of the first level.
 
 ghost use Rattle.std.specs.Prelude.{◌≡◌, ◌<◌, ◌^◌, ℕ, length, map, true};
 ghost use Rattle.lpm.specs.TableEntry.{is_group, hop_of};
@@ -12,7 +12,7 @@ use crate::packed_entry::PackedEntry;
 use crate::places::{first_of, low_of, place};
 
 impl Levels {
-    /// What holds for an address.
+    /// The entry for an address.
     #[inline]
     pub fn entry_for(&self, address: u32) -> PackedEntry
         ensures { result ≡ entry_for self.now address }
@@ -23,8 +23,8 @@ impl Levels {
         }
     }
 
-    /// What holds for an address, by its first `BITS` bits: their entry, or the one in the group that this names. Two
-    /// loads at most.
+    /// The entry for an address, by its first `BITS` bits: their first-level entry, or the one in the group that it
+    /// names. At most two loads.
     #[inline(always)]
     fn entry_by<const BITS: u8>(&self, address: u32) -> PackedEntry
         requires { self.now.bits ≡ BITS }
@@ -60,7 +60,7 @@ impl Levels {
         }
     }
 
-    /// What one place of a group says.
+    /// The entry at one place of a group.
     pub fn in_group(&self, group: u32, low: usize) -> PackedEntry
         requires used { (first : ℕ) × (first < 2 ^ self.now.bits) × (is_group (first_at self.now first) ≡ true)
             × ((first_at self.now first).number ≡ group) }
@@ -70,7 +70,7 @@ impl Levels {
         self.groups[place(group, low, self.bits)]
     }
 
-    /// An entry of the first level. A group that it names is no other entry's.
+    /// A first-level entry. If it names a group, no other entry names the same one.
     pub fn first(&self, first: usize) -> PackedEntry
         requires { first < 2 ^ self.now.bits }
         ensures value { result ≡ first_at self.now first }

@@ -10,15 +10,15 @@ use crate::packed_entry::PackedEntry;
 use crate::places::first_of;
 use crate::prefix::Prefix;
 
-/// One more than the greatest next hop.
+/// One more than the maximum next hop.
 const HOPS: u32 = 1 << 24;
 
 impl Table {
-    /// Adds the route to the first `depth` bits of `addr`, or gives it another next hop where it is there.
+    /// Adds a route for the first `depth` bits of `addr`, or changes the next hop of an existing one.
     ///
-    /// Refused, in this order: 1 `BadDepth` where `depth` is not from 1 to 32, 2 `BadHop` where `hop` is 2^24 or more,
-    /// 3 `NoGroup` where the route would need more groups than the table may have, 4 `Memory`. A refusal leaves the
-    /// table as it was.
+    /// Errors, in this order: 1 `BadDepth` if `depth` is not from 1 to 32, 2 `BadHop` if `hop` is 2^24 or more, 3
+    /// `NoGroup` if the route would need more groups than the table may have, 4 `Memory`. An error leaves the table
+    /// unchanged.
     pub fn add(&mut self, addr: u32, depth: u8, hop: u32) -> Result<(), RouteFault>
         ensures ok { OnOk result (HasMembers self.old self.new (with_route self.old addr depth hop)) }
         ensures accepted { OnOk result (Accepts self.old addr depth hop) }
@@ -62,7 +62,7 @@ impl Table {
         Ok(())
     }
 
-    /// Adds a route that is deeper than the first level, so that its first bits need a group.
+    /// Adds a route that is deeper than the first level, so its first bits need a group.
     fn add_deep(&mut self, addr: u32, depth: u8, hop: u32) -> Result<(), RouteFault>
         requires depth { IsDepth depth }
         requires hop { hop < 2 ^ 24 }

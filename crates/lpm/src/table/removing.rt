@@ -10,11 +10,11 @@ use crate::places::first_of;
 use crate::prefix::Prefix;
 
 impl Table {
-    /// Removes the route to the first `depth` bits of `addr`. Takes no memory; a group that no route needs any more is
-    /// kept for another.
+    /// Removes the route for the first `depth` bits of `addr`. Takes no memory; a group that no route needs any more is
+    /// kept for reuse.
     ///
-    /// Refused, in this order: 1 `BadDepth` where `depth` is not from 1 to 32, 5 `NoRoute` where there is no such
-    /// route. A refusal leaves the table as it was.
+    /// Errors, in this order: 1 `BadDepth` if `depth` is not from 1 to 32, 5 `NoRoute` if there is no such route. An
+    /// error leaves the table unchanged.
     pub fn remove(&mut self, addr: u32, depth: u8) -> Result<(), RouteFault>
         ensures ok { OnOk result (HasMembers self.old self.new (without_route self.old addr depth)) }
         ensures was { OnOk result (HasRoute self.old addr depth) }
@@ -52,8 +52,7 @@ impl Table {
         Ok(())
     }
 
-    /// Removes a route that is deeper than the first level. Its entry gives the group back where no other route needs
-    /// it.
+    /// Removes a route that is deeper than the first level. Its entry gives its group back if no other route needs it.
     fn remove_deep(&mut self, addr: u32, depth: u8) -> Result<(), RouteFault>
         requires depth { IsDepth depth }
         requires deep { self.old.bits < depth }

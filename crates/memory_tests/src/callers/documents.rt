@@ -1,11 +1,11 @@
-//! A caller: a text that isn't UTF-8 is no document.
+//! A caller: a text that isn't UTF-8 isn't a document.
 ghost use Rattle.std.specs.Prelude.{◌≡◌, Err, IsUtf8, OnOk};
 ghost use Rattle.settings.specs.declared.fault.SettingsFault.TheVariants.{NotToml};
 
 use settings::{Settings, SettingsFault};
 use std::alloc::Global;
 
-/// Reads a text, once more where memory was refused.
+/// Reads a text, and once more if memory was refused.
 pub fn read(alloc: Global, text: &[u8]) -> Result<Settings, SettingsFault>
     ensures utf8 { OnOk result (IsUtf8 text.now) }
     ensures bytes { (¬ IsUtf8 text.now) → result ≡ Err NotToml }

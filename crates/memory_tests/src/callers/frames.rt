@@ -6,7 +6,7 @@ use ipv4::{Ports, Verdict, forward, verdict};
 use lpm::Table;
 use mbuf::Chain;
 
-/// The verdict before a frame is forwarded, and the one with which it is.
+/// The verdict before a frame is forwarded, and the one with which it is forwarded.
 pub fn told_and_done(
     chain: &mut Chain,
     table: &Table,

@@ -1,11 +1,11 @@
-//! Short callers, and what they know of a packet by the clauses of its calls alone.
+//! Short callers, and what they know of a packet from the clauses of its calls alone.
 ghost use Rattle.std.specs.Prelude.{◌≡◌, length, replicate, OnOk};
 ghost use Rattle.mbuf.specs.Buffer.{overwritten};
 ghost use Rattle.mbuf.specs.Chain.{bytes_of, HasSameSegments, part_of};
 
 use mbuf::{Chain, ChainFault};
 
-/// Puts a header before a packet and takes it off again: the packet is as it was.
+/// Puts a header before a packet and takes it off again: the packet is unchanged.
 pub fn with_header(packet: &mut Chain, header: &[u8]) -> Result<(), ChainFault>
     ensures { OnOk result (bytes_of packet.new ≡ bytes_of packet.old) }
 {
@@ -13,7 +13,7 @@ pub fn with_header(packet: &mut Chain, header: &[u8]) -> Result<(), ChainFault>
     packet.adj(header.len())
 }
 
-/// Blanks the bytes of the first segment: the others stay, and so do all segments.
+/// Clears the bytes of the first segment: the others are unchanged, and so are all segments.
 pub fn blank_front(packet: &mut Chain)
     ensures written { let zeros = replicate (length (part_of packet.old 0)) 0 in
         bytes_of packet.new ≡ overwritten 0 zeros (bytes_of packet.old) }

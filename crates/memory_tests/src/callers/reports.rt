@@ -9,7 +9,7 @@ ghost use Rattle.ipv4.specs.declared.Reason.TheVariants.{Expired};
 use counters::Counts;
 use ipv4::{Reason, Verdict};
 
-/// The counts of a record that was sent, one that is oversize, and one that was dropped.
+/// The counts of a record that was sent, an oversize one, and one that was dropped.
 pub fn two_verdicts() -> Counts
     ensures { result ≡ counts_of 2 1 (Send 1 true ∷ Drop Expired ∷ []) }
 {

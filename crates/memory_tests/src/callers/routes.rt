@@ -1,5 +1,5 @@
-//! Callers, proved like the rest: the one route of a table decides over the address that it was added with, a burst
-//! says of each address what `lookup` says, and so do the entries.
+//! Callers, proved like the rest: the only route of a table is the longest match for the address it was added with, a
+//! burst returns for each address what `lookup` returns, and so do the entries.
 ghost use Rattle.std.specs.Prelude.{◌≡◌, ◌%◌, ◌≤◌, ◌<◌, ◌^◌, IfOk, Some};
 ghost use Rattle.lpm.specs.Match.{IsLongestMatch, lookup_in};
 ghost use Rattle.lpm.specs.Prefixes.{IsDepth, first_bits, size_of};
@@ -7,7 +7,7 @@ ghost use Rattle.lpm.specs.Prefixes.{IsDepth, first_bits, size_of};
 use lpm::{Entry, NextHop, RouteFault, Table};
 use std::alloc::Global;
 
-/// What a table with this one route answers for the address.
+/// What a table with this one route returns for the address.
 pub fn sole_route(alloc: Global, addr: u32, depth: u8, hop: u32) -> Result<Option<u32>, RouteFault>
     requires depth { IsDepth depth }
     requires hop { hop < 2 ^ 24 }
@@ -20,7 +20,7 @@ pub fn sole_route(alloc: Global, addr: u32, depth: u8, hop: u32) -> Result<Optio
     Ok(table.lookup(addr))
 }
 
-/// What a table says of two addresses, looked up in one burst.
+/// What a table returns for two addresses, looked up in one burst.
 pub fn look_up_two(table: &Table, first: u32, second: u32) -> (Option<u32>, Option<u32>)
     ensures first { result.0 ≡ lookup_in table.now.members first }
     ensures second { result.1 ≡ lookup_in table.now.members second }
@@ -30,7 +30,7 @@ pub fn look_up_two(table: &Table, first: u32, second: u32) -> (Option<u32>, Opti
     (hops[0].hop(), hops[1].hop())
 }
 
-/// What a table says of the address, read from its entries.
+/// What a table has for the address, read from its entries.
 pub fn read(table: &Table, addr: u32) -> Option<u32>
     ensures { IsLongestMatch table.now.members addr result }
 {
@@ -42,7 +42,7 @@ pub fn read(table: &Table, addr: u32) -> Option<u32>
     }
 }
 
-/// The number that an address's first `bits` bits make.
+/// The number formed by an address's first `bits` bits.
 fn first_of(address: u32, bits: u8) -> u32
     requires nonzero { 0 < bits }
     requires most { bits ≤ 32 }
@@ -52,7 +52,7 @@ fn first_of(address: u32, bits: u8) -> u32
     address >> (32 - bits)
 }
 
-/// The number that its other bits make.
+/// The number formed by its other bits.
 fn low_of(address: u32, bits: u8) -> u32
     requires nonzero { 0 < bits }
     requires most { bits ≤ 32 }

@@ -1,4 +1,4 @@
-//! A caller: a run, by one clause for every number of workers.
+//! A caller: a run, with one clause for any number of workers.
 ghost use Rattle.std.specs.Prelude.{◌≡◌, ◌≤◌, vec_len, IfOk, IfSome};
 ghost use Rattle.pcapio.specs.Counted.{to_come};
 ghost use Rattle.stages.specs.Whole.{IsRun};
@@ -10,7 +10,7 @@ use std::io::{Read, Write};
 use std::sync::Wait;
 use std::thread::Threads;
 
-/// A run by so many workers, or by one thread where there are none.
+/// A run by `workers` workers, or by one thread if that is 0.
 pub fn forward<
     G: Gate + Sync,
     I: Read + Send + Drop,

@@ -1,4 +1,4 @@
-//! A caller: what comes out of a ring at the end, concluded from contracts alone.
+//! A caller: what comes out of a ring at the end, derived from contracts alone.
 ghost use Rattle.std.specs.Prelude.{◌≡◌, ◌<◌, [], length, IfSome, None};
 ghost use Rattle.std.specs.List.{flat_map};
 ghost use Rattle.burst.specs.Numbers.{AreDistinct};
@@ -11,9 +11,9 @@ use fabric::{Closed, Fabric, Hand};
 use geom::How;
 use std::alloc::Global;
 
-/// Makes the only hand of a fabric two, of which the first sends a list on ring 0; joins them and ends the fabric.
-/// `Closed::next` then gives just these items, in the order in which they were sent, and each number once. None where
-/// the ring is too small, an item isn't the hand's to send, or there is no memory.
+/// Splits the only hand of a fabric in two, the first of which sends a list on ring 0; joins them and ends the fabric.
+/// `Closed::next` then returns exactly these items, in the order in which they were sent, and each number once. `None`
+/// if the ring is too small, an item isn't the hand's to send, or there is no memory.
 pub fn send_and_close<T: Tagged, const N: usize>(
     alloc: Global,
     fabric: Fabric<T, N>,

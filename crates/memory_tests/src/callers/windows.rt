@@ -1,11 +1,11 @@
-//! A caller, proved like the rest: two items that come in the wrong order leave in the right one.
+//! A caller, proved like the rest: two items that arrive out of order leave in order.
 ghost use Rattle.std.specs.Prelude.{◌≡◌, IfOk, Some};
 
 use reorder::Window;
 use std::alloc::{AllocError, Global};
 
-/// The items of numbers 0 and 1, as they leave the window. Number 1 comes first. Both numbers are free when their items
-/// come, so neither `unwrap` can fail, which the check proves.
+/// The items with the numbers 0 and 1, as they leave the window. Number 1 arrives first. Both numbers are free when
+/// their items arrive, so neither `unwrap` can fail, which is proved.
 pub fn in_turn(alloc: Global, zero: u32, one: u32) -> Result<(Option<u32>, Option<u32>), AllocError>
     ensures { IfOk result (λ given. given ≡ (Some zero, Some one)) }
 {

@@ -27,7 +27,7 @@ fn by_value<R: Wait>(rt: &R, f: &Rings, local: &mut Local<Ticket, MOST>) -> Resu
     }
 }
 
-/// The same by a list that is lent.
+/// The same with a borrowed list.
 fn lent<R: Wait>(rt: &R, f: &Rings, local: &mut Local<Ticket, MOST>) -> Result<(), Wrong>
     requires local { IsLocalOf f.now local.old }
     ensures { IsLocalOf f.now local.new }
@@ -56,7 +56,7 @@ fn flushed<R: Wait>(rt: &R, f: &Rings, local: &mut Local<Ticket, MOST>) -> Resul
     }
 }
 
-/// Each call of a cache of two.
+/// Each call of a cache of size two.
 pub fn all<R: Wait>(rt: &R, f: &Rings, hand: Hand<Ticket>) -> Result<Hand<Ticket>, Wrong>
     requires hand { IsHandOf f.now hand }
     requires rings { 2 < length (rings_of f.now) }

@@ -1,4 +1,4 @@
-//! Each request for memory refused alone. `new` makes seven requests and `split` one. All memory is taken, and pieces
+//! Each single request for memory refused. `new` makes seven requests and `split` one. All memory is taken, and pieces
 //! of exactly the sizes of these requests are set aside; the first of them are given back, so that the request after
 //! these is refused.
 ghost use Rattle.std.specs.Prelude.{◌<◌};
@@ -11,7 +11,7 @@ use geom::{Geometry, Mode, RingPlan};
 use std::alloc::{AllocError, Global};
 use std::test::Fail;
 
-/// So many rings, each for so many items; the second is a free ring.
+/// `count` rings, each for `capacity` items; the second is a free ring.
 fn plans(alloc: Global, capacity: u64, count: usize) -> Option<Vec<RingPlan>> {
     let geometry = Geometry::exact(capacity).ok()?;
     let mut rings = Vec::new(alloc);
@@ -28,7 +28,7 @@ fn plans(alloc: Global, capacity: u64, count: usize) -> Option<Vec<RingPlan>> {
     Some(rings)
 }
 
-/// Tickets of these numbers.
+/// Tickets with these numbers.
 fn tickets(alloc: Global, numbers: &[u32]) -> Option<Vec<Ticket>> {
     let mut made = Vec::new(alloc);
     for number in numbers {
@@ -51,23 +51,23 @@ fn are(tickets: &[Ticket], numbers: &[u32]) -> bool {
 }
 
 /// A fabric of two rings, each with room for as many items as there are buffers, and the pieces that `new` needs for
-/// it, in the order of its requests: flags to cross numbers off, what it keeps of the rings, the words to begin with,
-/// the first hand's flags, the slots to begin with, the table's words, and its slots. The first flags are given back
-/// before the next request, so their piece serves a later request of that size.
+/// it, in the order of its requests: flags to cross numbers off, what it stores about the rings, the initial words, the
+/// first hand's flags, the initial slots, the table's words, and its slots. The first flags are given back before the
+/// next request, so their piece serves a later request of that size.
 struct Case {
     buffers: u32,
     pieces: &'static [usize],
 }
 
-/// What a ring takes: 32 bytes to keep, and 64 words of 8 bytes. A slot has 24 bytes, and a ring a power of two of
-/// them. The hand's flags have the piece of the first ones.
+/// What a ring takes: 32 bytes of its own, and 64 words of 8 bytes. A slot has 24 bytes, and a ring a power of two of
+/// them. The hand's flags reuse the piece of the first ones.
 const SMALL: Case = Case {
     buffers: 3,
     pieces: &[3, 2 * 32, 2 * 512, 2 * 4 * 24, 2 * 512, 2 * 4 * 24],
 };
 
-/// As many flags as the rings take bytes to keep, so that these have the piece of the first flags, and the hand's flags
-/// need one of their own.
+/// As many flags as the rings take bytes of their own, so that these reuse the piece of the first flags, and the hand's
+/// flags need one of their own.
 const EVEN: Case = Case {
     buffers: 64,
     pieces: &[64, 2 * 512, 64, 2 * 128 * 24, 2 * 512, 2 * 128 * 24],
@@ -101,8 +101,7 @@ fn numbers(alloc: Global, buffers: u32) -> Result<Vec<u32>, AllocError> {
 /// There is no memory before all of it is taken, or after it was given back.
 const SCARCE: Wrong = Wrong("no memory before it is taken");
 
-/// The items that come back from `new`, where only the first `served` of its pieces are there; none where a fabric is
-/// made.
+/// The items handed back by `new` if only the first `served` of its pieces are there; `None` if a fabric is made.
 fn refused_items(
     alloc: Global,
     case: &Case,
@@ -125,7 +124,7 @@ fn refused_items(
     }
 }
 
-/// Whether `new` answers Memory where only the first `served` of its pieces are there. Its items then come back in
+/// Whether `new` returns Memory if only the first `served` of its pieces are there. Its items are then handed back in
 /// order, and a fabric is made of them once there is memory.
 fn is_refused(alloc: Global, case: &Case, served: usize) -> Result<bool, Wrong> {
     let all = numbers(alloc, case.buffers).or(Err(SCARCE))?;
@@ -163,7 +162,8 @@ fn each_request_of_new_is_refused(rt: HostRuntime) -> Result<(), Fail> {
     refuse_each(rt.alloc(), &EVEN)
 }
 
-/// Splits a hand that has all buffers while there is no memory: it comes back as it was, and is split once there is.
+/// Splits a hand that has all buffers while there is no memory: it is handed back unchanged, and is split once there
+/// is.
 fn split_twice(f: &Rings, alloc: Global, hand: Hand<Ticket>, buffers: u32) -> Result<(), Wrong>
     requires hand { IsHandOf f.now hand }
 {
@@ -186,7 +186,7 @@ fn split_twice(f: &Rings, alloc: Global, hand: Hand<Ticket>, buffers: u32) -> Re
     Ok(())
 }
 
-/// Whether a hand has all of so many buffers, and no other.
+/// Whether a hand has all of `buffers` buffers, and no other.
 fn owns_all(hand: &Hand<Ticket>, buffers: u32) -> bool {
     for number in 0..buffers {
         if !hand.owns(number) {

@@ -49,7 +49,7 @@ fn peeked_take<'f>(
     }
 }
 
-/// Gives up a peek of each kind.
+/// Aborts a peek of each kind.
 fn give_up(f: &Rings, hand: Hand<Ticket>, from: usize, to: usize) -> Result<Hand<Ticket>, Wrong>
     requires hand { IsHandOf f.now hand }
     requires from { from < length (rings_of f.now) }
@@ -60,7 +60,7 @@ fn give_up(f: &Rings, hand: Hand<Ticket>, from: usize, to: usize) -> Result<Hand
     Ok(peeked_put(f, hand, to)?.abort())
 }
 
-/// Moves six items by peeks that have or are given them by value.
+/// Moves six items by peeks that own or are given them by value.
 fn move_by_value(
     f: &Rings,
     hand: Hand<Ticket>,
@@ -81,7 +81,7 @@ fn move_by_value(
     }
 }
 
-/// Takes six items by a peek that is lent a list, or gives it up.
+/// Takes six items by a peek that borrows a list, or aborts it.
 fn take_lent(
     f: &Rings,
     hand: Hand<Ticket>,
@@ -111,7 +111,7 @@ fn take_lent(
     Ok(hand)
 }
 
-/// Moves six items by peeks that are lent a list.
+/// Moves six items by peeks that borrow a list.
 fn move_lent(f: &Rings, hand: Hand<Ticket>, from: usize, to: usize) -> Result<Hand<Ticket>, Wrong>
     requires hand { IsHandOf f.now hand }
     requires from { from < length (rings_of f.now) }
@@ -127,7 +127,7 @@ fn move_lent(f: &Rings, hand: Hand<Ticket>, from: usize, to: usize) -> Result<Ha
     }
 }
 
-/// Each peek, where the sides of the rings have one word.
+/// Each peek, if the sides of the rings have one word.
 pub fn all(f: &Rings, hand: Hand<Ticket>) -> Result<Hand<Ticket>, Wrong>
     requires hand { IsHandOf f.now hand }
     requires rings { 2 < length (rings_of f.now) }

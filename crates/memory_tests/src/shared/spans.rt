@@ -8,7 +8,7 @@ use burst::Burst;
 use fabric::{Hand, StartFault};
 use geom::How;
 
-/// Takes all items by a span with its own burst, and puts them on another ring by one that is given them by value.
+/// Takes all items by a span with its own burst, and puts them on another ring by a span that is given them by value.
 fn move_by_value(
     f: &Rings,
     hand: Hand<Ticket>,
@@ -35,7 +35,7 @@ fn move_by_value(
     Ok(hand)
 }
 
-/// The same by spans that are lent a list, whole or a first part of it.
+/// The same by spans that borrow a list, the whole list or a first part of it.
 fn move_lent(
     f: &Rings,
     hand: Hand<Ticket>,

@@ -47,7 +47,7 @@ pub fn taken<'f>(
     }
 }
 
-/// A whole put of a list by value; what it didn't move is in the list then.
+/// A whole put of a list by value; what it didn't move is in the list afterwards.
 fn put<'f, R: Wait>(
     rt: &R,
     f: &'f Rings,
@@ -71,7 +71,7 @@ fn put<'f, R: Wait>(
     answer
 }
 
-/// A whole put that is lent the list.
+/// A whole put that borrows the list.
 fn put_from<'f, R: Wait>(
     rt: &R,
     f: &'f Rings,
@@ -92,7 +92,7 @@ fn put_from<'f, R: Wait>(
     }
 }
 
-/// The same of items that are the hand's to put: others are refused here.
+/// The same for items that are the hand's to put: others are refused here.
 fn put_own_from<'f, R: Wait>(
     rt: &R,
     f: &'f Rings,
@@ -114,7 +114,7 @@ fn put_own_from<'f, R: Wait>(
     }
 }
 
-/// A whole take that gives a list by value.
+/// A whole take that returns a list by value.
 fn take<'f, R: Wait>(
     rt: &R,
     f: &'f Rings,
@@ -138,7 +138,7 @@ fn take<'f, R: Wait>(
     answer
 }
 
-/// A whole take that is lent the list.
+/// A whole take that borrows the list.
 fn take_into<'f, R: Wait>(
     rt: &R,
     f: &'f Rings,
@@ -163,7 +163,7 @@ fn take_into<'f, R: Wait>(
     answer
 }
 
-/// Moves all items to the first ring, on to the second and back, by calls that wait or don't, by bulk or by burst.
+/// Moves all items to the first ring, on to the second and back, by calls that wait or don't, with bulk or burst.
 fn around<R: Wait>(
     rt: &R,
     f: &Rings,

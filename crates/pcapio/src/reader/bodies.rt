@@ -23,10 +23,10 @@ use std::alloc::{AllocError, Global};
 use std::io::Read;
 
 impl<R: Read> Reader<R> {
-    /// Skips the bytes of the pending record. `false`: the file ended in them. Asked: a head is pending. It takes no
-    /// memory.
+    /// Skips the bytes of the pending record. `false`: the file ended inside them. Requires: a head is pending. Takes
+    /// no memory.
     ///
-    /// Refused with 5 `Read` where the device failed.
+    /// Errors: 5 `Read` if the device failed.
     pub fn skip(&mut self) -> Result<bool, CapFault>
         requires pending { IsSome (pending_of self.old) }
         ensures file { IsSameFile self.old self.new }
@@ -46,10 +46,10 @@ impl<R: Read> Reader<R> {
     }
 
     /// Reads the bytes of the pending record into the segments of a chain, from the first on. `false`: the file ended
-    /// in them, and the chain is fresh. Asked: a head is pending, and the chain has space for its bytes. What was in
-    /// the chain is overwritten. It takes no memory.
+    /// inside them, and the chain is fresh. Requires: a head is pending, and the chain has space for its bytes. The
+    /// chain's previous bytes are overwritten. Takes no memory.
     ///
-    /// Refused with 5 `Read` where the device failed, and the chain is then fresh.
+    /// Errors: 5 `Read` if the device failed; the chain is then fresh.
     pub fn body(&mut self, chain: &mut Chain) -> Result<bool, CapFault>
         requires pending { IsSome (pending_of self.old) }
         requires space { ForSome (pending_of self.old) (λ head. head.captured ≤ space_of chain.old) }
@@ -75,10 +75,10 @@ impl<R: Read> Reader<R> {
         }
     }
 
-    /// The next record with its bytes, where there is one; the pending one, where a head is pending. It takes memory
-    /// for the bytes.
+    /// The next record with its bytes, if there is one; the pending one, if a head is pending. Takes memory for the
+    /// bytes.
     ///
-    /// Refused with 4 `BadRecord` and 5 `Read` as `head`, and with 7 `Memory`.
+    /// Errors: 4 `BadRecord` and 5 `Read` as for `head`, and 7 `Memory`.
     pub fn next(&mut self, alloc: Global) -> Result<Option<Record>, CapFault>
         ensures file { IsSameFile self.old self.new }
         ensures record { IfOk result (λ found. IfSome found (λ it. Takes R.remaining self.old self.new (view it))) }
@@ -128,7 +128,7 @@ impl<R: Read> Reader<R> {
         }
     }
 
-    /// Lets go of the pending record's header. What it ensures is what the bytes that are read next will mean.
+    /// Consumes the header of the pending record. What it ensures is what the next bytes that are read will mean.
     fn take_head(&mut self) -> Head
         requires pending { IsSome (pending_of self.old) }
         ensures pending { pending_of self.old ≡ Some result }
@@ -146,7 +146,7 @@ impl<R: Read> Reader<R> {
         head
     }
 
-    /// The bytes of a record were read, all of them or those that there are.
+    /// Moves on after the bytes of a record were read, all of them or those that there are.
     fn pass(&mut self, all: bool) -> bool
         ensures all { result ≡ all }
         ensures state { state_of self.new ≡ after_bytes all }
@@ -163,7 +163,7 @@ impl<R: Read> Reader<R> {
     }
 }
 
-/// So many bytes, all 0.
+/// `count` bytes, all 0.
 fn zeros(alloc: Global, count: usize) -> Result<Vec<u8>, AllocError>
     ensures { IfOk result (λ bytes. length bytes.items ≡ count) }
 {

@@ -1,4 +1,4 @@
-//! The steps of the machine, one function each, said of the lists that a world keeps.
+//! The steps of the machine, one function each, in terms of the lists that a world keeps.
 
 ghost use Rattle.std.specs.Prelude.{◌≡◌, ◌<◌, is_some, vec_len, if◌then◌else◌, slice_set, IfOk, OnErr};
 ghost use Rattle.geom.specs.Plan.{mode_of};
@@ -64,7 +64,7 @@ impl World {
         room(&self.rings[ring].ring, ring, side, &mut self.members[actor])
     }
 
-    /// Exchanges the own word of a side, if it is the one looked at.
+    /// Exchanges the own word of a side, if it is still the one looked at.
     pub(super) fn reserve_step(
         &mut self,
         actor: usize,

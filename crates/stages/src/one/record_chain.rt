@@ -1,4 +1,4 @@
-//! The chain into which a run by one thread reads each record, one after the other.
+//! The chain into which a run by one thread reads each record, one after another.
 ghost use Rattle.std.specs.Prelude.{◌≤◌, ◌<◌, ◌*◌, min, IfOk};
 ghost use Rattle.mbuf.specs.Chain.{space_of};
 
@@ -7,11 +7,11 @@ use mbuf::{Chain, make};
 use pcapio::MAX_CAPTURED;
 use std::alloc::{AllocError, Global};
 
-/// The most bytes that a segment has room for.
+/// The maximum room of a segment, in bytes.
 const MAX_ROOM: usize = 65_536;
 
-/// A chain with space for the longest record that isn't oversize. How long its segments are shows nowhere, so they are
-/// as long as may be: a call on a chain goes over its segments.
+/// A chain with space for the longest record that isn't oversize. The length of its segments makes no visible
+/// difference, so they are as long as possible: a call on a chain visits its segments.
 pub(crate) fn longest_chain(
     alloc: Global,
     headroom: usize,
@@ -38,7 +38,7 @@ pub(crate) fn longest_chain(
     Ok(whole)
 }
 
-/// How many segments, each as long as may be, have room for so many bytes.
+/// How many segments of the maximum length have room for this many bytes.
 fn segments_for(longest: usize) -> u32
     requires { longest ≤ 262144 }
     ensures nonzero { 0 < result }

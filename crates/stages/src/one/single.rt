@@ -21,8 +21,8 @@ use pcapio::Reader;
 use stages_laws::Run;
 use std::io::{Read, Write};
 
-/// Takes each record of the input to the ports. Asked: the reader is before the first one, and so is the sink; the
-/// chain has space for each record that is not oversize.
+/// Takes each record of the input to the ports. Requires: reader and sink are before the first one; the chain has space
+/// for each record that isn't oversize.
 pub(crate) fn forward_all<J: Run, R: Read, W: Write + Drop>(
     reader: &mut Reader<R>,
     sink: &mut Sink<J, W>,
@@ -49,7 +49,7 @@ pub(crate) fn forward_all<J: Run, R: Read, W: Write + Drop>(
     ensures cause { IfErr result (WhyStopped J.input reader.old reader.new sink.new.outputs.failed) }
 {
     let mut progress = ReadState::new(ports.sources.len());
-    // a record a turn: an input with 2^64 - 1 records or more is answered with `Window`
+    // one record per turn: the result for an input with 2^64 - 1 records or more is `Window`
     for _turn in 0..u64::MAX {
         let head = match look::<J, R>(reader, &mut progress, room) {
             Ok(NextRecord::Record(head)) => head,

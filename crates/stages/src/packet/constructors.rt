@@ -1,4 +1,4 @@
-//! How what stands on the rings is made.
+//! Constructors of what is on the rings.
 ghost use Rattle.std.specs.Prelude.{◌≡◌, ◌≤◌, length};
 ghost use Rattle.mbuf.specs.Chain.{bytes_of};
 ghost use Rattle.pcapio.specs.Record.{packet_in};
@@ -11,7 +11,7 @@ use stages_laws::Run;
 use std::marker::PhantomData;
 
 impl<J: Run> Packet<J> {
-    /// A segment that no packet uses. Asked: it is one.
+    /// A segment that isn't in use by a packet. Requires: the chain has one segment.
     pub fn free(chain: Chain) -> Packet<J>
         requires one { length chain ≡ 1 }
         ensures { IsFree result chain }
@@ -22,8 +22,8 @@ impl<J: Run> Packet<J> {
         })
     }
 
-    /// A packet before its verdict. Asked: it is the record of this number, from 0, among the records of the run's
-    /// input that aren't oversize, and it was at least as long on the wire.
+    /// A packet before its verdict. Requires: it is the record with this number, from 0, among the records of the run's
+    /// input that aren't oversize, and its length on the wire is at least its captured length.
     pub fn before(seq: u64, seconds: u32, fraction: u32, wire: u32, chain: Chain) -> Packet<J>
         requires record { IsRecord J.input J.room seq (packet_in seconds fraction wire chain) }
         requires captured { length (bytes_of chain) ≤ wire }

@@ -1,4 +1,4 @@
-//! The end of a run's writers: what waits in them is written, and their devices are given back.
+//! Closing a run's writers: what is waiting in them is written, and their devices are handed back.
 ghost use Rattle.std.specs.Prelude.{◌≡◌, ◌≤◌, ◌<◌, [], ℕ, None, Some, length, vec_len, vec_capacity};
 ghost use Rattle.stages.specs.Ports.{AreWell, devices_of};
 ghost use Rattle.stages.specs.PortSteps.{AllBegun, AllTold, AreTold, AreCutShort};
@@ -8,7 +8,7 @@ use crate::ports::Outputs;
 use pcapio::{Counted, Writer};
 use std::io::Write;
 
-/// Writes what waits, port by port. The port whose device fails is told, and then no later one is written to.
+/// Writes what is waiting, port by port. Returns the port whose device fails; no later one is then written to.
 pub(crate) fn flush_all<W: Write + Drop>(writers: &mut Vec<Writer<W>>) -> Option<u32>
     requires no_failure { AreWell writers.old.items }
     requires at_most { vec_len writers.old ≤ 16 }
@@ -28,7 +28,7 @@ pub(crate) fn flush_all<W: Write + Drop>(writers: &mut Vec<Writer<W>>) -> Option
     None
 }
 
-/// The devices of the writers, in `spare`. What waits isn't written.
+/// The devices of the writers, in `spare`. What is waiting isn't written.
 pub(crate) fn into_devices<W: Write + Drop>(
     writers: Vec<Writer<W>>,
     mut spare: Vec<Counted<W>>,
@@ -43,7 +43,7 @@ pub(crate) fn into_devices<W: Write + Drop>(
     spare
 }
 
-/// Writes what waits, unless a device failed before, and gives the devices back with the port that failed, if one did.
+/// Writes what is waiting, unless a device has failed before, and hands the devices back with the failed port, if any.
 pub(crate) fn close<W: Write + Drop>(
     outputs: Outputs<W>,
     spare: Vec<Counted<W>>,

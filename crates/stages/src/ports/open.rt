@@ -1,4 +1,4 @@
-//! How the writers of a run are opened, and how their devices are given back.
+//! Opening the writers of a run, and handing their devices back.
 ghost use Rattle.std.specs.Prelude.{◌≡◌, ◌+◌, ◌≤◌, ◌++◌, [], None, IfOk, IfErr, reverse, vec_len, vec_capacity};
 ghost use Rattle.stages.specs.Ports.{AreFresh, devices_of};
 
@@ -7,7 +7,7 @@ use pcapio::{Counted, Resolution, Writer};
 use std::alloc::Global;
 use std::io::Write;
 
-/// Writers on these devices, in their order, and the emptied list. Refused for want of memory with all devices back.
+/// Writers on these devices, in their order, and the emptied list. Errors: out of memory, with all devices handed back.
 pub(crate) fn open_all<W: Write + Drop>(
     alloc: Global,
     mut devices: Vec<Counted<W>>,
@@ -43,7 +43,7 @@ pub(crate) fn open_all<W: Write + Drop>(
     ))
 }
 
-/// Puts the devices of the writers behind the others, from the last writer on.
+/// Appends the devices of the writers to the others, from the last writer on.
 fn return_devices<W: Write + Drop>(devices: &mut Vec<Counted<W>>, mut writers: Vec<Writer<W>>)
     requires room { vec_len devices.old + vec_len writers ≤ vec_capacity devices.old }
     ensures { devices.new.items ≡ devices.old.items ++ reverse (devices_of writers.items) }

@@ -1,4 +1,4 @@
-//! What a reader tells at its end.
+//! What a reader reports at its end.
 ghost use Rattle.std.specs.Prelude.{◌≡◌, ◌+◌, ◌<◌, ◌^◌, length};
 ghost use Rattle.counters.specs.Tally.{records_of};
 ghost use Rattle.stages.specs.InputTotals.{IsCount, IsShare, HasEnd};

@@ -5,10 +5,10 @@ use pcapio::Head;
 /// What a reader finds next in its input.
 #[derive(Clone, Copy)]
 pub(crate) enum NextRecord {
-    /// The head of a record; its bytes are still to be read.
+    /// The head of a record, whose bytes are still to be read.
     Record(Head),
-    /// A record with more bytes than a packet takes.
+    /// A record with more bytes than a packet can take.
     Oversize,
-    /// No further record, and whether the file ends inside one.
+    /// No further record; whether the file ends inside one.
     Ended(bool),
 }

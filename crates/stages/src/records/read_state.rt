@@ -1,4 +1,4 @@
-//! How far the reader of a run is in its input.
+//! How far the reader of a run has got in its input.
 ghost use Rattle.std.specs.Prelude.{◌≡◌, ◌≤◌, ◌<◌, ◌+◌, ◌^◌, [], length};
 ghost use Rattle.counters.specs.Counted.{counts_of};
 ghost use Rattle.counters.specs.Tally.{records_of};
@@ -9,7 +9,7 @@ use counters::Counts;
 use stages_laws::Run;
 use std::marker::PhantomData;
 
-/// How many records were numbered so far, and the counts of those that are oversize.
+/// How many records have been numbered so far, and the counts of the oversize ones.
 #[derive(Drop)]
 pub(crate) struct ReadState {
     pub(crate) count: u64,
@@ -17,7 +17,7 @@ pub(crate) struct ReadState {
 }
 
 impl ReadState {
-    /// Before the first record of an input, for so many ports.
+    /// Before the first record of an input, with this many ports.
     pub(crate) fn new(ports: usize) -> ReadState
         requires nonzero { 0 < ports }
         requires at_most { ports ≤ 16 }
@@ -30,7 +30,7 @@ impl ReadState {
         }
     }
 
-    /// What is told at the end of the input.
+    /// What is reported at the end of the input.
     pub(crate) fn into_totals<J: Run>(self, torn: bool) -> InputTotals<J>
         requires all { IsAll J.input J.room (length J.before) self torn }
         requires bounded { self.count + records_of self.share < 2 ^ 64 }

@@ -1,4 +1,4 @@
-//! Puts of whole lists, as room comes.
+//! Puts of whole lists, as room becomes available.
 ghost use Rattle.std.specs.Prelude.{◌≡◌, ◌<◌, ℕ, [], length, IfOk, IfErr, false};
 ghost use Rattle.fabric.specs.Hands.{IsHandOf, OnRing, rings_of, view};
 ghost use Rattle.fabric.specs.Settles.{AreYours};
@@ -23,8 +23,8 @@ fn wants_room(refusal: Refusal) -> bool
     }
 }
 
-/// Puts all items of a list, from its front, as many at a time as there is room for. Asked: they are the hand's to put.
-/// Refused where the ring is worn; the list then has those that were not put.
+/// Puts all items of a list, from its front, as many at a time as there is room for. Requires: the hand may put them.
+/// Errors: only if the ring is worn; the list then has the items that were not put.
 pub(crate) fn put_all<T: Tagged, const N: usize, S: Stored<T>, R: Wait>(
     rt: &R,
     f: &Fabric<T, N, S>,

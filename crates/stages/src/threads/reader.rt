@@ -1,4 +1,4 @@
-//! The reader of a run in threads: it reads each record into free segments, and gives it to the workers.
+//! The reader of a run in threads: it reads each record into free segments, and sends it to the workers.
 ghost use Rattle.std.specs.Prelude.{◌≡◌, ◌≤◌, ◌<◌, ◌⊎◌, ◌*◌, ◌-◌, max, length, IfOk, IfErr};
 ghost use Rattle.mbuf.specs.Chain.{space_of};
 ghost use Rattle.stages.specs.Begun.{GoesBy, HasInput};
@@ -24,7 +24,7 @@ use stages_laws::Run;
 use std::io::Read;
 use std::sync::Wait;
 
-/// How many segments a record takes: as many as have room for its bytes, and one at least.
+/// How many segments a record takes: enough for its bytes, and at least one.
 fn segments_of(captured: usize, room: usize) -> usize
     requires room { 0 < room }
     requires small { room ≤ 65536 }
@@ -40,8 +40,8 @@ fn segments_of(captured: usize, room: usize) -> usize
     (captured - 1) / room + 1
 }
 
-/// Free segments for a record, as soon as there are so many. Before it waits for them, packets that wait to be put
-/// together are put.
+/// Free segments for a record, as soon as there are enough. Before waiting for them, puts the packets that wait to be
+/// put together.
 fn obtain<J: Run, T: Wait>(
     rt: &T,
     ring_port: &mut RingPort<'_, Packet<J>>,
@@ -81,7 +81,7 @@ fn obtain<J: Run, T: Wait>(
     unreachable!()
 }
 
-/// Puts a packet to those that wait to be put together, which are put before it where they are as many as a burst.
+/// Adds a packet to those that wait to be put together, after putting them if they fill a burst.
 fn enqueue<J: Run, T: Wait>(
     rt: &T,
     ring_port: &mut RingPort<'_, Packet<J>>,
@@ -99,7 +99,7 @@ fn enqueue<J: Run, T: Wait>(
     Ok(())
 }
 
-/// Reads all records, and puts each on the input ring; the last ones wait in `batch` then.
+/// Reads all records, and puts each on the input ring; the last ones then wait in `batch`.
 fn read_all<J: Run, R: Read, T: Wait>(
     rt: &T,
     ring_port: &mut RingPort<'_, Packet<J>>,
@@ -115,7 +115,7 @@ fn read_all<J: Run, R: Read, T: Wait>(
     let burst = settings.burst as usize;
     let mut got = Burst::<Packet<J>, SPAN>::new();
     let mut progress = ReadState::new(settings.ports.sources.len());
-    // a record a turn: an input with 2^64 - 1 records or more is answered with `Window`
+    // one record per turn: the result for an input with 2^64 - 1 records or more is `Window`
     for _turn in 0..u64::MAX {
         let head = match look::<J, R>(reader, &mut progress, room) {
             Ok(NextRecord::Record(head)) => head,
@@ -158,7 +158,7 @@ pub(crate) fn dismiss<J: Run, T: Wait>(
     ring_port.send(rt, INPUT, batch)
 }
 
-/// The reader: reads all records, gives each to the workers, and then an end mark to each worker, whatever happens.
+/// The reader: reads all records, sends each to the workers, and then an end mark for each worker, whatever happens.
 pub(crate) fn feed<J: Run, R: Read, T: Wait>(
     rt: &T,
     mut ring_port: RingPort<'_, Packet<J>>,

@@ -1,4 +1,4 @@
-//! What the reader of a run in threads leaves.
+//! The outcome of the reader of a run in threads.
 ghost use Rattle.std.specs.Prelude.{◌≡◌, ◌⊎◌, Err, Ok};
 ghost use Rattle.stages.specs.Feeding.{ReadFailed, IsHere, IsNoCapture, WroteNothing};
 ghost use Rattle.stages.specs.Faults.{fault_of_stage, lower_of};
@@ -12,7 +12,7 @@ use pcapio::{Counted, Reader};
 use stages_laws::Run;
 use std::io::Read;
 
-/// The input's device, where its thread could be started, and what was read of it.
+/// The input's device, if its thread could be started, and what was read from it.
 #[derive(Drop)]
 pub(crate) struct ReaderOutcome<J: Run, R> {
     pub(crate) device: Option<Counted<R>>,
@@ -34,7 +34,7 @@ impl<J: Run, R: Read> ReaderOutcome<J, R> {
         }
     }
 
-    /// The reader's own thread couldn't be started, and what was given to it is gone.
+    /// The reader's own thread couldn't be started, and what was given to it is lost.
     pub(crate) fn lost() -> ReaderOutcome<J, R> {
         ReaderOutcome {
             device: None,
@@ -42,7 +42,7 @@ impl<J: Run, R: Read> ReaderOutcome<J, R> {
         }
     }
 
-    /// The same, where the sink couldn't go on.
+    /// The same, if the sink couldn't continue.
     pub(crate) fn with(self, drained: Result<(), StageFault>) -> ReaderOutcome<J, R>
         ensures exact { (found : StageFault) (fault : RunFault) → drained ≡ Err found → self.answer ≡ Err fault
             → result.answer ≡ Err (lower_of fault (fault_of_stage found)) }

@@ -1,4 +1,4 @@
-//! The place of a thread of a run at the rings: its hand, with a cache of segments that no packet uses.
+//! A thread's access to the rings of a run: its hand, with a cache of segments not in use.
 ghost use Rattle.std.specs.Prelude.{◌≡◌, ◌<◌, ◌≤◌, ◌↔◌, ℕ, [], length, None, Some, IfOk, IfErr};
 ghost use Rattle.std.specs.List.{flat_map};
 ghost use Rattle.burst.specs.Numbers.{AreDistinct};
@@ -16,7 +16,7 @@ use pool::{Local, PoolFault};
 use ringapi::Refusal;
 use std::sync::Wait;
 
-/// A thread's place at the rings of a run.
+/// A thread's access to the rings of a run.
 #[derive(Drop)]
 pub(crate) struct RingPort<'f, T: Tagged, S: Stored<T> = Option<T>> {
     fabric: &'f Fabric<T, SPAN, S>,
@@ -25,7 +25,7 @@ pub(crate) struct RingPort<'f, T: Tagged, S: Stored<T> = Option<T>> {
     pub ghost rings: { AreRings (rings_of fabric.now) },
 }
 
-/// A hand in front of an empty cache.
+/// A hand with an empty cache.
 fn fresh<T: Tagged, S: Stored<T>>(
     f: &Fabric<T, SPAN, S>,
     hand: Hand<T, S>,
@@ -42,7 +42,7 @@ fn fresh<T: Tagged, S: Stored<T>>(
     }
 }
 
-/// Why a put goes no further, where it doesn't wait for room.
+/// Why a put can't continue, unless it waits for room.
 fn fault_of(refusal: Refusal) -> Option<StageFault>
     ensures room { (n : ℕ) → refusal ≡ Refusal.Start (StartFault.NoRoom n) → result ≡ None }
     ensures worn { refusal ≡ Refusal.Start StartFault.Worn ↔ result ≡ Some StageFault.Worn }
@@ -54,7 +54,7 @@ fn fault_of(refusal: Refusal) -> Option<StageFault>
     }
 }
 
-/// Why segments weren't given back.
+/// Why segments weren't returned.
 fn why_kept(fault: PoolFault) -> StageFault
     ensures { fault ≡ PoolFault.Worn ↔ result ≡ StageFault.Worn }
 {
@@ -65,7 +65,7 @@ fn why_kept(fault: PoolFault) -> StageFault
 }
 
 impl<'f, T: Tagged, S: Stored<T>> RingPort<'f, T, S> {
-    /// A place for this hand, with an empty cache.
+    /// Access with this hand, with an empty cache.
     pub(crate) fn new(
         f: &'f Fabric<T, SPAN, S>,
         hand: Hand<T, S>,
@@ -81,8 +81,8 @@ impl<'f, T: Tagged, S: Stored<T>> RingPort<'f, T, S> {
         }
     }
 
-    /// Takes `n` segments from the cache and their ring into an empty list. Refused where there are too few, and where
-    /// the ring is worn.
+    /// Takes `n` segments from the cache and their ring into an empty list. Errors: too few segments, or the ring is
+    /// worn.
     pub(crate) fn get<R: Wait>(
         &mut self,
         rt: &R,
@@ -97,7 +97,7 @@ impl<'f, T: Tagged, S: Stored<T>> RingPort<'f, T, S> {
         self.local.get_into(rt, self.fabric, n, into)
     }
 
-    /// Gives segments back, at most 64. Refused where they aren't this hand's, and where the ring is worn.
+    /// Returns segments to the cache and their ring, at most 64. Errors: they aren't this hand's, or the ring is worn.
     pub(crate) fn put<R: Wait>(
         &mut self,
         rt: &R,
@@ -114,7 +114,7 @@ impl<'f, T: Tagged, S: Stored<T>> RingPort<'f, T, S> {
         }
     }
 
-    /// Puts all packets of a list on a ring, as room comes.
+    /// Puts all packets of a list on a ring, as room becomes available.
     pub(crate) fn send<R: Wait>(
         &mut self,
         rt: &R,
@@ -141,7 +141,7 @@ impl<'f, T: Tagged, S: Stored<T>> RingPort<'f, T, S> {
         unreachable!()
     }
 
-    /// Takes at most `n` packets from a ring into an empty list, as many as there are; none where there are none.
+    /// Takes at most `n` packets from a ring into an empty list, as many as there are; none if there are none.
     pub(crate) fn receive<R: Wait>(
         &mut self,
         rt: &R,

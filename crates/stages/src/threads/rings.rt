@@ -1,4 +1,4 @@
-//! The rings of a run in threads, and the segments that stand on them.
+//! The rings of a run in threads, and the segments on them.
 ghost use Rattle.std.specs.Prelude.{◌≡◌, ◌<◌, [], IfOk, IfSome};
 ghost use Rattle.fabric.specs.Hands.{IsHandOf, rings_of};
 ghost use Rattle.stages.specs.Passing.{AreRings, AreAsked};
@@ -15,10 +15,10 @@ use stages_laws::Run;
 use std::alloc::Global;
 use std::sync::Wait;
 
-/// The most items of one span on them.
+/// The maximum number of items of one span on them.
 pub(crate) const SPAN: usize = 256;
 
-/// The ring of segments that no packet uses.
+/// The ring of segments not in use.
 pub(crate) const FREE: usize = 0;
 
 /// The ring of packets before their verdict.
@@ -27,7 +27,7 @@ pub(crate) const INPUT: usize = 1;
 /// The ring of packets after their verdict.
 pub(crate) const OUTPUT: usize = 2;
 
-/// The rings: free segments; packets before their verdict, at which workers peek; packets after it. None for want of
+/// The rings: free segments; packets before their verdict, at which workers peek; packets after it. `None` if out of
 /// memory.
 fn plans(alloc: Global, settings: &Settings) -> Option<Vec<RingPlan>>
     ensures rings { IfSome result (λ rings. AreRings rings.items) }
@@ -49,7 +49,7 @@ fn plans(alloc: Global, settings: &Settings) -> Option<Vec<RingPlan>>
     .ok()
 }
 
-/// The segments, each as it stands on the ring of free ones. None for want of memory.
+/// The segments, each as an item of the ring of free ones. `None` if out of memory.
 fn segments<J: Run>(alloc: Global, settings: &Settings) -> Option<Vec<Packet<J>>> {
     let room = settings.room as usize;
     let chains = make(alloc, settings.buffers, settings.headroom as usize, room).ok()?;
@@ -63,7 +63,7 @@ fn segments<J: Run>(alloc: Global, settings: &Settings) -> Option<Vec<Packet<J>>
     Some(list)
 }
 
-/// The rings, all empty, the segments, and a hand that has them all. None for want of memory.
+/// The rings, all empty, the segments, and a hand that has them all. `None` if out of memory.
 pub(crate) fn open_rings<J: Run>(
     alloc: Global,
     settings: &Settings,
@@ -78,7 +78,7 @@ pub(crate) fn open_rings<J: Run>(
     }
 }
 
-/// Puts these segments on their ring. Refused where they aren't the hand's, or the ring is worn.
+/// Puts these segments on their ring. Errors: they aren't the hand's, or the ring is worn.
 fn free_all<J: Run, T: Wait>(
     rt: &T,
     f: &Fabric<Packet<J>, SPAN>,
@@ -119,7 +119,7 @@ pub(crate) fn fill<J: Run, T: Wait>(
         }
         list.push(item);
     }
-    // arm by arm, so that the proof has each answer by itself
+    // arm by arm, so that the proof has each case separately
     match free_all(rt, f, hand, &mut list) {
         Ok(hand) => Ok(hand),
         Err(fault) => Err(fault),

@@ -1,4 +1,4 @@
-//! Segments that no packet uses: linked to a chain, and taken off one.
+//! Segments not in use: linking them to a chain, and taking them off one.
 ghost use Rattle.std.specs.Prelude.{◌≡◌, ◌≤◌, length};
 ghost use Rattle.std.specs.List.{flat_map};
 ghost use Rattle.burst.specs.Numbers.{AreDistinct};
@@ -13,10 +13,10 @@ use mbuf::Chain;
 use stages_laws::Run;
 use std::sync::Wait;
 
-/// The most segments that are given back at once.
+/// The maximum number of segments that are freed at once.
 const MAX_FREE: usize = 64;
 
-/// Links free segments, from the first on, to one chain. None where there are none, or one of them isn't free.
+/// Links free segments, from the first on, to one chain. `None` if there are none, or one of them isn't free.
 pub(crate) fn link<J: Run>(got: &mut Burst<Packet<J>, SPAN>) -> Option<Chain>
     requires apart { AreDistinct (flat_map packet_numbers got.old) }
 {
@@ -36,8 +36,8 @@ pub(crate) fn link<J: Run>(got: &mut Burst<Packet<J>, SPAN>) -> Option<Chain>
     Some(whole)
 }
 
-/// Puts the segments of a packet behind those that are to be given back, which are given back where they are many.
-/// After a refusal the others of these are lost.
+/// Appends the segments of a packet to those that are to be freed, which are freed if there are many. After an error
+/// the rest of these are lost.
 pub(crate) fn release<J: Run, R: Wait>(
     rt: &R,
     ring_port: &mut RingPort<'_, Packet<J>>,
@@ -59,7 +59,7 @@ pub(crate) fn release<J: Run, R: Wait>(
     Ok(())
 }
 
-/// Gives segments back, and leaves none in the list.
+/// Frees segments, and leaves the list empty.
 pub(crate) fn give_back<J: Run, R: Wait>(
     rt: &R,
     ring_port: &mut RingPort<'_, Packet<J>>,

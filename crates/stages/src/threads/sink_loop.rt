@@ -13,7 +13,7 @@ use stages_laws::Run;
 use std::io::Write;
 use std::sync::Wait;
 
-/// Lets all packets go whose turn it is, and gives their segments back.
+/// Releases all packets whose turn it is, and frees their segments.
 fn let_go<J: Run, W: Write + Drop, T: Wait>(
     rt: &T,
     ring_port: &mut RingPort<'_, Packet<J>>,
@@ -33,7 +33,7 @@ fn let_go<J: Run, W: Write + Drop, T: Wait>(
     unreachable!()
 }
 
-/// Takes what stood on the output ring, and tells whether it is an end mark.
+/// Handles an item from the output ring, and returns whether it is an end mark.
 fn handle<J: Run, W: Write + Drop, T: Wait>(
     rt: &T,
     ring_port: &mut RingPort<'_, Packet<J>>,
@@ -68,7 +68,7 @@ fn handle<J: Run, W: Write + Drop, T: Wait>(
     }
 }
 
-/// Takes what was received, in order; gives the number of end marks, and the first fault.
+/// Handles what was received, in order; returns the number of end marks, and the first fault.
 fn handle_all<J: Run, W: Write + Drop, T: Wait>(
     rt: &T,
     ring_port: &mut RingPort<'_, Packet<J>>,
@@ -104,8 +104,8 @@ fn handle_all<J: Run, W: Write + Drop, T: Wait>(
     (marks, told)
 }
 
-/// Empties the output ring until it has given as many end marks as there are workers, whatever happens but a ring that
-/// is worn. What it finds doesn't stop it: packets go on to come, and their segments are given back.
+/// Empties the output ring until it has received as many end marks as there are workers, whatever happens, unless a
+/// ring is worn. No packet that it finds stops it: packets continue to come, and their segments are freed.
 pub(crate) fn drain<J: Run, W: Write + Drop, T: Wait>(
     rt: &T,
     ring_port: &mut RingPort<'_, Packet<J>>,
@@ -133,7 +133,7 @@ pub(crate) fn drain<J: Run, W: Write + Drop, T: Wait>(
         }
         backoff.reset();
         let (marks, found) = handle_all(rt, ring_port, sink, &mut items, &mut free);
-        // a worker passes one mark on; that no more come than there are workers is said by no clause
+        // a worker passes one mark on; no clause states that there are no more of them than workers
         left = left.saturating_sub(marks);
         let given = give_back(rt, ring_port, &mut free);
         if told.is_ok() {

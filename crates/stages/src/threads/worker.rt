@@ -29,7 +29,7 @@ use std::sync::Wait;
 pub struct Worked<T: Tagged, S: Stored<T> = Option<T>> {
     /// Its hand.
     pub hand: Hand<T, S>,
-    /// Whether it ended since the positions of a ring are used up.
+    /// Whether it ended because the positions of a ring are used up.
     pub worn: bool,
 }
 
@@ -64,7 +64,7 @@ pub(crate) fn is_end<J: Run>(packet: &Packet<J>) -> bool
     }
 }
 
-/// How many packets there are up to the first end mark, with it.
+/// How many packets there are up to the first end mark, inclusive.
 fn first_part<J: Run>(items: &Burst<Packet<J>, SPAN>) -> usize
     ensures part { take result items.now ≡ until_mark items.now }
     ensures fits { result ≤ length items.now }
@@ -82,8 +82,8 @@ fn first_part<J: Run>(items: &Burst<Packet<J>, SPAN>) -> usize
     items.len()
 }
 
-/// Takes packets from the input ring into an empty list, as soon as there are some: at most `burst`, and none behind
-/// the first end mark. Refused where the ring is worn.
+/// Takes packets from the input ring into an empty list, as soon as there are some: at most `burst`, and none after the
+/// first end mark. Errors: the ring is worn.
 fn take_batch<J: Run, R: Wait>(
     rt: &R,
     f: &Fabric<Packet<J>, SPAN>,
@@ -123,7 +123,7 @@ fn take_batch<J: Run, R: Wait>(
     unreachable!()
 }
 
-/// Judges packets, in order, into an empty list. Tells whether one of them is an end mark.
+/// Judges packets, in order, into an empty list. Returns whether one of them is an end mark.
 fn judge_all<J: Run, G: Gate>(
     gate: &G,
     items: &mut Burst<Packet<J>, SPAN>,
@@ -148,12 +148,12 @@ fn judge_all<J: Run, G: Gate>(
     ended
 }
 
-/// A worker: judges what comes on the input ring, at most `burst` packets at a time, and gives it on to the output ring
-/// in the order in which it came, dropped packets too, until an end mark came and was given on. A free segment and a
-/// packet that has its verdict are given on as they are. It waits for packets and for room.
+/// A worker: judges packets from the input ring, at most `burst` at a time, and puts them on the output ring in the
+/// order in which they came, dropped packets too, until an end mark came and was passed on. A free segment and a packet
+/// that already has its verdict are passed on as they are. It waits for packets and for room.
 ///
-/// Asked: the rings are those of a run in threads, and the table and the ports are the run's; `burst` is 1 to 64. It
-/// ends early, with `worn`, where the positions of a ring are used up.
+/// Requires: the rings are those of a run in threads, and the table and the ports are the run's; `burst` is 1 to 64. It
+/// ends early, with `worn`, if the positions of a ring are used up.
 pub fn work<J: Run, G: Gate, R: Wait>(
     rt: &R,
     gate: &G,

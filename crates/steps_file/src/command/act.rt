@@ -29,7 +29,7 @@ pub fn parse_act(
     }
 }
 
-/// The step that a verb and the words after it name.
+/// The step in a verb and the words after it.
 fn parse_step(alloc: Global, verb: &[u8], words: &[&[u8]]) -> Result<Option<Step>, AllocError>
     ensures { IfOk result (λ step. step ≡ step_of verb.now (texts words.now)) }
 {
@@ -125,7 +125,7 @@ fn parse_settle(alloc: Global, words: &[&[u8]]) -> Result<Option<Step>, AllocErr
     }
 }
 
-/// A settle of a put, where the words were a ring and items.
+/// A settle of a put, if the words were a ring and items.
 fn settle_put(ring: Option<u64>, items: Option<Items>) -> Option<Step>
     ensures { result ≡ settle_put_by ring items }
 {
@@ -135,7 +135,7 @@ fn settle_put(ring: Option<u64>, items: Option<Items>) -> Option<Step>
     }
 }
 
-/// A settle of a take, where the words were a ring and a number.
+/// A settle of a take, if the words were a ring and a number.
 fn settle_take(ring: Option<u64>, n: Option<u64>) -> Option<Step>
     ensures { result ≡ settle_take_by ring n }
 {

@@ -9,10 +9,10 @@ use command_file::number_of;
 use ringcore_laws::{Item, Items, Numbers};
 use std::alloc::{AllocError, Global};
 
-/// How many buffers an item carries at most.
+/// The maximum number of buffers that an item carries.
 const MAX_ITEM_BUFFERS: usize = 64;
 
-/// The numbers that these words are, if all of them are numbers.
+/// The numbers in these words, if all of them are numbers.
 pub fn numbers_of(alloc: Global, words: &[&[u8]]) -> Result<Option<Numbers>, AllocError>
     ensures { IfOk result (λ numbers. numbers ≡ each_of number_of (texts words.now)) }
 {
@@ -26,7 +26,7 @@ pub fn numbers_of(alloc: Global, words: &[&[u8]]) -> Result<Option<Numbers>, All
     Ok(Some(Numbers::of(numbers)))
 }
 
-/// The items that these words are, if all of them are items.
+/// The items in these words, if all of them are items.
 pub fn items_of(alloc: Global, words: &[&[u8]]) -> Result<Option<Items>, AllocError>
     ensures { IfOk result (λ items. items ≡ each_of item_of (texts words.now)) }
 {
@@ -91,7 +91,7 @@ fn several_buffers(alloc: Global, digits: &[u8]) -> Result<Option<Item>, AllocEr
     Ok(numbers.map(Item::Buffers))
 }
 
-/// What stands between the signs `+`.
+/// The parts between the signs `+`.
 fn parts_of<'a>(alloc: Global, digits: &'a [u8]) -> Result<Vec<&'a [u8]>, AllocError>
     ensures { IfOk result (λ parts. texts parts.items ≡ signs_part digits.now) }
 {

@@ -22,7 +22,7 @@ pub fn parse_ring(words: &[&[u8]]) -> Option<PlanLine>
     ring_by(geometry, modes).map(PlanLine::Ring)
 }
 
-/// The geometry that a kind of ring has at a number, unless it is refused.
+/// The geometry of a ring of this kind with this number, unless that is an error.
 fn geometry_for(kind: &[u8], n: Option<u64>) -> Option<Geometry>
     ensures { result ≡ geometry_for kind.now n }
 {
@@ -34,7 +34,7 @@ fn geometry_for(kind: &[u8], n: Option<u64>) -> Option<Geometry>
     }
 }
 
-/// The ring of this geometry by the words after it: one or two modes, and then perhaps `free`.
+/// The ring with this geometry by the words after it: one or two modes, and then optionally `free`.
 fn ring_by(geometry: Geometry, words: &[&[u8]]) -> Option<RingPlan>
     ensures { result ≡ ring_by geometry (texts words.now) }
 {
@@ -47,7 +47,7 @@ fn ring_by(geometry: Geometry, words: &[&[u8]]) -> Option<RingPlan>
     }
 }
 
-/// The ring of these modes, where both words were modes.
+/// The ring with these modes, if both words were modes.
 fn ring_with(
     geometry: Geometry,
     free: bool,

@@ -8,7 +8,7 @@ ghost use Rattle.steps_file.specs.Forms.{only_number, mode_named, side_named};
 use command_file::number_of;
 use geom::{Mode, Side};
 
-/// Whether a word is this one.
+/// Whether a word is equal to this text.
 pub fn is_word(word: &[u8], text: &[u8]) -> bool
     ensures { result ≡ bytes_eq word.now text.now }
 {

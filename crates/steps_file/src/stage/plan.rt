@@ -1,4 +1,4 @@
-//! The plan that the first lines of a steps file name.
+//! The plan in the first lines of a steps file.
 
 ghost use Rattle.std.specs.Prelude.{true, ◌≡◌, ◌+◌, ◌<◌, ◌≤◌, ℕ, min, length, map, slice_index, slice_index_or, IfOk, IfSome, OnOk, ◌++◌, Err, None, is_some};
 ghost use Rattle.std.specs.Option.{unwrap_or};
@@ -10,10 +10,10 @@ use geom::RingPlan;
 use ringcore::{World, WorldFault, WorldPlan};
 use std::alloc::{AllocError, Global};
 
-/// The most buffers, as buffers are numbered in a file.
+/// The maximum number of buffers, in the type of a file's buffer numbers.
 const MAX_BUFFERS: u64 = geom::MAX_BUFFERS as u64;
 
-/// What the plan lines so far name.
+/// What the plan lines so far have named.
 #[derive(Drop)]
 pub struct Draft {
     pub rings: Vec<RingPlan>,
@@ -26,7 +26,7 @@ pub struct Draft {
 impl Draft {
     ghost use Rattle.steps_file.specs.Plans.{named, nothing_named, with_line, opened};
 
-    /// The draft of no lines.
+    /// The draft before any line.
     pub fn new(alloc: Global) -> Draft
         ensures { named result ≡ nothing_named }
     {
@@ -49,7 +49,7 @@ impl Draft {
         Ok(())
     }
 
-    /// Opens a world of this plan. Refused where the plan isn't lawful as a whole.
+    /// Opens a world with this plan. Errors: the plan isn't valid as a whole, or out of memory.
     pub fn open(&self, alloc: Global) -> Result<World, WorldFault>
         ensures lawful { OnOk result (IsLawful (named self.now)) }
         ensures opened { IfOk result (λ world. AgreesWith world (opened (named self.now))
@@ -76,7 +76,7 @@ impl Draft {
     }
 }
 
-/// The one number of a list that has one.
+/// The one number of a list, if it has exactly one.
 fn only(counts: &[u64]) -> Option<u64>
     ensures none { result ≡ None → ¬ (length counts.now ≡ 1) }
     ensures one { IfSome result (λ n. (length counts.now ≡ 1) × (n ≡ slice_index counts.now 0)) }
@@ -97,7 +97,7 @@ fn give(gifts: &mut Vec<(u64, u64)>, actor: u64, buffers: &[u64]) -> Result<(), 
     Ok(())
 }
 
-/// The actor that holds each buffer at the opening, if the buffers are 0 to n - 1, each given once.
+/// The actor that holds each buffer at the start, if the buffers are 0 to n - 1, each given once.
 fn opening_gifts(alloc: Global, gifts: &[(u64, u64)]) -> Result<Vec<usize>, WorldFault>
     ensures given { IfOk result (λ g. g.items ≡ gifts_of gifts.now) }
     ensures once { OnOk result (AreGivenOnce gifts.now) }
@@ -112,7 +112,7 @@ fn opening_gifts(alloc: Global, gifts: &[(u64, u64)]) -> Result<Vec<usize>, Worl
     Ok(given)
 }
 
-/// One more than the greatest buffer that is given, as far as there may be so many.
+/// One more than the greatest buffer that is given, up to the maximum number.
 fn count_buffers(gifts: &[(u64, u64)]) -> u64
     ensures { result ≡ min (buffer_count gifts.now) 65537 }
 {

@@ -2,7 +2,7 @@ use Rattle.std.proofs.Common.{ℕ, ◌<◌, ◌≤◌, ◌^◌, arith}
 use Rattle.std.proofs.Math.Nat.{pow-le-pow_right}
 use Rattle.command_file.proofs.number.short_number.Goals as goal
 
--- a value of fewer digits than 19
+-- a value with fewer than 19 digits
 below : (i value : ℕ) → i < 19 → value < 10 ^ i → value < 10 ^ 18
 below i value few small =
     let ten : 0 < 10 = omega arith in

@@ -66,7 +66,7 @@ impl<T: Tagged, S: Stored<T>> CacheHand<T, S> {
         may
     }
 
-    /// Takes the buffer of this item back. Asked: it is set aside. No step on a word.
+    /// Takes the buffer of this item back. Requires: it is set aside. No step on a word.
     #[inline]
     pub fn restore_one(&mut self, item: &T)
         requires kept { AreKept T.numbers self.old (item.now ∷ []) }
@@ -76,7 +76,7 @@ impl<T: Tagged, S: Stored<T>> CacheHand<T, S> {
         self.owned.own_one(item);
     }
 
-    /// Takes the buffers of these items back. Asked: they are set aside. No step on a word.
+    /// Takes the buffers of these items back. Requires: they are set aside. No step on a word.
     #[inline]
     pub fn restore<const N: usize>(&mut self, items: &Burst<T, N>)
         requires kept { AreKept T.numbers self.old items.now }
@@ -86,7 +86,7 @@ impl<T: Tagged, S: Stored<T>> CacheHand<T, S> {
         self.owned.own(items, items.len());
     }
 
-    /// The hand again. Asked: these items carry the buffers that are set aside. No step on a word.
+    /// The hand again. Requires: these items carry the buffers that are set aside. No step on a word.
     pub fn into_hand<const N: usize>(self, items: &Burst<T, N>) -> Hand<T, S>
         requires kept { Keeps T.numbers self items.now }
         ensures { IsCacheHandFor result self }

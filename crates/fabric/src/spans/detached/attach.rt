@@ -16,8 +16,8 @@ impl<T: Tagged, const N: usize, S: Stored<T>> PutOpen<'_, T, N, S> {
     /// The span apart from its fabric.
     pub fn detach(self) -> DetachedPut<T, N, S>
         ensures of { IsDetachedPutOf (put_fabric self.entry) result }
-        ensures same { (detached_put_span result ≡ put_span self.entry) × (detached_put_view result ≡ put_view self.entry)
-            × (result.range.left ≡ put_left self.entry) }
+        ensures same { (detached_put_span result ≡ put_span self.entry)
+            × (detached_put_view result ≡ put_view self.entry) × (result.range.left ≡ put_left self.entry) }
     {
         let PutOpen { ring, share, range } = self;
         DetachedPut {

@@ -2,7 +2,7 @@ use Rattle.std.proofs.Common.{eq-eqb, sym, ◌∙◌, ◌%◌, ◌+◌, ap}
 use Rattle.std.proofs.Math.Nat.{add-mod_right}
 use Rattle.geom.proofs.example.laps.Goals as goal
 
--- a whole lap changes no rest
+-- a whole lap changes no remainder
 pub returns : goal.returns
 returns c =
     let first = c.slot.ensures.value in

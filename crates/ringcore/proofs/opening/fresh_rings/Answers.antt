@@ -15,7 +15,7 @@ use Rattle.ringcore.proofs.Planned.{plans_more, rings_more}
 use Rattle.ringcore.proofs.OpeningSteps.{fresh_more}
 use Rattle.ringcore.proofs.opening.fresh_rings.Goals as goal
 
--- the plan at a number, whatever stands for none
+-- the plan at an index, whatever the default
 plan_at : (plans : List RingPlan) (k : ℕ) (plan p : RingPlan) → k < length plans → slice_index_or plans k plan ≡ slice_index_or plans k p
 plan_at plans k plan p lt = let x = element plans k lt in get_or_from_slice_get plans k x.0 plan x.1 ∙ sym (get_or_from_slice_get plans k x.0 p x.1)
 

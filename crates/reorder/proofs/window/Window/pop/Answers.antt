@@ -10,7 +10,7 @@ returns-in_err-item-clause-item g c =
     c.from_residual.ensures ∙ sym c.in_err-item.was ∙ c.take.ensures.value
     ∙ seen_at_head _ _ _ c.self.invariant _ _ c.index_mut.ensures.value c.self.view_is
 
--- there is an item at `next`, so `next` is not the last number
+-- there is an item at `next`, so `next` isn't the last number
 pub overflow_add-self : goal.overflow_add-self
 overflow_add-self g c =
     let read = c.take.ensures.value ∙ seen_at_head _ _ _ c.self.invariant _ _ c.index_mut.ensures.value refl in

@@ -1,4 +1,4 @@
--- Each arm is the step of the machine that its lemma tells of
+-- Each arm is the step of the machine that its lemma is about
 use Rattle.std.proofs.Common.{◌<◌, length, refl, subst, arith}
 use Rattle.std.specs.Prelude.{◌^◌, vec_len}
 use Rattle.ringcore_laws.specs.declared.protocol.Step.{Step}

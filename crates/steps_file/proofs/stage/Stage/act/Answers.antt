@@ -8,7 +8,7 @@ use Rattle.steps_file.specs.Standing.{IsRunning}
 use Rattle.steps_file.proofs.Planned.{planned_is}
 use Rattle.steps_file.proofs.stage.Stage.act.Goals as goal
 
--- what holds at `Ok`, where the result is no `Err`
+-- what holds at `Ok`, if the result isn't `Err`
 held : {T E P : Type 0} (r : Result T E) → is_err r ≡ false → OnOk r P → P
 held (Ok value) fine at_ok = at_ok
 held (Err error) fine at_ok = absurd (let h : true ≡ false = fine in cc)
