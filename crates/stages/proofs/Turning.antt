@@ -8,6 +8,8 @@ use Rattle.std.specs.FinMap.{get-insert, get-remove}
 use Rattle.std.proofs.lemmas.Bool.{le-leb, lt-leb, lt-ltb, le-ltb}
 use Rattle.std.proofs.lemmas.List.Elements.{filter-append}
 use Rattle.std.proofs.lemmas.List.Sums.{sum_by-cons}
+use Rattle.mbuf.specs.Buffer.{Buffer}
+use Rattle.mbuf.specs.Chain.{space_of}
 use Rattle.pcapio_laws.specs.Capture.{Packet, AreRecords, End, Bad}
 use Rattle.pcapio_laws.specs.declared.format.ByteOrder.{ByteOrder}
 use Rattle.pcapio_laws.proofs.Unique.{one}
@@ -22,7 +24,7 @@ use Rattle.stages_laws.specs.Output.{fits, stamped, is_oversize, oversize}
 use Rattle.stages_laws.proofs.Parts.{oversize-append}
 use Rattle.stages.specs.Packets.{IsRecord}
 use Rattle.stages.specs.Reading.{WhyNone}
-use Rattle.stages.specs.Turns.{IsVacant, EndsBad, WhyStopped}
+use Rattle.stages.specs.Turns.{IsVacant, EndsBad, WhyStopped, long_of}
 use Rattle.stages.specs.declared.fault.RunFault.{RunFault}
 use Rattle.stages.specs.declared.fault.RunFault.TheVariants.{Memory, Thread, Read, Write, Capture, Window, Worn}
 use Rattle.stages.proofs.Windows.{untied}
@@ -132,3 +134,9 @@ vacant_after w k x same vacant n high =
     ∙ (get-insert nat_cmp_total w.held k x n
     ∙ (ap (λ b. cond b (Some x) (map.get w.held n)) (untied n k (λ e. other (e ∙ same)))
     ∙ vacant n (omega (arith, high)))))
+
+-- the long one of two chains keeps its space where the first keeps its own
+pub same_long : (is_long : Bool) (chain back other : List Buffer) → space_of back ≡ space_of chain
+    → space_of (long_of is_long back other) ≡ space_of (long_of is_long chain other)
+same_long true chain back other same = same
+same_long false chain back other same = refl

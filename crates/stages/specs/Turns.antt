@@ -1,6 +1,7 @@
 -- The turns of a run by one thread.
-use Rattle.std.specs.Prelude.{◌≡◌, ◌≤◌, ℕ, ◌-◌, ◌^◌, length, Option, None, Some}
+use Rattle.std.specs.Prelude.{◌≡◌, ◌≤◌, ℕ, ◌-◌, ◌^◌, Bool, if◌then◌else◌, List, length, Option, None, Some}
 use Rattle.std.specs.FinMap as map
+use Rattle.mbuf.specs.Buffer.{Buffer}
 use Rattle.pcapio.specs.Reader.{Fails}
 use Rattle.pcapio.specs.declared.reader.Reader.{Reader}
 use Rattle.pcapio_laws.specs.Capture.{Bad}
@@ -13,6 +14,10 @@ use Rattle.stages.specs.declared.fault.RunFault.TheVariants.{Read, Write, Captur
 -- a window that holds no number from its turn on
 abbrev pub IsVacant : {T : Type 0} → Waiting T → Type 0
 IsVacant w = (n : ℕ) → w.next ≤ n → map.get w.held n ≡ None
+
+-- of two chains the long one: the first, or the other
+abbrev pub long_of : Bool → List Buffer → List Buffer → List Buffer
+long_of is_long chain other = if is_long then chain else other
 
 -- the input ends with an invalid record header
 abbrev pub EndsBad : Option Input → Type 0

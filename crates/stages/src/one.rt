@@ -14,7 +14,7 @@ mod record_chain;
 mod single;
 
 use crate::fault::RunFault;
-use crate::one::record_chain::longest_chain;
+use crate::one::record_chain::RecordChains;
 use crate::one::single::forward_all;
 use crate::ports::Outputs;
 use crate::ports::close::into_devices;
@@ -22,7 +22,6 @@ use crate::ports::open::open_all;
 use crate::records::input_fault;
 use crate::sink::Sink;
 use crate::summary::{Summary, end};
-use mbuf::Chain;
 use pcapio::{Counted, Reader};
 use settings::Settings;
 use stages_laws::Run;
@@ -32,7 +31,8 @@ use std::marker::Brand;
 
 /// Forwards the capture that `reader` has, with these settings, and writes to each port's device a capture of the
 /// frames that are sent there, in the order of the input. Requires: a device for each port. Records are streamed:
-/// memory is taken at the start, for one packet and a buffer of 64 KiB for each device, and doesn't grow with the
+/// memory is taken at the start, for a short and a long packet and a buffer of 64 KiB for each device, and doesn't grow
+/// with the
 /// capture.
 ///
 /// All devices are handed back, the ports' in their order. Errors: 1 `Memory`; 3 `Read` and 4 `Write(port)`, if that
@@ -60,12 +60,12 @@ pub fn run_one<R: Read, W: Write + Drop>(
         Err((device, fault)) => return (device, writers, Err(input_fault(fault))),
     };
     let headroom = settings.headroom as usize;
-    let Ok(chain) = longest_chain(alloc, headroom, settings.room as usize) else {
+    let Ok(chains) = RecordChains::new(alloc, headroom, settings.room as usize) else {
         return (reader.into_inner(), writers, Err(RunFault::Memory));
     };
     match open_all(alloc, writers, reader.resolution()) {
         Ok((outputs, spare)) => {
-            run_opened::<Brand, R, W>(alloc, reader, outputs, spare, chain, settings)
+            run_opened::<Brand, R, W>(alloc, reader, outputs, spare, chains, settings)
         }
         Err(writers) => (reader.into_inner(), writers, Err(RunFault::Memory)),
     }
@@ -77,13 +77,13 @@ fn run_opened<J: Run, R: Read, W: Write + Drop>(
     mut reader: Reader<R>,
     outputs: Outputs<W>,
     spare: Vec<Counted<W>>,
-    chain: Chain,
+    chains: RecordChains,
     settings: &Settings,
 ) -> (Counted<R>, Vec<Counted<W>>, Result<Summary, RunFault>)
     requires input { HasInput R.remaining reader J.input J.read_failures }
     requires settings { GoesBy settings.now J.room J.forwarding (length J.before) }
     requires outputs { AreReady W.contents outputs spare.items (vec_capacity spare) J.before J.failures J.resolution }
-    requires space { min (64 * settings.now.room) 262144 ≤ space_of chain }
+    requires space { min (64 * settings.now.room) 262144 ≤ space_of chains.long }
     ensures length { vec_len result.1 ≡ length J.before }
     ensures outputs { OnOk result.2 ((all : List Fate) → fates_of J.forwarding J.room J.input ≡ Some all
         → AreOutputs W.contents J.before J.resolution all result.1.items) }
@@ -103,7 +103,7 @@ fn run_opened<J: Run, R: Read, W: Write + Drop>(
     let totals = forward_all(
         &mut reader,
         &mut sink,
-        chain,
+        chains,
         room,
         &settings.table,
         &settings.ports,

@@ -1,6 +1,6 @@
 //! The sink of a run: packets arrive in any order, and leave in the order of their numbers.
 ghost use Rattle.std.specs.Prelude.{◌≡◌, ◌≤◌, ◌+◌, ◌-◌, ◌^◌, ◌<◌, ◌↔◌, None, Some, length, vec_len};
-ghost use Rattle.std.specs.Prelude.{IfOk, IfErr, IsOk, OnOk};
+ghost use Rattle.std.specs.Prelude.{IfOk, IfErr, IsOk, OnOk, OnErr};
 ghost use Rattle.std.specs.Prelude.{map as mapped};
 ghost use Rattle.std.specs.FinMap as map;
 ghost use Rattle.pcapio.specs.Counted.{told, failures_of};
@@ -105,6 +105,33 @@ impl<J: Run, W: Write + Drop> Sink<J, W> {
         Some(chain)
     }
 
+    /// Releases a packet at once if it is its turn and no other has its number, and returns its chain: what `accept` and
+    /// `give` do, without moving the packet into the window. Any other packet comes back.
+    pub(crate) fn pass(&mut self, packet: Judged<J>) -> Result<Chain, Judged<J>>
+        ensures passed { IsOk result ↔ ((packet.seq ≡ self.old.window.next) × IsFree self.old.window packet.seq) }
+        ensures chain { IfOk result (λ chain. chain ≡ packet.chain) }
+        ensures window { OnOk result (self.new.window ≡ after_next (with_number self.old.window packet.seq packet)) }
+        ensures back { IfErr result (λ back. back ≡ packet) }
+        ensures kept { OnErr result ((self.new.window ≡ self.old.window) × (self.new.outputs ≡ self.old.outputs)) }
+        ensures length { vec_len self.new.outputs.writers ≡ vec_len self.old.outputs.writers }
+    {
+        if !self.window.pass(packet.seq) {
+            return Err(packet);
+        }
+        let Judged {
+            seconds,
+            fraction,
+            wire,
+            verdict,
+            chain,
+            ..
+        } = packet;
+        self.counts.add(&verdict);
+        self.outputs
+            .put_unless_failed(verdict, seconds, fraction, wire, &chain);
+        Ok(chain)
+    }
+
     /// The number of the packet whose turn it is, which is how many have left.
     pub(crate) fn next(&self) -> u64
         ensures { result ≡ self.now.window.next }
@@ -122,13 +149,10 @@ impl<J: Run, W: Write + Drop> Sink<J, W> {
         ensures window { self.new.window ≡ after_next (with_number self.old.window packet.seq packet) }
         ensures length { vec_len self.new.outputs.writers ≡ vec_len self.old.outputs.writers }
     {
-        // read for the proof: this packet's number, before `give` moves on
+        // read for the proof: the window has some places, so that this packet's number is in reach
         let _turn = self.window.next();
-        match self.accept(packet) {
-            Ok(()) => match self.give() {
-                Some(chain) => chain,
-                None => unreachable!(),
-            },
+        match self.pass(packet) {
+            Ok(chain) => chain,
             Err(_) => unreachable!(),
         }
     }

@@ -9,6 +9,7 @@ ghost use Rattle.stages_laws.specs.Input.{IsInput};
 ghost use Rattle.stages.specs.Turns.{IsVacant, WhyStopped};
 
 use crate::fault::RunFault;
+use crate::one::record_chain::RecordChains;
 use crate::records::input_totals::InputTotals;
 use crate::records::next_record::NextRecord;
 use crate::records::read_state::ReadState;
@@ -16,17 +17,16 @@ use crate::records::{look, read_record};
 use crate::sink::Sink;
 use ipv4::Ports;
 use lpm::Table;
-use mbuf::Chain;
 use pcapio::Reader;
 use stages_laws::Run;
 use std::io::{Read, Write};
 
-/// Takes each record of the input to the ports. Requires: reader and sink are before the first one; the chain has space
-/// for each record that isn't oversize.
+/// Takes each record of the input to the ports. Requires: reader and sink are before the first one; the long chain has
+/// space for each record that isn't oversize.
 pub(crate) fn forward_all<J: Run, R: Read, W: Write + Drop>(
     reader: &mut Reader<R>,
     sink: &mut Sink<J, W>,
-    mut chain: Chain,
+    mut chains: RecordChains,
     room: usize,
     table: &Table,
     ports: &Ports,
@@ -35,7 +35,7 @@ pub(crate) fn forward_all<J: Run, R: Read, W: Write + Drop>(
     requires between { state_of reader.old ≡ Between }
     requires room { room ≡ J.room }
     requires at_most { room ≤ 65536 }
-    requires space { min (64 * room) 262144 ≤ space_of chain }
+    requires space { min (64 * room) 262144 ≤ space_of chains.long }
     requires rules { forwarded table.now.members ports.now ≡ J.forwarding }
     requires ports { vec_len ports.now.sources ≡ length J.before }
     requires one { 0 < length J.before }
@@ -57,12 +57,14 @@ pub(crate) fn forward_all<J: Run, R: Read, W: Write + Drop>(
             Ok(NextRecord::Ended(torn)) => return Ok(progress.into_totals(torn)),
             Err(fault) => return Err(fault),
         };
+        let (chain, other, is_long) = chains.choose(head.captured as usize);
         let packet = match read_record::<J, R>(reader, &mut progress, head, chain) {
             Ok(Some(packet)) => packet,
             Ok(None) => return Ok(progress.into_totals(true)),
             Err(fault) => return Err(fault),
         };
-        chain = sink.forward(packet.judge(table, ports));
+        let back = sink.forward(packet.judge(table, ports));
+        chains = RecordChains::rejoin(back, other, is_long);
         if let Some(port) = sink.outputs.failed {
             return Err(RunFault::Write(port));
         }

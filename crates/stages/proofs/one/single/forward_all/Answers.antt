@@ -9,7 +9,7 @@ use Rattle.stages.specs.Turns.{IsVacant}
 use Rattle.stages.proofs.Fresh.{counted_ports, no_records}
 use Rattle.stages.proofs.Known.{on_some}
 use Rattle.stages.proofs.SoFar.{none_read, stopped_since, too_many}
-use Rattle.stages.proofs.Turning.{vacant_after}
+use Rattle.stages.proofs.Turning.{same_long, vacant_after}
 use Rattle.stages.proofs.one.single.forward_all.Goals as goal
 
 pub loop-turn-init : goal.loop-turn-init
@@ -35,8 +35,8 @@ returns-in-Err-clause-cause g c =
     stopped_since g.J.Run.input c.args.reader.now c.loop-turn.reader c.look.new.reader None c.loop-turn.sink.outputs.failed c.in-Err.fault i.no_read_failed refl
     c.in-Err.ensures.cause
 
-pub read_record-requires-clause-space : goal.read_record-requires-clause-space
-read_record-requires-clause-space g c =
+pub choose-chain-requires : goal.choose-chain-requires
+choose-chain-requires g c =
     let i = c.loop-turn.invariant in
     let told = subst (Looks g.R.Read.remaining g.J.Run.input g.J.Run.room (length g.J.Run.before) c.look.new.reader c.loop-turn.progress c.look.new.progress)
     c.in-Ok-Record.field-0-is c.in-Ok-Record.ensures.exact in
@@ -48,7 +48,7 @@ loop-turn-preserved g c =
     let told = subst (Looks g.R.Read.remaining g.J.Run.input g.J.Run.room (length g.J.Run.before) c.look.new.reader c.loop-turn.progress c.look.new.progress)
     c.in-Ok-Record.field-0-is c.in-Ok-Record.ensures.exact in
     let at = c.in-Ok-Some in
-    let found = some-so _ at.packet (λ packet. (packet.seq ≡ c.look.new.progress.count) × HasSameSegments packet.chain c.loop-turn.chain) at.field-0-is
+    let found = some-so _ at.packet (λ packet. (packet.seq ≡ c.look.new.progress.count) × HasSameSegments packet.chain c.choose-chain.result.0) at.field-0-is
     at.ensures.packet in
     let count = on_some _ at.packet at.field-0-is at.ensures.count in
     let before = ap (λ p. p.count) told.1 in
@@ -57,11 +57,15 @@ loop-turn-preserved g c =
       between = on_some _ at.packet at.field-0-is at.ensures.between;
       no_read_failed = at.ensures.no_failure ∙ (c.in-Ok-Record.ensures.no_failure ∙ i.no_read_failed);
       turns = omega (arith, count.0, ap records_of count.1, before, ap (λ p. records_of p.share) told.1, i.turns);
-      next = ap (λ w. w.next) c.forward-chain.ensures.window ∙ (ap (λ n. n + 1) (i.next ∙ sym before) ∙ sym count.0);
-      vacant = subst IsVacant (sym c.forward-chain.ensures.window)
+      next = ap (λ w. w.next) c.forward-back.ensures.window ∙ (ap (λ n. n + 1) (i.next ∙ sym before) ∙ sym count.0);
+      vacant = subst IsVacant (sym c.forward-back.ensures.window)
           (vacant_after c.loop-turn.sink.window c.judge.result.seq c.judge.result (c.judge.ensures.seq ∙ (found.0 ∙ (before ∙ sym i.next))) i.vacant);
-      space = omega (arith, ap space_of c.forward-chain.ensures.chain, same_space _ _ c.judge.ensures.kept, same_space _ _ found.1, i.space);
-      writers = c.forward-chain.ensures.length ∙ i.writers;
+      space =
+          let back = ap space_of c.forward-back.ensures.chain ∙ (same_space _ _ c.judge.ensures.kept ∙ same_space _ _ found.1) in
+          let long = ap space_of c.rejoin-chains.ensures
+          ∙ (same_long c.choose-chain.result.2 c.choose-chain.result.0 c.forward-back.result c.choose-chain.result.1 back ∙ ap space_of c.choose-chain.ensures.long) in
+          omega (arith, long, i.space);
+      writers = c.forward-back.ensures.length ∙ i.writers;
       well = c.in_default.is;
     }
 

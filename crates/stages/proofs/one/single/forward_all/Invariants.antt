@@ -17,7 +17,7 @@ invariant-loop-turn g l = record {
   turns : l.progress.count + records_of l.progress.share ≡ l._turn;
   next : l.sink.window.next ≡ l.progress.count;
   vacant : IsVacant l.sink.window;
-  space : min (64 * l.room) 262144 ≤ space_of l.chain;
+  space : min (64 * l.room) 262144 ≤ space_of l.chains.long;
   writers : vec_len l.sink.outputs.writers ≡ vec_len l.fn.sink.outputs.writers;
   well : l.sink.outputs.failed ≡ None;
 }
