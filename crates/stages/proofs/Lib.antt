@@ -16,7 +16,6 @@ pub mod Opened
 pub mod Taken
 pub mod SoFar
 pub mod Linking
-pub mod RingPorts
 pub mod Settled
 pub mod Marks
 pub mod Rounds

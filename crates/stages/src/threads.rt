@@ -239,7 +239,7 @@ fn run_stages<
                 let sink = call_off(rt, f, mine, sink, workers, settings);
                 return (sink, ReaderOutcome::lost());
             };
-            let mut ring_port = RingPort::new(f, mine, settings.cache as usize);
+            let mut ring_port = RingPort::new(f, mine);
             let burst = settings.burst as usize;
             let drained = drain(rt, &mut ring_port, &mut sink, workers, burst);
             (sink, thread.join(rt).with(drained))
@@ -341,7 +341,7 @@ fn start_reader<
                 × HasInput R.remaining reader J.input J.read_failures
                 × GoesBy settings.now J.room J.forwarding (length J.before) }
         {
-            let ring_port = RingPort::new(f, hand, settings.cache as usize);
+            let ring_port = RingPort::new(f, hand);
             feed(rt, ring_port, reader, workers, settings)
         },
     );
@@ -362,7 +362,7 @@ fn call_off<J: Run, W: Write + Drop, T: Wait>(
     requires rings { AreRings (rings_of f.now) }
     requires at_most { started ≤ 16 }
 {
-    let mut ring_port = RingPort::new(f, hand, settings.cache as usize);
+    let mut ring_port = RingPort::new(f, hand);
     let mut none = Burst::<Packet<J>, SPAN>::new();
     let sent = dismiss(rt, &mut ring_port, &mut none, started);
     if sent.is_ok() {

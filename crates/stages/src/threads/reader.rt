@@ -12,13 +12,12 @@ use crate::records::read_state::ReadState;
 use crate::records::{look, read_record};
 use crate::threads::reader_outcome::ReaderOutcome;
 use crate::threads::ring_port::RingPort;
-use crate::threads::rings::{INPUT, SPAN};
+use crate::threads::rings::{FREE, INPUT, SPAN};
 use crate::threads::segments::link;
 use burst::Burst;
 use crossbeam_utils::Backoff;
 use mbuf::Chain;
 use pcapio::Reader;
-use pool::PoolFault;
 use settings::Settings;
 use stages_laws::Run;
 use std::io::Read;
@@ -40,45 +39,89 @@ fn segments_of(captured: usize, room: usize) -> usize
     (captured - 1) / room + 1
 }
 
-/// Free segments for a record, as soon as there are enough. Before waiting for them, puts the packets that wait to be
-/// put together.
+/// Prepares for asking for segments again: puts the packets that wait to be put together, or waits a little if there are
+/// none.
+fn make_way<J: Run, T: Wait>(
+    rt: &T,
+    ring_port: &mut RingPort<'_, Packet<J>>,
+    batch: &mut Burst<Packet<J>, SPAN>,
+    backoff: &Backoff,
+) -> Result<(), StageFault> {
+    if batch.is_empty() {
+        backoff.snooze();
+        return Ok(());
+    }
+    ring_port.send(rt, INPUT, batch)
+}
+
+/// One free segment, as soon as there is one: from those taken before, or from at most `ahead` that are then taken from
+/// their ring together.
+fn obtain_one<J: Run, T: Wait>(
+    rt: &T,
+    ring_port: &mut RingPort<'_, Packet<J>>,
+    batch: &mut Burst<Packet<J>, SPAN>,
+    stock: &mut Burst<Packet<J>, SPAN>,
+    ahead: usize,
+) -> Result<Chain, StageFault> {
+    let backoff = Backoff::new();
+    for _ in rt.forever() {
+        match stock.pop() {
+            Some(Packet::Free(segment)) => return Ok(segment.chain),
+            Some(_) => return Err(StageFault::Window),
+            None => (),
+        }
+        ring_port.receive(rt, FREE, ahead, stock)?;
+        if stock.is_empty() {
+            make_way(rt, ring_port, batch, &backoff)?;
+        }
+    }
+    unreachable!()
+}
+
+/// `n` free segments, linked to one chain, as soon as their ring has that many.
+fn obtain_many<J: Run, T: Wait>(
+    rt: &T,
+    ring_port: &mut RingPort<'_, Packet<J>>,
+    batch: &mut Burst<Packet<J>, SPAN>,
+    n: usize,
+) -> Result<Chain, StageFault> {
+    let backoff = Backoff::new();
+    let mut got = Burst::<Packet<J>, SPAN>::new();
+    for _ in rt.forever() {
+        got.clear();
+        if ring_port.get(rt, n, &mut got)? {
+            return link(&mut got).ok_or(StageFault::Window);
+        }
+        make_way(rt, ring_port, batch, &backoff)?;
+    }
+    unreachable!()
+}
+
+/// Free segments for a record of `captured` bytes, as soon as there are enough. Before waiting for them, puts the packets
+/// that wait to be put together.
 fn obtain<J: Run, T: Wait>(
     rt: &T,
     ring_port: &mut RingPort<'_, Packet<J>>,
     batch: &mut Burst<Packet<J>, SPAN>,
-    got: &mut Burst<Packet<J>, SPAN>,
-    n: usize,
+    stock: &mut Burst<Packet<J>, SPAN>,
+    settings: &Settings,
     captured: usize,
 ) -> Result<Chain, StageFault>
-    requires nonzero { 0 < n }
-    requires at_most { n ≤ 64 }
+    requires fits { captured ≤ 64 * settings.now.room }
     ensures space { IfOk result (λ chain. captured ≤ space_of chain) }
 {
-    let backoff = Backoff::new();
-    for _ in rt.forever() {
-        got.clear();
-        match ring_port.get(rt, n, got) {
-            Ok(()) => {
-                let Some(chain) = link(got) else {
-                    return Err(StageFault::Window);
-                };
-                if chain.space() < captured {
-                    return Err(StageFault::Window);
-                }
-                return Ok(chain);
-            }
-            Err(PoolFault::Short) => {
-                if batch.is_empty() {
-                    backoff.snooze();
-                } else {
-                    ring_port.send(rt, INPUT, batch)?;
-                }
-            }
-            Err(PoolFault::Worn) => return Err(StageFault::Worn),
-            Err(_) => return Err(StageFault::Window),
-        }
+    let n = segments_of(captured, settings.room as usize);
+    let found = if n == 1 {
+        let ahead = (settings.cache as usize).max(1);
+        obtain_one(rt, ring_port, batch, stock, ahead)
+    } else {
+        obtain_many(rt, ring_port, batch, n)
+    };
+    let chain = found?;
+    if chain.space() < captured {
+        return Err(StageFault::Window);
     }
-    unreachable!()
+    Ok(chain)
 }
 
 /// Adds a packet to those that wait to be put together, after putting them if they fill a burst.
@@ -113,7 +156,7 @@ fn read_all<J: Run, R: Read, T: Wait>(
 {
     let room = settings.room as usize;
     let burst = settings.burst as usize;
-    let mut got = Burst::<Packet<J>, SPAN>::new();
+    let mut stock = Burst::<Packet<J>, SPAN>::new();
     let mut progress = ReadState::new(settings.ports.sources.len());
     // one record per turn: the result for an input with 2^64 - 1 records or more is `Window`
     for _turn in 0..u64::MAX {
@@ -124,8 +167,7 @@ fn read_all<J: Run, R: Read, T: Wait>(
             Err(fault) => return Err(fault),
         };
         let captured = head.captured as usize;
-        let n = segments_of(captured, room);
-        let chain = match obtain(rt, ring_port, batch, &mut got, n, captured) {
+        let chain = match obtain(rt, ring_port, batch, &mut stock, settings, captured) {
             Ok(chain) => chain,
             Err(fault) => return Err(fault.to_run_fault()),
         };

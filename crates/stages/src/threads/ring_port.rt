@@ -1,44 +1,38 @@
-//! A thread's access to the rings of a run: its hand, with a cache of segments not in use.
-ghost use Rattle.std.specs.Prelude.{◌≡◌, ◌<◌, ◌≤◌, ◌↔◌, ℕ, [], length, None, Some, IfOk, IfErr};
+//! A thread's access to the rings of a run: its hand, which is kept here between calls.
+ghost use Rattle.std.specs.Prelude.{◌≡◌, ◌<◌, ◌≤◌, ◌↔◌, ℕ, [], length, None, Some, IfOk, IfErr, true};
 ghost use Rattle.std.specs.List.{flat_map};
+ghost use Rattle.std.specs.Option.{is_some};
 ghost use Rattle.burst.specs.Numbers.{AreDistinct};
 ghost use Rattle.fabric.specs.Hands.{IsHandOf, rings_of};
-ghost use Rattle.pool.specs.Locals.{IsLocalOf};
 ghost use Rattle.stages.specs.Passing.{AreRings};
-ghost use Rattle.stages.specs.RingPorts.{GivesUp, IsOf, KeepsBack, TakesNone};
+ghost use Rattle.stages.specs.RingPorts.{GivesUp, IsOf, TakesNone};
 
 use crate::fault::StageFault;
 use crate::threads::rings::{FREE, SPAN};
 use burst::{Burst, Tagged};
 use crossbeam_utils::Backoff;
 use fabric::{Fabric, Hand, StartFault, Stored};
-use pool::{Local, PoolFault};
-use ringapi::Refusal;
+use ringapi::{PutAnswer, Refusal, TakeAnswer, put_burst_from, take_bulk_into, take_burst_into};
 use std::sync::Wait;
 
 /// A thread's access to the rings of a run.
 #[derive(Drop)]
 pub(crate) struct RingPort<'f, T: Tagged, S: Stored<T> = Option<T>> {
     fabric: &'f Fabric<T, SPAN, S>,
-    local: Local<T, SPAN, S>,
-    pub ghost of: { IsOf fabric.now local },
+    hand: Option<Hand<T, S>>,
+    pub ghost here: { is_some hand ≡ true },
+    pub ghost of: { IsOf fabric.now hand },
     pub ghost rings: { AreRings (rings_of fabric.now) },
 }
 
-/// A hand with an empty cache.
-fn fresh<T: Tagged, S: Stored<T>>(
-    f: &Fabric<T, SPAN, S>,
-    hand: Hand<T, S>,
-    size: usize,
-) -> Local<T, SPAN, S>
-    requires hand { IsHandOf f.now hand }
-    requires rings { AreRings (rings_of f.now) }
-    requires small { size ≤ 128 }
-    ensures { IsLocalOf f.now result }
+/// Takes the hand from its place, for a call on a ring.
+fn take_hand<T: Tagged, S: Stored<T>>(place: &mut Option<Hand<T, S>>) -> Hand<T, S>
+    requires here { is_some place.old ≡ true }
+    ensures { place.old ≡ Some result }
 {
-    match Local::new(hand, FREE, size) {
-        Ok(local) => local,
-        Err(_) => unreachable!(),
+    match place.take() {
+        Some(hand) => hand,
+        None => unreachable!(),
     }
 }
 
@@ -54,67 +48,56 @@ fn fault_of(refusal: Refusal) -> Option<StageFault>
     }
 }
 
-/// Why segments weren't returned.
-fn why_kept(fault: PoolFault) -> StageFault
-    ensures { fault ≡ PoolFault.Worn ↔ result ≡ StageFault.Worn }
+/// What a refused take means to a caller that takes what is there.
+fn emptiness(fault: StartFault) -> Result<(), StageFault>
+    ensures { IfErr result (λ e. (e ≡ StageFault.Worn) × (fault ≡ StartFault.Worn)) }
 {
     match fault {
-        PoolFault::Worn => StageFault::Worn,
-        _ => StageFault::Window,
+        StartFault::Worn => Err(StageFault::Worn),
+        _ => Ok(()),
     }
 }
 
 impl<'f, T: Tagged, S: Stored<T>> RingPort<'f, T, S> {
-    /// Access with this hand, with an empty cache.
-    pub(crate) fn new(
-        f: &'f Fabric<T, SPAN, S>,
-        hand: Hand<T, S>,
-        size: usize,
-    ) -> RingPort<'f, T, S>
+    /// Access with this hand.
+    pub(crate) fn new(f: &'f Fabric<T, SPAN, S>, hand: Hand<T, S>) -> RingPort<'f, T, S>
         requires hand { IsHandOf f.now hand }
         requires rings { AreRings (rings_of f.now) }
-        requires small { size ≤ 128 }
     {
         RingPort {
             fabric: f,
-            local: fresh(f, hand, size),
+            hand: Some(hand),
         }
     }
 
-    /// Takes `n` segments from the cache and their ring into an empty list. Errors: too few segments, or the ring is
-    /// worn.
+    /// Takes `n` free segments into an empty list, or none if their ring has fewer. Returns whether it took them. Errors:
+    /// the ring is worn.
     pub(crate) fn get<R: Wait>(
         &mut self,
         rt: &R,
         n: usize,
         into: &mut Burst<T, SPAN>,
-    ) -> Result<(), PoolFault>
-        requires nonzero { 0 < n }
-        requires at_most { n ≤ 64 }
+    ) -> Result<bool, StageFault>
         requires empty { into.old ≡ [] }
-        ensures apart { IfOk result (λ _. AreDistinct (flat_map T.numbers into.new)) }
+        ensures apart { AreDistinct (flat_map T.numbers into.new) }
     {
-        self.local.get_into(rt, self.fabric, n, into)
-    }
-
-    /// Returns segments to the cache and their ring, at most 64. Errors: they aren't this hand's, or the ring is worn.
-    pub(crate) fn put<R: Wait>(
-        &mut self,
-        rt: &R,
-        list: &mut Burst<T, SPAN>,
-    ) -> Result<(), StageFault>
-        requires at_most { length list.old ≤ 64 }
-        ensures left { IfOk result (λ _. list.new ≡ []) }
-        ensures exact { IfErr result (λ e. KeepsBack T.numbers self.new.fabric.now self.old.local self.new.local
-            list.old list.new e) }
-    {
-        match self.local.put_from(rt, self.fabric, list) {
-            Ok(()) => Ok(()),
-            Err(fault) => Err(why_kept(fault)),
+        let hand = take_hand(&mut self.hand);
+        match take_bulk_into(rt, self.fabric, hand, FREE, n, into) {
+            TakeAnswer::Done(hand, _) => {
+                self.hand = Some(hand);
+                Ok(true)
+            }
+            TakeAnswer::Refused(hand, fault) => {
+                self.hand = Some(hand);
+                emptiness(fault)?;
+                Ok(false)
+            }
+            TakeAnswer::Open(_, _) => unreachable!(),
         }
     }
 
-    /// Puts all packets of a list on a ring, as room becomes available.
+    /// Puts all packets of a list on a ring, as room becomes available. Errors: they aren't this hand's, or the ring is
+    /// worn.
     pub(crate) fn send<R: Wait>(
         &mut self,
         rt: &R,
@@ -123,19 +106,24 @@ impl<'f, T: Tagged, S: Stored<T>> RingPort<'f, T, S> {
     ) -> Result<(), StageFault>
         requires ring { ring < 3 }
         ensures left { IfOk result (λ _. list.new ≡ []) }
-        ensures exact { IfErr result (λ e. GivesUp T.numbers self.new.fabric.now ring self.new.local list.new e) }
+        ensures exact { IfErr result (λ e. GivesUp T.numbers self.new.fabric.now ring self.new.hand list.new e) }
     {
         let backoff = Backoff::new();
         for _ in rt.forever() {
             if list.len() == 0 {
                 return Ok(());
             }
-            match self.local.send_from(rt, self.fabric, ring, list) {
-                Ok(_) => (),
-                Err(refusal) => match fault_of(refusal) {
-                    None => backoff.snooze(),
-                    Some(fault) => return Err(fault),
-                },
+            let hand = take_hand(&mut self.hand);
+            match put_burst_from(rt, self.fabric, hand, ring, list) {
+                PutAnswer::Done(hand, _) => self.hand = Some(hand),
+                PutAnswer::Refused(hand, refusal) => {
+                    self.hand = Some(hand);
+                    match fault_of(refusal) {
+                        None => backoff.snooze(),
+                        Some(fault) => return Err(fault),
+                    }
+                }
+                PutAnswer::Open(_, _) => unreachable!(),
             }
         }
         unreachable!()
@@ -151,12 +139,19 @@ impl<'f, T: Tagged, S: Stored<T>> RingPort<'f, T, S> {
     ) -> Result<(), StageFault>
         requires ring { ring < 3 }
         requires empty { into.old ≡ [] }
-        ensures exact { IfErr result (λ e. TakesNone T.numbers self.new.fabric.now ring n self.old.local self.new.local
-            into.new e) }
+        ensures exact { IfErr result (λ e. TakesNone T.numbers self.new.fabric.now ring n self.new.hand into.new e) }
     {
-        match self.local.receive_into(rt, self.fabric, ring, n, into) {
-            Err(StartFault::Worn) => Err(StageFault::Worn),
-            _ => Ok(()),
+        let hand = take_hand(&mut self.hand);
+        match take_burst_into(rt, self.fabric, hand, ring, n, into) {
+            TakeAnswer::Done(hand, _) => {
+                self.hand = Some(hand);
+                Ok(())
+            }
+            TakeAnswer::Refused(hand, fault) => {
+                self.hand = Some(hand);
+                emptiness(fault)
+            }
+            TakeAnswer::Open(_, _) => unreachable!(),
         }
     }
 }

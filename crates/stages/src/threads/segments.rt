@@ -1,5 +1,5 @@
 //! Segments not in use: linking them to a chain, and taking them off one.
-ghost use Rattle.std.specs.Prelude.{◌≡◌, ◌≤◌, length};
+ghost use Rattle.std.specs.Prelude.{◌≡◌, length};
 ghost use Rattle.std.specs.List.{flat_map};
 ghost use Rattle.burst.specs.Numbers.{AreDistinct};
 ghost use Rattle.stages.specs.Numbers.{packet_numbers};
@@ -7,14 +7,11 @@ ghost use Rattle.stages.specs.Numbers.{packet_numbers};
 use crate::fault::StageFault;
 use crate::packet::Packet;
 use crate::threads::ring_port::RingPort;
-use crate::threads::rings::SPAN;
+use crate::threads::rings::{FREE, SPAN};
 use burst::Burst;
 use mbuf::Chain;
 use stages_laws::Run;
 use std::sync::Wait;
-
-/// The maximum number of segments that are freed at once.
-const MAX_FREE: usize = 64;
 
 /// Links free segments, from the first on, to one chain. `None` if there are none, or one of them isn't free.
 pub(crate) fn link<J: Run>(got: &mut Burst<Packet<J>, SPAN>) -> Option<Chain>
@@ -36,22 +33,19 @@ pub(crate) fn link<J: Run>(got: &mut Burst<Packet<J>, SPAN>) -> Option<Chain>
     Some(whole)
 }
 
-/// Appends the segments of a packet to those that are to be freed, which are freed if there are many. After an error
-/// the rest of these are lost.
+/// Appends the segments of a packet to those that are to be freed, which are freed if the list has no room for more.
+/// After an error the rest of these are lost.
 pub(crate) fn release<J: Run, R: Wait>(
     rt: &R,
     ring_port: &mut RingPort<'_, Packet<J>>,
     chain: Chain,
     free: &mut Burst<Packet<J>, SPAN>,
-) -> Result<(), StageFault>
-    requires at_most { length free.old ≤ 64 }
-    ensures at_most { length free.new ≤ 64 }
-{
+) -> Result<(), StageFault> {
     let mut rest = Some(chain);
     while let Some(chain) = rest {
         let (segment, others) = chain.take_first();
         rest = others;
-        if free.len() == MAX_FREE {
+        if free.is_full() {
             give_back(rt, ring_port, free)?;
         }
         free.push(Packet::free(segment));
@@ -65,10 +59,9 @@ pub(crate) fn give_back<J: Run, R: Wait>(
     ring_port: &mut RingPort<'_, Packet<J>>,
     free: &mut Burst<Packet<J>, SPAN>,
 ) -> Result<(), StageFault>
-    requires at_most { length free.old ≤ 64 }
     ensures { length free.new ≡ 0 }
 {
-    let given = ring_port.put(rt, free);
+    let given = ring_port.send(rt, FREE, free);
     free.clear();
     given
 }

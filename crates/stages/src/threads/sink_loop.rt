@@ -1,8 +1,8 @@
 //! The sink of a run in threads: it empties the output ring until each worker has ended.
-ghost use Rattle.std.specs.Prelude.{◌≡◌, ◌≤◌, length, vec_len};
+ghost use Rattle.std.specs.Prelude.{◌≡◌, ◌≤◌, vec_len};
 
 use crate::fault::StageFault;
-use crate::packet::Packet;
+use crate::packet::{Judged, Packet};
 use crate::sink::Sink;
 use crate::threads::ring_port::RingPort;
 use crate::threads::rings::{OUTPUT, SPAN};
@@ -20,8 +20,6 @@ fn let_go<J: Run, W: Write + Drop, T: Wait>(
     sink: &mut Sink<J, W>,
     free: &mut Burst<Packet<J>, SPAN>,
 ) -> Result<(), StageFault>
-    requires at_most { length free.old ≤ 64 }
-    ensures at_most { length free.new ≤ 64 }
     ensures length { vec_len sink.new.outputs.writers ≡ vec_len sink.old.outputs.writers }
 {
     for _ in rt.forever() {
@@ -33,6 +31,32 @@ fn let_go<J: Run, W: Write + Drop, T: Wait>(
     unreachable!()
 }
 
+/// Takes a packet: releases it at once if it is its turn, with those that waited for it; otherwise it waits.
+fn take_in<J: Run, W: Write + Drop, T: Wait>(
+    rt: &T,
+    ring_port: &mut RingPort<'_, Packet<J>>,
+    sink: &mut Sink<J, W>,
+    packet: Judged<J>,
+    free: &mut Burst<Packet<J>, SPAN>,
+) -> Result<(), StageFault>
+    ensures length { vec_len sink.new.outputs.writers ≡ vec_len sink.old.outputs.writers }
+{
+    let early = match sink.pass(packet) {
+        Ok(chain) => {
+            release(rt, ring_port, chain, free)?;
+            return let_go(rt, ring_port, sink, free);
+        }
+        Err(packet) => packet,
+    };
+    match sink.accept(early) {
+        Ok(()) => Ok(()),
+        Err(packet) => {
+            release(rt, ring_port, packet.chain, free)?;
+            Err(StageFault::Window)
+        }
+    }
+}
+
 /// Handles an item from the output ring, and returns whether it is an end mark.
 fn handle<J: Run, W: Write + Drop, T: Wait>(
     rt: &T,
@@ -41,22 +65,14 @@ fn handle<J: Run, W: Write + Drop, T: Wait>(
     packet: Packet<J>,
     free: &mut Burst<Packet<J>, SPAN>,
 ) -> Result<bool, StageFault>
-    requires at_most { length free.old ≤ 64 }
-    ensures at_most { length free.new ≤ 64 }
     ensures length { vec_len sink.new.outputs.writers ≡ vec_len sink.old.outputs.writers }
 {
     match packet {
         Packet::Mark => Ok(true),
-        Packet::After(packet) => match sink.accept(packet) {
-            Ok(()) => {
-                let_go(rt, ring_port, sink, free)?;
-                Ok(false)
-            }
-            Err(packet) => {
-                release(rt, ring_port, packet.chain, free)?;
-                Err(StageFault::Window)
-            }
-        },
+        Packet::After(packet) => {
+            take_in(rt, ring_port, sink, packet, free)?;
+            Ok(false)
+        }
         Packet::Free(segment) => {
             release(rt, ring_port, segment.chain, free)?;
             Ok(false)
@@ -76,8 +92,6 @@ fn handle_all<J: Run, W: Write + Drop, T: Wait>(
     items: &mut Burst<Packet<J>, SPAN>,
     free: &mut Burst<Packet<J>, SPAN>,
 ) -> (usize, Result<(), StageFault>)
-    requires at_most { length free.old ≤ 64 }
-    ensures at_most { length free.new ≤ 64 }
     ensures marks { result.0 ≤ 256 }
     ensures length { vec_len sink.new.outputs.writers ≡ vec_len sink.old.outputs.writers }
 {

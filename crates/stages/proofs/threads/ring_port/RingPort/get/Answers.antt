@@ -1,28 +1,23 @@
-use Rattle.std.proofs.Common.{rules}
-use Rattle.stages.proofs.Known.{if_ok}
-use Rattle.stages.proofs.RingPorts.{local_of, of_local, given_apart}
+use Rattle.std.proofs.Common.{sym, subst, arith}
+use Rattle.std.specs.List.{flat_map}
+use Rattle.burst.specs.Numbers.{AreDistinct}
+use Rattle.fabric.specs.Hands.{rings_of}
+use Rattle.fabric.proofs.Told.{ring_at}
 use Rattle.stages.proofs.threads.ring_port.RingPort.get.Goals as goal
 
-pub get_into-requires : goal.get_into-requires
-get_into-requires g c = (
-  search rules,
-  (
-    search rules,
-    (
-      search rules,
-      (
-        local_of c.args.self.now.fabric.now c.args.self.now.local c.args.self.now.of,
-        (c.requires.nonzero, (c.requires.at_most, c.requires.empty)),
-      ),
-    ),
-  ),
-)
+pub returns-in-Done : goal.returns-in-Done
+returns-in-Done g c =
+    let known = ring_at (rings_of c.args.self.now.fabric.now) 0 (omega (arith, c.args.self.now.rings.many)) in
+    record { apart = (c.in-Done.ensures.exact known.0 known.1).2.1 }
 
-pub invariant_of-self : goal.invariant_of-self
-invariant_of-self g c = record {
-  of = of_local c.args.self.now.fabric.now c.get_into.new.self c.get_into.ensures.local;
-  rings = c.args.self.now.rings;
-}
+pub returns-in_ok-emptiness-in-Refused : goal.returns-in_ok-emptiness-in-Refused
+returns-in_ok-emptiness-in-Refused g c =
+    let known = ring_at (rings_of c.args.self.now.fabric.now) 0 (omega (arith, c.args.self.now.rings.many)) in
+    let none = (c.in-Refused.ensures.exact known.0 known.1).2.0 in
+    record { apart = subst (λ items. AreDistinct (flat_map g.T.Tagged.numbers items)) (sym none) (λ b. omega arith) }
 
-pub returns : goal.returns
-returns g c = record { apart = if_ok c.get_into.result (λ own. given_apart c.get_into.new.self c.get_into.new.into own.0) c.get_into.ensures.own }
+pub returns-in_err-emptiness-in-Refused : goal.returns-in_err-emptiness-in-Refused
+returns-in_err-emptiness-in-Refused g c =
+    let known = ring_at (rings_of c.args.self.now.fabric.now) 0 (omega (arith, c.args.self.now.rings.many)) in
+    let none = (c.in-Refused.ensures.exact known.0 known.1).2.0 in
+    record { apart = subst (λ items. AreDistinct (flat_map g.T.Tagged.numbers items)) (sym none) (λ b. omega arith) }

@@ -1,6 +1,28 @@
-use Rattle.std.proofs.Common.{refl}
+use Rattle.std.proofs.Common.{refl, subst}
+use Rattle.fabric.specs.Hands.{view}
+use Rattle.ringapi.specs.declared.answers.TakeAnswer.TheVariants as taken
+use Rattle.ringapi.specs.Takes.{TakeHasTold}
+use Rattle.ringapi.specs.Views.{by_burst}
+use Rattle.stages.proofs.Known.{if_err}
 use Rattle.stages.proofs.threads.ring_port.RingPort.receive.Goals as goal
 
-pub returns-in-Err-Worn : goal.returns-in-Err-Worn
-returns-in-Err-Worn g c =
-    record { exact = (refl, c.in-Err-Worn.field-0, c.in-Err-Worn.field-0-is, λ plan there. c.in-Err-Worn.ensures.exact plan there) }
+pub returns-in-Refused : goal.returns-in-Refused
+returns-in-Refused g c =
+    let h = c.take_hand-hand.result in
+    let k = c.in-Refused.hand in
+    let items = c.take_burst_into.new.into in
+    record {
+      exact = if_err c.emptiness.result
+          (λ e why. (
+            h,
+            k,
+            refl,
+            why.0,
+            λ plan there.
+                subst
+                (λ fault. TakeHasTold {N = 256} g.T.Tagged.numbers by_burst c.args.n c.args.ring plan (view h) (taken.Refused k fault) items)
+                why.1
+                (c.in-Refused.ensures.exact plan there),
+          ))
+          c.emptiness.ensures;
+    }

@@ -1,4 +1,4 @@
-use Rattle.stages.proofs.threads.reader.obtain.Given as goal
+use Rattle.stages.proofs.threads.reader.obtain_many.Given as goal
 
 abbrev pub invariant-loop : goal.invariant-loop
 invariant-loop g l = (goal.iterator-loop g).can_next l.iterator' × (goal.iterator-loop g).is_finite l.iterator'
