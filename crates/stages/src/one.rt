@@ -32,8 +32,7 @@ use std::marker::Brand;
 /// Forwards the capture that `reader` has, with these settings, and writes to each port's device a capture of the
 /// frames that are sent there, in the order of the input. Requires: a device for each port. Records are streamed:
 /// memory is taken at the start, for a short and a long packet and a buffer of 64 KiB for each device, and doesn't grow
-/// with the
-/// capture.
+/// with the capture.
 ///
 /// All devices are handed back, the ports' in their order. Errors: 1 `Memory`; 3 `Read` and 4 `Write(port)`, if that
 /// device failed in this call; 5 `Capture`, if the input is refused; 6 `Window`, if it has 2^64 - 1 records or more. A

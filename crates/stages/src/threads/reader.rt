@@ -39,8 +39,8 @@ fn segments_of(captured: usize, room: usize) -> usize
     (captured - 1) / room + 1
 }
 
-/// Prepares for asking for segments again: puts the packets that wait to be put together, or waits a little if there are
-/// none.
+/// Prepares for asking for segments again: puts the packets that wait to be put together, or waits a little if there
+/// are none.
 fn make_way<J: Run, T: Wait>(
     rt: &T,
     ring_port: &mut RingPort<'_, Packet<J>>,
@@ -97,8 +97,8 @@ fn obtain_many<J: Run, T: Wait>(
     unreachable!()
 }
 
-/// Free segments for a record of `captured` bytes, as soon as there are enough. Before waiting for them, puts the packets
-/// that wait to be put together.
+/// Free segments for a record of `captured` bytes, as soon as there are enough. Before waiting for them, puts the
+/// packets that wait to be put together.
 fn obtain<J: Run, T: Wait>(
     rt: &T,
     ring_port: &mut RingPort<'_, Packet<J>>,

@@ -70,8 +70,8 @@ impl<'f, T: Tagged, S: Stored<T>> RingPort<'f, T, S> {
         }
     }
 
-    /// Takes `n` free segments into an empty list, or none if their ring has fewer. Returns whether it took them. Errors:
-    /// the ring is worn.
+    /// Takes `n` free segments into an empty list, or none if their ring has fewer. Returns whether it took them.
+    /// Errors: the ring is worn.
     pub(crate) fn get<R: Wait>(
         &mut self,
         rt: &R,
