@@ -1,5 +1,5 @@
 -- Why a run in threads has no summary, from what its reader and its sink leave.
-use Rattle.std.proofs.Common.{◌≡◌, ℕ, List, drop, map, Option, None, Some, Result, Ok, Err, IfSome, refl, sym, ap, ◌∙◌, subst}
+use Rattle.std.proofs.Common.{◌≡◌, ℕ, List, drop, map, Option, None, Some, Result, Ok, Err, IfSome, refl, sym, ◌∙◌, subst}
 use Rattle.pcapio.specs.Counted.{to_come, failures_of, HasNotFailed}
 use Rattle.pcapio.specs.Reader.{source_of}
 use Rattle.pcapio.specs.declared.counted.Counted.{Counted}
