@@ -19,8 +19,8 @@ pub(crate) fn part<T: Tagged, const N: usize>(
     to.reverse();
 }
 
-/// Moves all items of a list behind those of another, in order. Requires: there is room for them. One item goes without a
-/// loop.
+/// Moves all items of a list to the end of another, in order. Requires: there is room for them. One item goes without
+/// a loop.
 #[inline]
 pub(crate) fn push_all<T: Tagged, const N: usize>(to: &mut Burst<T, N>, from: &mut Burst<T, N>)
     requires room { length to.old + length from.old ≤ N }

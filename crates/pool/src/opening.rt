@@ -25,8 +25,8 @@ pub(crate) fn may_be(size: usize, most: usize) -> bool
 }
 
 impl<T: Tagged, const N: usize, S: Stored<T>> Local<T, N, S> {
-    /// An empty cache of this size, 0 to 512, in front of a free ring. Requires: the ring is one of the hand's fabric, and
-    /// free. Refused as `BadSize` where the size is above 512, or `floor(3 * size / 2) + 64` above `N`; the hand comes
+    /// An empty cache of this size, 0 to 512, in front of a free ring. Requires: the ring is one of the hand's fabric,
+    /// and free. Errors: `BadSize` if the size is above 512, or `floor(3 * size / 2) + 64` above `N`; the hand comes
     /// back.
     pub fn new(
         hand: Hand<T, S>,

@@ -105,8 +105,8 @@ impl<J: Run, W: Write + Drop> Sink<J, W> {
         Some(chain)
     }
 
-    /// Releases a packet at once if it is its turn and no other has its number, and returns its chain: what `accept` and
-    /// `give` do, without moving the packet into the window. Any other packet comes back.
+    /// Releases a packet at once if it is its turn and no other has its number, and returns its chain: what `accept`
+    /// and `give` do, without moving the packet into the window. Any other packet comes back.
     pub(crate) fn pass(&mut self, packet: Judged<J>) -> Result<Chain, Judged<J>>
         ensures passed { IsOk result ↔ ((packet.seq ≡ self.old.window.next) × IsFree self.old.window packet.seq) }
         ensures chain { IfOk result (λ chain. chain ≡ packet.chain) }
