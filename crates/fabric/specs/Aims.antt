@@ -1,4 +1,4 @@
--- What is so of a hand that is about to reserve, and once it has reserved
+-- What holds for a hand that is about to reserve, and after it has reserved
 use Rattle.std.specs.Prelude.{◌≡◌, ℕ, ◌+◌, ◌<◌, ◌≤◌, List, [], length, Option, None, Some}
 use Rattle.atomic_table.specs.declared.shared.Seat.{Seat}
 use Rattle.geom.specs.declared.plan.How.{How}
@@ -16,7 +16,7 @@ use Rattle.fabric.specs.Starts.{MayAsk, Probes, Starts}
 use Rattle.fabric.specs.Views.{IsKept, span_of}
 
 module _ {T : Type 0} {N : ℕ} {S : Type 0} (tags : T → List ℕ) where
-  -- its two steps found q of a side, by which it may reserve so many positions, and its count may be asked for; v is
+  -- its two steps found q of a side, which allows it to reserve this many positions, and its count can be granted; v is
   -- its view before
   pub record Aims (most : ℕ) (how : How) (n : ℕ) (side : Side) (r : Ring T N S) (v : View T)
       (s : Seat (Option T) (View T))
@@ -33,7 +33,7 @@ module _ {T : Type 0} {N : ℕ} {S : Type 0} (tags : T → List ℕ) where
     pub last : q.start + count ≤ LAST
     pub may : MayAsk tags most n side r.shape.plan v
 
-  -- these positions of a side are its open span, and their slots are all that it has; v is its view before
+  -- these positions of a side are its open span, and it has no other slots; v is its view before
   pub record HasStarted (most : ℕ) (how : How) (n : ℕ) (side : Side) (r : Ring T N S) (v : View T)
       (s : Seat (Option T) (View T))
       (range : Positions) : Type 0 where

@@ -39,7 +39,7 @@ pub struct Share<T: Tagged, S: Stored<T> = Option<T>> {
     pub ghost row: { IsRow T.numbers seat.me.0.pool seat.me.0.party owned },
 }
 
-/// A thread's hand on a fabric. It has no open span. One that is dropped keeps its buffers for ever.
+/// A thread's hand on a fabric. It has no open span. If it is dropped, its buffers are leaked.
 #[derive(Drop)]
 #[must_use]
 pub struct Hand<T: Tagged, S: Stored<T> = Option<T>> {
@@ -48,7 +48,7 @@ pub struct Hand<T: Tagged, S: Stored<T> = Option<T>> {
     pub ghost idle: { share.seat.me.0.party.span ≡ None },
 }
 
-/// A hand with a span that it will put items into. One that is dropped keeps its span for ever.
+/// A hand with a span that it will put items into. If it is dropped, its span stays reserved for ever.
 #[derive(Drop)]
 #[must_use]
 pub struct PutOpen<'f, T: Tagged, const N: usize, S: Stored<T> = Option<T>> {
@@ -64,7 +64,7 @@ pub struct PutOpen<'f, T: Tagged, const N: usize, S: Stored<T> = Option<T>> {
     pub ghost fits: { range.count ≤ N },
 }
 
-/// A hand with a span whose items it takes. They were moved out at the start, into a burst that the caller lent.
+/// A hand with a span whose items it takes. The start moved them into a burst of the caller.
 #[derive(Drop)]
 #[must_use]
 pub struct TakeOpenLent<'f, T: Tagged, const N: usize, S: Stored<T> = Option<T>> {
@@ -81,7 +81,7 @@ pub struct TakeOpenLent<'f, T: Tagged, const N: usize, S: Stored<T> = Option<T>>
     pub ghost fits: { range.count ≤ N },
 }
 
-/// Why a start reserves nothing. Each number is one that this call found.
+/// Why a start is refused. Each number is one that this call found.
 #[derive(Drop, Clone, Copy, Debug, PartialEq, Eq, Error)]
 pub enum StartFault {
     /// Another hand's span of that head/tail-sync side is open: the word found.
@@ -90,21 +90,22 @@ pub enum StartFault {
     /// The exchange lost against another hand: the word found.
     #[error("Contended {0}")]
     Contended(u64),
-    /// There is too little room, or too few items: so much.
+    /// There is too little room, or there are too few items: the room, or the number of items, that was found.
     #[error("NoRoom {0}")]
     NoRoom(u64),
     /// The positions of the ring are used up.
     #[error("Worn")]
     Worn,
-    /// A count of 0, of more than `N`, or on a free ring of more than the hand's buffers.
+    /// A count of 0, above `N`, or on a free ring above the number of the hand's buffers.
     #[error("BadCount")]
     BadCount,
 }
 
-/// Why a settle settles nothing.
+/// Why a settle is refused.
 #[derive(Drop, Clone, Copy, Debug, PartialEq, Eq, Error)]
 pub enum SettleFault {
-    /// A multi span is settled whole, an HTS span with at most as many items as it has positions.
+    /// A span on a multi side can only be settled whole, one on an HTS side with at most as many items as it has
+    /// positions.
     #[error("BadCount")]
     BadCount,
     /// An earlier span of the side isn't settled yet: the tail found.

@@ -1,11 +1,11 @@
 //! Rings and items that threads share: multi-producer multi-consumer and head/tail-sync rings, a mode for each side, on
 //! atomic words.
 //!
-//! `fabric` has the rings, `open` makes them, `close` ends them. `hand` is a thread's access: it is split, joined, and
-//! made a hand that keeps buffers back for a cache. `spans` has the calls: a start reserves a span, a settle publishes
-//! or takes its items. Below them `ring` is one ring of a fabric, `words` has the atomic steps and what each of them
-//! keeps, `slots` moves items into slots and out of them, and `stored` is what a slot holds an item in: an option, or
-//! for items that are plain words the word itself.
+//! `fabric` has the rings, `open` makes them, `close` ends them. `hand` is a thread's access: it can be split, joined,
+//! or turned into a hand that sets buffers aside for a cache. `spans` has the calls: a start reserves a span, a settle
+//! publishes its items or takes them. Below them `ring` is one ring of a fabric, `words` has the atomic steps and what
+//! each of them preserves, `slots` moves items into slots and out of them, and `stored` is how a slot holds an item: as
+//! an option, or for items that are plain words as the word itself.
 #![tactic(auto)]
 
 mod close;

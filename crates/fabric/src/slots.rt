@@ -1,5 +1,5 @@
-//! Items go into the slots that a hand holds and come out of them. `fill` and `drain` are the only access to a slot of
-//! a fabric that is shared.
+//! Moving items into the slots that a hand holds and out of them. `fill` and `drain` are the only access to a slot of a
+//! shared fabric.
 ghost use Rattle.std.specs.Prelude.{◌≡◌, ◌+◌, ◌<◌, ◌≤◌, ◌++◌, ◌^◌, [], ◌-◌, length, map, take, drop, replicate, None, Some};
 ghost use Rattle.burst.specs.Items.{somes};
 ghost use Rattle.fabric_laws.specs.Kinds.{run};
@@ -16,8 +16,8 @@ use burst::{Cells, Tagged};
 use fabric_laws::View;
 use std::mem::ManuallyDrop;
 
-/// Turns the row of slots by `n`, so that its first `n` slots stand behind the others. Nothing is done as the program
-/// runs.
+/// Turns the row of slots by `n`, so that its first `n` slots come after the others. This is for the proofs; the
+/// program does nothing.
 #[inline]
 pub(crate) fn skip<T: Tagged, S: Stored<T>>(seat: &mut Seat<Cell<T, S>, View<T>>, n: usize)
     requires { n ≤ length seat.old.me.1 }
@@ -30,8 +30,8 @@ pub(crate) fn skip<T: Tagged, S: Stored<T>>(seat: &mut Seat<Cell<T, S>, View<T>>
 }
 
 impl<T: Tagged, const N: usize, S: Stored<T>> Ring<'_, T, N, S> {
-    /// Moves the cells behind the first `k` into as many slots from the position `start` on, which hold nothing and are
-    /// the first of the row. They are then its last, and the list has its first `k` cells.
+    /// Moves the cells after the first `k` into as many slots from the position `start` on, which hold nothing and are
+    /// the first of the row. They are its last ones afterwards, and the list keeps its first `k` cells.
     #[inline]
     pub(crate) fn fill(
         &self,
@@ -58,7 +58,7 @@ impl<T: Tagged, const N: usize, S: Stored<T>> Ring<'_, T, N, S> {
                 .table
                 .shared
                 .exchange(seat, slot, Cell::of(given));
-            // the slot held nothing, so that nothing is to be dropped
+            // the slot was empty, so nothing is dropped
             let _nothing = ManuallyDrop::new(found);
             seat.turn();
         }
@@ -93,7 +93,7 @@ impl<T: Tagged, const N: usize, S: Stored<T>> Ring<'_, T, N, S> {
                 .table
                 .shared
                 .exchange(seat, slot, Cell::of(None));
-            // the cell held nothing, so that nothing is to be dropped
+            // the cell was empty, so nothing is dropped
             let _nothing = ManuallyDrop::new(cells.replace(i, found.take()));
             seat.turn();
         }

@@ -1,5 +1,4 @@
-//! Spans: how one is reserved and how it is settled, with a burst that the caller lends or by value, or for words with a
-//! slice.
+//! Spans: reserving and settling them, with a burst that is borrowed or passed by value, or for words with a slice.
 
 mod by_value;
 mod detached;

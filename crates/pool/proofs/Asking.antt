@@ -115,7 +115,7 @@ module _ {T : Type 0} {S : Type 0} {G : Ghosts T} {H : StoredGhosts S T} (tags :
       let gone = is.1 ∙ none in
       (gone, (m, subst (λ l. PutHasTold {N = most} tags by_bulk ring plan v items (put.Done h m) l) gone told))
 
-  -- one that was refused, of items that are the hand's to put on a free ring: the ring is worn
+  -- one that was refused, of items that the hand may put on a free ring: the ring is worn
   pub put_none : (v : View T) (h : Hand T S G H) (e : Refusal) (items rest : List T) → AreYours tags plan v items → plan.free ≡ true
       → (length items ≤ buffers_had tags v.pool v.party) → 0 < length items → length items ≤ most
       → (IsUnfinishedPut {N = most} (put.Refused h e) → ⊥)

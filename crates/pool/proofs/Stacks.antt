@@ -1,5 +1,5 @@
 -- A stack of words in an array, as runs of words are written into it, read out of it and moved in it
-use Rattle.std.proofs.Common.{◌≡◌, ℕ, ◌+◌, ◌-◌, ◌≤◌, ◌<◌, ◌++◌, List, [], length, take, drop, reverse, refl, sym, ap, ◌∙◌, arith}
+use Rattle.std.proofs.Common.{◌≡◌, ℕ, ◌+◌, ◌-◌, ◌≤◌, ◌<◌, ◌++◌, ◌∷◌, List, [], length, slice_set, take, drop, reverse, refl, sym, ap, ◌∙◌, arith}
 use Rattle.std.proofs.lemmas.List.{drop-take, drop_all, drop_at, length-drop, length-take-le, take-take, take_at}
 use Rattle.std.proofs.Math.Seq.{drop-append-add, paste}
 use Rattle.std.proofs.lemmas.List.Edits.{take-paste}
@@ -37,7 +37,7 @@ module _ {T : Type 0} (xs : List T) (c : ℕ) (fits : c ≤ length xs) where
       let rest : drop k copied ≡ take (n - k) (drop k (take c xs)) = ap (drop k) same ∙ sym (run_from (take c xs) n k le) in
       λ i. front i ++ rest i
 
--- n places behind the first c, lent of an array that is xs, and what they have after a call
+-- n places after the first c of an array that is xs, and what they have after a call
 module _ {T : Type 0} (xs at new : List T) (c n : ℕ) (is : at ≡ xs) (fits : c ≤ length xs) where
   pub pushed_run : length new ≡ n → take (c + n) (put_mid c (c + n - c) at new) ≡ take c xs ++ new
   pushed_run long =
@@ -49,7 +49,13 @@ module _ {T : Type 0} (xs at new : List T) (c n : ℕ) (is : at ≡ xs) (fits : 
       let split : c + n - c ≡ n = omega arith in
       length-take-le (c + n - c) (drop c at) (omega (arith, length-drop c at, ap length is, room, all, split)) ∙ split
 
--- what stands behind a list that is the front of another
+-- a word written to a slice of one place
+pub one_place : {T : Type 0} (xs : List T) (x : T) → length xs ≡ 1 → slice_set xs 0 x ≡ x ∷ []
+one_place [] x one = absurd (omega (arith, one))
+one_place (y ∷ []) x one = refl
+one_place (y ∷ z ∷ zs) x one = absurd (omega (arith, one))
+
+-- what comes after a list that is the front of another
 module _ {T : Type 0} (before behind after : List T) (is : after ≡ before ++ behind) where
   pub added_is : added before after ≡ behind
   added_is = ap (drop (length before)) is ∙ drop_at before behind (length before) refl
@@ -57,7 +63,7 @@ module _ {T : Type 0} (before behind after : List T) (is : after ≡ before ++ b
   pub front_kept : after ≡ before ++ added before after
   front_kept = is ∙ ap (λ l. before ++ l) (sym added_is)
 
--- what stands behind a list that is the same still
+-- what comes after a list that is unchanged
 pub added_none : {T : Type 0} → (before after : List T) → after ≡ before → added before after ≡ []
 added_none before after is = ap (drop (length before)) is ∙ drop_all (length before) before (omega arith)
 

@@ -1,4 +1,4 @@
--- What the calls of a pool answer
+-- What the calls of a pool return
 use Rattle.std.specs.Prelude.{◌≡◌, ◌+◌, ◌<◌, ◌≤◌, ◌++◌, ◌⊎◌, ℕ, List, [], length, Option, Result, Ok, Err, IsOk}
 use Rattle.geom.specs.declared.plan.RingPlan.{RingPlan}
 use Rattle.burst.specs.declared.tagged.Tagged.{Ghosts}
@@ -17,13 +17,13 @@ use Rattle.pool.specs.declared.faults.PoolFault.{PoolFault}
 use Rattle.pool.specs.declared.faults.PoolFault.TheVariants.{Short, Worn, CacheFull, NotYours, BadSize}
 
 module _ {T : Type 0} where
-  -- A get from the cache alone: it has n items, or is short of them and stays
+  -- A get from the cache alone: it has n items, or too few and isn't changed
   abbrev pub GetsCached : {X : Type 0} → ℕ → List T → Result X PoolFault → List T → List T → Type 0
   GetsCached n cache (Ok x) items later =
       (n ≤ length cache) × (items ≡ taken_by_get n cache []) × (later ≡ cached_after_get n cache [])
   GetsCached n cache (Err e) items later = (length cache < n) × (e ≡ Short) × (items ≡ []) × (later ≡ cache)
 
-  -- what a call by value gives, and why it gives nothing; the list that it hands back
+  -- what a call by value returns, and why it returns nothing; the list that it hands back
   abbrev pub given : Result (List T) PoolFault → List T
   given (Ok items) = items
   given (Err e) = []
@@ -36,8 +36,8 @@ module _ {T : Type 0} where
   answer_of (Ok x) = Ok x
   answer_of (Err e) = Err e.1
 
-  -- what a get into a slice gave: all that the slice has then, or nothing; and what a put from a slice left: nothing,
-  -- or all of it
+  -- what a get into a slice returned: all that the slice has afterwards, or nothing; and what a put from a slice left:
+  -- nothing, or all of it
   abbrev pub filled : {X E : Type 0} → Result X E → List T → List T
   filled (Ok x) items = items
   filled (Err e) items = []
@@ -47,8 +47,8 @@ module _ {T : Type 0} where
   undone (Err e) items = items
 
 module _ {T : Type 0} (tags : T → List ℕ) (v : View T) (size : ℕ) where
-  -- A put into the cache alone, with what is left of the list. Items that aren't the hand's to put beside what is
-  -- cached are refused before the count of them is looked at
+  -- A put into the cache alone, with what is left of the list. Items with buffers that aren't the hand's own, or that
+  -- are cached, are refused before their number is looked at
   abbrev pub PutsCached : {X : Type 0} → List T → List T → Result X PoolFault → List T → List T → Type 0
   PutsCached cache list (Ok x) rest later =
       AreOwnBuffers tags v (cache ++ list) × (length (cache ++ list) ≤ threshold size)
@@ -62,7 +62,7 @@ module _ {T : Type 0} (tags : T → List ℕ) (v : View T) (size : ℕ) where
   PutsCached cache list (Err Worn) rest later = ⊥
   PutsCached cache list (Err BadSize) rest later = ⊥
 
-  -- why items are no cache of this size, in bursts of `most` items: in the order of the tests
+  -- why these items can't be a cache of this size, in bursts of `most` items: in the order of the tests
   abbrev pub RefusesCache : ℕ → List T → PoolFault → Type 0
   RefusesCache most items BadSize = (512 < size) ⊎ (most < threshold size + 64)
   RefusesCache most items NotYours =
@@ -73,18 +73,18 @@ module _ {T : Type 0} (tags : T → List ℕ) (v : View T) (size : ℕ) where
   RefusesCache most items Worn = ⊥
 
 module _ {T : Type 0} {S : Type 0} {G : Ghosts T} {H : StoredGhosts S T} (l : Option (CacheHand T S G H)) where
-  -- what the ring answered is what the call answers, with its hand as the cache's
+  -- what the ring returned is what the call returns, with its hand as the cache's
   abbrev pub SameAnswer : {X : Type 0} → Result (Hand T S G H) (Hand T S G H × PoolFault) → Result X PoolFault → Type 0
   SameAnswer (Ok h) (Ok x) = view_in l ≡ view h
   SameAnswer (Ok h) (Err e) = ⊥
   SameAnswer (Err h) (Ok x) = ⊥
   SameAnswer (Err h) (Err e) = (e ≡ h.1) × (view_in l ≡ view h.0)
 
--- What a cache's calls answer, whatever holds its items. Its hand is k before a call, and l after it
+-- What a cache's calls return, whatever holds its items. Its hand is k before a call, and l after it
 module _ {T : Type 0} {S : Type 0} {G : Ghosts T} {H : StoredGhosts S T} (tags : T → List ℕ) (most ring size : ℕ)
     (plan : RingPlan) (k l : Option (CacheHand T S G H)) where
-  -- What a get of n items answers, with the items that it gives and the cache after it. Where the cache has n items, it
-  -- asks nothing of the ring and isn't refused
+  -- What a get of n items returns, with the items that it gets and the cache after it. If the cache has n items, it
+  -- makes no request to the ring and isn't refused
   abbrev pub AnswersGet : {X : Type 0} → ℕ → List T → Result X PoolFault → List T → List T → Type 0
   AnswersGet n cache result items later =
       ((n ≤ length cache) × IsOk result × (view_in l ≡ view_in k)
@@ -92,9 +92,9 @@ module _ {T : Type 0} {S : Type 0} {G : Ghosts T} {H : StoredGhosts S T} (tags :
       ⊎ ((length cache < n) × (answer : Result (Hand T S G H) (Hand T S G H × PoolFault))
       × Fetches tags most ring plan size (view_in k) n cache answer items later × SameAnswer l answer result)
 
-  -- What a put of a list answers, with what is left of the list and the cache after it. Items that aren't the hand's to
-  -- put beside what is cached are refused before anything else; where the threshold isn't passed, nothing is asked of
-  -- the ring
+  -- What a put of a list returns, with what is left of the list and the cache after it. Items with buffers that aren't
+  -- the hand's own, or that are cached, are refused before anything else; if the threshold isn't passed, there is no
+  -- request to the ring
   abbrev pub AnswersPut : {X : Type 0} → List T → List T → Result X PoolFault → List T → List T → Type 0
   AnswersPut cache list (Ok x) rest later =
       AreOwnBuffers tags (view_in k) (cache ++ list) × (rest ≡ [])
@@ -112,7 +112,7 @@ module _ {T : Type 0} {S : Type 0} {G : Ghosts T} {H : StoredGhosts S T} (tags :
   AnswersPut cache list (Err CacheFull) rest later = ⊥
   AnswersPut cache list (Err BadSize) rest later = ⊥
 
-  -- what a flush answers, with the cache after it
+  -- what a flush returns, with the cache after it
   abbrev pub AnswersFlush : {X : Type 0} → List T → Result X PoolFault → List T → Type 0
   AnswersFlush cache (Ok x) later =
       (h : Hand T S G H) × Flushes tags most ring plan (view_in k) cache (Ok h) later × (view_in l ≡ view h)
@@ -121,14 +121,15 @@ module _ {T : Type 0} {S : Type 0} {G : Ghosts T} {H : StoredGhosts S T} (tags :
 
 module _ {T : Type 0} {S : Type 0} {G : Ghosts T} {H : StoredGhosts S T} {N : ℕ}
     (tags : T → List ℕ) (plan : RingPlan) (l m : Local T N S G H) where
-  -- what the calls of a cache of any items answer: a get, a put with what is left of its list, a flush
+  -- what the calls of a cache of any items return: a get, a put with what is left of its list, a flush
   abbrev pub GetTells : {X : Type 0} → ℕ → Result X PoolFault → List T → Type 0
   GetTells n result items =
       AnswersGet tags N (ring_of l) (cache_size l) plan (hand_of l) (hand_of m) n (cache_of l) result items (cache_of m)
 
   abbrev pub PutBackTells : {X : Type 0} → List T → Result X PoolFault → List T → Type 0
   PutBackTells list result rest =
-      AnswersPut tags N (ring_of l) (cache_size l) plan (hand_of l) (hand_of m) (cache_of l) list result rest (cache_of m)
+      AnswersPut tags N (ring_of l) (cache_size l) plan (hand_of l) (hand_of m) (cache_of l) list result rest
+      (cache_of m)
 
   abbrev pub FlushTells : {X : Type 0} → Result X PoolFault → Type 0
   FlushTells result =

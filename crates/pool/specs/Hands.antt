@@ -39,12 +39,12 @@ module _ {T : Type 0} {S : Type 0} {G : Ghosts T} {H : StoredGhosts S T} where
   IsSameIn (Some k) None = ⊥
   IsSameIn (Some k) (Some l) = SameCacheHand k l
 
-  -- how often it has a buffer beside those that it keeps back
+  -- how often it has a buffer other than those that it sets aside
   abbrev pub spare_in : Option (CacheHand T S G H) → ℕ → ℕ
   spare_in None b = 0
   spare_in (Some k) b = spare k b
 
-  -- the buffers that it keeps back are those of these items
+  -- the buffers that it sets aside are those of these items
   abbrev pub KeepsIn : (T → List ℕ) → Option (CacheHand T S G H) → List T → Type 0
   KeepsIn tags o items = (b : ℕ) → spare_in o b + occurrences_in tags b items ≡ holds tags b (view_in o).party
 

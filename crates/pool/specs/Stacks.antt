@@ -11,6 +11,6 @@ module _ {T : Type 0} where
   abbrev pub room_of : WordStack T → ℕ
   room_of s = length s.places.items
 
-  -- what stands behind these items in a list that begins with them
+  -- what comes after these items in a list that begins with them
   abbrev pub added : List T → List T → List T
   added before after = drop (length before) after

@@ -1,4 +1,4 @@
--- What the calls of a pool of words answer: the same as those that are lent a list, with the slice for the list
+-- What the calls of a pool of words return: the same as those that borrow a list, with the slice as the list
 use Rattle.std.specs.Prelude.{◌+◌, ◌<◌, ◌≤◌, ◌⊎◌, ℕ, List, length, Result}
 use Rattle.geom.specs.declared.plan.RingPlan.{RingPlan}
 use Rattle.burst.specs.declared.tagged.Tagged.{Ghosts}
@@ -15,24 +15,24 @@ use Rattle.pool.specs.declared.words.opening.CacheFault.TheVariants.{Memory, Poo
 
 module _ {T : Type 0} {S : Type 0} {G : Ghosts T} {H : StoredGhosts S T} {N : ℕ} (tags : T → List ℕ) (plan : RingPlan)
     (l m : LocalWords T N S G H) where
-  -- what a get into a slice answers, by what the slice was and is then
+  -- what a get into a slice returns, depending on the slice before and after it
   abbrev pub GetTells : {X : Type 0} → Result X PoolFault → List T → List T → Type 0
   GetTells result before after =
       AnswersGet tags N (ring_of l) (cache_size l) plan (hand_of l) (hand_of m) (length before) (cache_of l) result
       (filled result after) (cache_of m)
 
-  -- what a put from a slice answers: none of it is left, or all is
+  -- what a put from a slice returns: nothing of it is left, or all is
   abbrev pub PutBackTells : {X : Type 0} → Result X PoolFault → List T → Type 0
   PutBackTells result items =
       AnswersPut tags N (ring_of l) (cache_size l) plan (hand_of l) (hand_of m) (cache_of l) items result
       (undone result items) (cache_of m)
 
-  -- what a flush answers
+  -- what a flush returns
   abbrev pub FlushTells : {X : Type 0} → Result X PoolFault → Type 0
   FlushTells result =
       AnswersFlush tags N (ring_of l) (cache_size l) plan (hand_of l) (hand_of m) (cache_of l) result (cache_of m)
 
--- Why no empty cache of this size is made, in bursts of `most` items. Memory is asked for a lawful size only
+-- Why no empty cache of this size is made, in bursts of `most` items. Memory is requested for a valid size only
 abbrev pub RefusesSize : ℕ → ℕ → CacheFault → Type 0
 RefusesSize size most Memory = (size ≤ 512) × (threshold size + 64 ≤ most)
 RefusesSize size most (Pool BadSize) = (512 < size) ⊎ (most < threshold size + 64)
@@ -41,7 +41,7 @@ RefusesSize size most (Pool CacheFull) = ⊥
 RefusesSize size most (Pool NotYours) = ⊥
 RefusesSize size most (Pool Worn) = ⊥
 
--- why words are no cache of this size: in the order of the tests
+-- why these words can't be a cache of this size: in the order of the tests
 abbrev pub RefusesWords : {T : Type 0} → (T → List ℕ) → View T → ℕ → ℕ → List T → CacheFault → Type 0
 RefusesWords tags v size most items Memory = (size ≤ 512) × (threshold size + 64 ≤ most)
 RefusesWords tags v size most items (Pool e) = RefusesCache tags v size most items e

@@ -44,3 +44,7 @@ module _ {T : Type 0} {S : Type 0} {G : Ghosts T} {H : StoredGhosts S T} {N : �
   -- the same ring and size
   abbrev pub SameRing : LocalWords T N S G H → LocalWords T N S G H → Type 0
   SameRing l m = (m.ring ≡ l.ring) × (m.size ≡ l.size)
+
+  -- the same words in the cache
+  abbrev pub SameCache : LocalWords T N S G H → LocalWords T N S G H → Type 0
+  SameCache l m = stacked m.cache ≡ stacked l.cache

@@ -1,4 +1,4 @@
-//! Gets and puts of the cache alone, which are lent a list. They touch no ring.
+//! Gets and puts on the cache alone, which borrow a list. They touch no ring.
 ghost use Rattle.std.specs.Prelude.{◌≡◌, ◌++◌, [], IfOk};
 ghost use Rattle.fabric.specs.Settles.{AreOwnBuffers};
 ghost use Rattle.pool.specs.Calls.{GetsCached, PutsCached};
@@ -12,8 +12,8 @@ use burst::{Burst, Tagged};
 use fabric::Stored;
 
 impl<T: Tagged, const N: usize, S: Stored<T>> Local<T, N, S> {
-    /// Gets `n` items from the cache alone, the newest first, into an empty list. Refused as `Short` where it has
-    /// fewer; nothing moves then. No step on a word, no memory, no waiting.
+    /// Gets `n` items from the cache alone, the newest first, into an empty list. Errors: `Short` if it has fewer;
+    /// nothing moves then. No step on a word, no memory, no waiting.
     #[inline]
     pub fn get_cached_into(&mut self, n: usize, into: &mut Burst<T, N>) -> Result<(), PoolFault>
         requires empty { into.old ≡ [] }
@@ -31,10 +31,10 @@ impl<T: Tagged, const N: usize, S: Stored<T>> Local<T, N, S> {
         Ok(())
     }
 
-    /// Pushes a list behind the cache, in order. It is empty then.
+    /// Pushes the items of a list onto the cache, in order. The list is empty afterwards.
     ///
-    /// Errors, in the order of the tests: `NotYours`; `CacheFull` where the threshold, `floor(3 * size / 2)`, would be
-    /// passed. Nothing moves then, and the list has its items. No step on a word, no memory, no waiting.
+    /// Errors, in the order of the tests: `NotYours`; `CacheFull` if the threshold, `floor(3 * size / 2)`, would be
+    /// passed. Nothing moves then, and the list still has its items. No step on a word, no memory, no waiting.
     #[inline]
     pub fn put_cached_from(&mut self, list: &mut Burst<T, N>) -> Result<(), PoolFault>
         ensures same { SameRing self.old self.new × HasSameHand self.old self.new }

@@ -1,13 +1,13 @@
-//! Why a call of a pool moves nothing.
+//! Why a call of a pool is refused.
 ghost use Rattle.std.specs.Prelude.{◌≡◌};
 ghost use Rattle.pool.specs.Faults.{number_of};
 
 use thiserror::Error;
 
-/// Why a call of a pool moves nothing.
+/// Why a call of a pool is refused.
 #[derive(Drop, Clone, Copy, Debug, PartialEq, Eq, Error)]
 pub enum PoolFault {
-    /// Fewer buffers are cached, or on the ring, than were asked for.
+    /// Fewer buffers are cached, or on the ring, than the call wants.
     #[error("Short")]
     Short = 1,
     /// The cache would pass its threshold.

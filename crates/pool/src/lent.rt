@@ -1,4 +1,4 @@
-//! Gets, puts and flushes that are lent a list, through the cache to the ring.
+//! Gets, puts and flushes that borrow a list, through the cache to the ring.
 ghost use Rattle.std.specs.Prelude.{◌≡◌, ◌+◌, ◌<◌, ◌≤◌, ◌++◌, [], length, IfOk};
 ghost use Rattle.fabric.specs.Hands.{OnRing};
 ghost use Rattle.fabric.specs.Settles.{AreOwnBuffers};
@@ -14,12 +14,12 @@ use fabric::{Fabric, Stored};
 use std::sync::Wait;
 
 impl<T: Tagged, const N: usize, S: Stored<T>> Local<T, N, S> {
-    /// Gets `n` items into an empty list, 1 to 64: the newest of the cache, the newest first. Where it has too few, all
-    /// of them, and behind them the first that one bulk take of the missing and `size` more gave; the others of these
-    /// are the cache then, in the ring's order. Where that take is refused, one of the missing alone.
+    /// Gets `n` items into an empty list, 1 to 64: the newest of the cache, the newest first. If it has too few: all of
+    /// them, followed by the first ones of a bulk take of the missing and `size` more; the others of that take are the
+    /// cache afterwards, in the ring's order. If that take is refused, a take of only the missing ones is tried.
     ///
-    /// Refused, where that is refused too: `Short`, where it found too few; `Worn`. Nothing moves then. No memory; it
-    /// waits while the ring is busy, and not for items.
+    /// Errors, if that is refused too: `Short` if it found too few; `Worn`. Nothing moves then. No memory; it waits
+    /// while the ring is busy, but not for items.
     pub fn get_into<R: Wait>(
         &mut self,
         rt: &R,
@@ -54,12 +54,11 @@ impl<T: Tagged, const N: usize, S: Stored<T>> Local<T, N, S> {
         }
     }
 
-    /// Puts a list of at most 64 items: pushes them behind the cache, in order. Where its threshold,
-    /// `floor(3 * size / 2)`, would be passed, the oldest of cache and list together go to the ring in one bulk put,
-    /// until `size` are left.
+    /// Puts a list of at most 64 items: pushes them onto the cache, in order. If its threshold, `floor(3 * size / 2)`,
+    /// would be passed, the oldest of cache and list together go to the ring in one bulk put, until `size` are left.
     ///
-    /// Errors: `NotYours`, tested first; `Worn`. Nothing moves then, and the list has its items. No memory; it waits
-    /// while the ring is busy.
+    /// Errors: `NotYours`, tested first; `Worn`. Nothing moves then, and the list still has its items. No memory; it
+    /// waits while the ring is busy.
     pub fn put_from<R: Wait>(
         &mut self,
         rt: &R,
@@ -106,9 +105,9 @@ impl<T: Tagged, const N: usize, S: Stored<T>> Local<T, N, S> {
         }
     }
 
-    /// Puts all of the cache on the ring in one bulk put, the oldest first, where it isn't empty.
+    /// Puts all of the cache on the ring in one bulk put, the oldest first, if it isn't empty.
     ///
-    /// Errors: `Worn`. The cache stays as it is then. No memory; it waits while the ring is busy.
+    /// Errors: `Worn`. The cache isn't changed then. No memory; it waits while the ring is busy.
     pub fn flush<R: Wait>(&mut self, rt: &R, f: &Fabric<T, N, S>) -> Result<(), PoolFault>
         requires local { IsLocalOf f.now self.old }
         ensures local { IsLocalOf f.now self.new }

@@ -3,7 +3,7 @@ ghost use Rattle.std.specs.Prelude.{◌≡◌, ◌+◌, ◌-◌, ◌≤◌, ◌+
 
 use burst::{Burst, Tagged};
 
-/// Moves the items behind the first `k` of a list into an empty one, in order.
+/// Moves the items after the first `k` of a list into an empty one, in order.
 pub(crate) fn part<T: Tagged, const N: usize>(
     from: &mut Burst<T, N>,
     k: usize,
@@ -19,8 +19,8 @@ pub(crate) fn part<T: Tagged, const N: usize>(
     to.reverse();
 }
 
-/// Moves all items of a list to the end of another, in order. Requires: there is room for them. One item goes without
-/// a loop.
+/// Moves all items of a list to the end of another, in order. Requires: there is room for them. One item is moved
+/// without a loop.
 #[inline]
 pub(crate) fn push_all<T: Tagged, const N: usize>(to: &mut Burst<T, N>, from: &mut Burst<T, N>)
     requires room { length to.old + length from.old ≤ N }
@@ -36,7 +36,7 @@ pub(crate) fn push_all<T: Tagged, const N: usize>(to: &mut Burst<T, N>, from: &m
     }
 }
 
-/// Moves the first `k` items of a list behind those of another, in order. Requires: there is room for them.
+/// Moves the first `k` items of a list to the end of another, in order. Requires: there is room for them.
 pub(crate) fn serve<T: Tagged, const N: usize>(
     from: &mut Burst<T, N>,
     k: usize,

@@ -15,9 +15,10 @@ pub(crate) const MAX_CACHE: usize = 512;
 pub(crate) const BATCH: usize = 64;
 
 /// A hand with a cache of buffers of a free ring: a stack, its newest last. Each item in it carries one buffer, which
-/// is the hand's own and kept back by it, and none stands twice: so none of them is on a ring or at another hand.
+/// is the hand's own and set aside by it, and none occurs twice: so none of them is on a ring or belongs to another
+/// hand.
 ///
-/// The hand is in a place of its own since calls on rings take it whole; between calls it is always there.
+/// The hand is in an `Option` since calls on rings take it by value; between calls it is always there.
 #[derive(Drop)]
 pub struct Local<T: Tagged, const N: usize, S: Stored<T> = Option<T>> {
     pub(crate) hand: Option<CacheHand<T, S>>,

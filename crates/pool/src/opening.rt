@@ -1,4 +1,4 @@
-//! How a cache begins, and how its hand and its items come back.
+//! Making a cache, and getting its hand and its items back.
 ghost use Rattle.std.specs.Prelude.{◌≡◌, ◌+◌, ◌<◌, ◌≤◌, ◌⊎◌, [], IfOk, IfErr, true, false};
 ghost use Rattle.fabric.specs.Hands.{SameHand, view};
 ghost use Rattle.pool.specs.Caches.{threshold};
@@ -12,8 +12,8 @@ use crate::local::{BATCH, Local, MAX_CACHE};
 use burst::{Burst, Tagged};
 use fabric::{Hand, Stored};
 
-/// Whether a cache may have this size in bursts of `most` items: it is at most 512, and its threshold and 64 items more
-/// fit.
+/// Whether a cache can have this size in bursts of `most` items: it is at most 512, and there is room for its threshold
+/// and 64 more items.
 pub(crate) fn may_be(size: usize, most: usize) -> bool
     ensures fits { result ≡ true → (size ≤ 512) × (threshold size + 64 ≤ most) }
     ensures other { result ≡ false → (512 < size) ⊎ (most < threshold size + 64) }
@@ -51,9 +51,10 @@ impl<T: Tagged, const N: usize, S: Stored<T>> Local<T, N, S> {
         })
     }
 
-    /// A cache of this size that has these items, the oldest first, as `into_hand` gave them. Requires: as of `new`.
+    /// A cache of this size that has these items, the oldest first, as `into_hand` returned them. Requires: as for
+    /// `new`.
     ///
-    /// Errors, in the order of the tests: `BadSize`, as of `new`; `NotYours`; `CacheFull` where there are more than
+    /// Errors, in the order of the tests: `BadSize`, as for `new`; `NotYours`; `CacheFull` if there are more than
     /// `floor(3 * size / 2)`. The hand and the items come back. No step on a word, no memory.
     pub fn resume(
         hand: Hand<T, S>,

@@ -1,4 +1,4 @@
-//! Puts and takes on any ring of the fabric by a hand that keeps the buffers of a cache back: the cache stays as it is.
+//! Puts and takes on any ring of the fabric by a hand that sets the buffers of a cache aside: the cache isn't changed.
 ghost use Rattle.std.specs.Prelude.{◌≡◌, ◌<◌, [], Some, length};
 ghost use Rattle.ringcore_laws.specs.FreeRings.{AreSingle};
 ghost use Rattle.fabric.specs.Hands.{OnRing, rings_of};
@@ -71,11 +71,11 @@ fn receive<T: Tagged, const N: usize, S: Stored<T>, R: Wait>(
 
 impl<T: Tagged, const N: usize, S: Stored<T>> Local<T, N, S> {
     /// Puts as many items of a list as there is room for on a ring of the fabric, from its front, and tries again while
-    /// the ring is busy. What was not moved stays in the list, in order; the cache stays as it is.
+    /// the ring is busy. What was not moved stays in the list, in order; the cache isn't changed.
     ///
-    /// Errors, in the order of the tests: `NotYours`, where the items aren't the hand's to put beside those that are
-    /// cached, before any step; `Start`: `BadCount` where the list is empty; `NoRoom`; `Worn`. No memory; it doesn't
-    /// wait for room.
+    /// Errors, in the order of the tests: `NotYours` if the items carry buffers that aren't the hand's own or that are
+    /// cached, before any step; `Start`: `BadCount` if the list is empty; `NoRoom`; `Worn`. No memory; it doesn't wait
+    /// for room.
     pub fn send_from<R: Wait>(
         &mut self,
         rt: &R,
@@ -97,10 +97,10 @@ impl<T: Tagged, const N: usize, S: Stored<T>> Local<T, N, S> {
     }
 
     /// Takes at most `n` items from a ring of the fabric, as many as are queued, into an empty list, and tries again
-    /// while the ring is busy. The cache stays as it is.
+    /// while the ring is busy. The cache isn't changed.
     ///
-    /// Errors, in the order of the tests: `BadCount` where `n` is 0 or above `N`; `NoRoom` where none is queued;
-    /// `Worn`. No memory; it doesn't wait for items.
+    /// Errors, in the order of the tests: `BadCount` if `n` is 0 or above `N`; `NoRoom` if none is queued; `Worn`. No
+    /// memory; it doesn't wait for items.
     pub fn receive_into<R: Wait>(
         &mut self,
         rt: &R,

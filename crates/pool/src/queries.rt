@@ -1,4 +1,4 @@
-//! What a cache answers about itself.
+//! Queries about a cache.
 ghost use Rattle.std.specs.Prelude.{◌≡◌, ◌==◌, ◌<◌, ◌↔◌, IsTrue, length, true, false};
 ghost use Rattle.ringcore_laws.specs.FreeRings.{AreSingle};
 ghost use Rattle.ringcore_laws.specs.Sound.{holds, occurrences, occurrences_in};
@@ -9,7 +9,7 @@ use crate::local::Local;
 use burst::{Burst, Tagged};
 use fabric::Stored;
 
-/// Whether an item, which carries one buffer, carries this one.
+/// Whether an item that carries one buffer carries this one.
 pub(crate) fn carries<T: Tagged>(item: &T, b: u32) -> bool
     requires single { (length (T.numbers item.now) == 1) ≡ true }
     ensures { occurrences b (T.numbers item.now) ≡ one_if result }
@@ -54,14 +54,14 @@ impl<T: Tagged, const N: usize, S: Stored<T>> Local<T, N, S> {
         self.cache.is_empty()
     }
 
-    /// The size of the cache, as it was made.
+    /// The size that the cache was made with.
     pub fn size(&self) -> usize
         ensures { result ≡ cache_size self.now }
     {
         self.size
     }
 
-    /// Whether a buffer is the hand's own, cached or not. Looks at each cached item if it isn't in the hand's row.
+    /// Whether a buffer is the hand's own, cached or not. Looks at each cached item if the hand's flag of it isn't set.
     pub fn owns(&self, b: u32) -> bool
         ensures { IsTrue result ↔ (holds T.numbers b (view_of self.now).party ≡ 1) }
     {

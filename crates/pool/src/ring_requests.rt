@@ -13,7 +13,7 @@ use fabric::{Fabric, Hand, StartFault, Stored};
 use ringapi::{PutAnswer, TakeAnswer, put_own_bulk_from, take_bulk_into};
 use std::sync::Wait;
 
-/// What a refused take means to a caller that asks for buffers.
+/// What a refused take means to a caller that wants buffers.
 pub(crate) fn refusal(fault: StartFault) -> PoolFault
     ensures { result ≡ refusal_of fault }
 {
@@ -23,7 +23,7 @@ pub(crate) fn refusal(fault: StartFault) -> PoolFault
     }
 }
 
-/// One bulk take of `n` items, tried until it is answered.
+/// One bulk take of `n` items, tried until it succeeds or is refused.
 fn ask<T: Tagged, const N: usize, S: Stored<T>, R: Wait>(
     rt: &R,
     f: &Fabric<T, N, S>,
@@ -52,7 +52,7 @@ fn ask<T: Tagged, const N: usize, S: Stored<T>, R: Wait>(
     }
 }
 
-/// The items that a cache is short of, by `missing`, and `size` more; if so many aren't to be had, the missing alone.
+/// The `missing` items that a cache lacks, and `size` more; if the ring doesn't have that many, the missing ones alone.
 pub(crate) fn refill<T: Tagged, const N: usize, S: Stored<T>, R: Wait>(
     rt: &R,
     f: &Fabric<T, N, S>,
@@ -86,8 +86,8 @@ pub(crate) fn refill<T: Tagged, const N: usize, S: Stored<T>, R: Wait>(
     }
 }
 
-/// One bulk put of all items of a list that are the hand's to put, tried until it is answered. Refused only where the
-/// ring is worn; nothing changes then.
+/// One bulk put of all items of a list that the hand may put, tried until it succeeds or is refused. Refused only if
+/// the ring is worn; nothing changes then.
 pub(crate) fn put_bulk<T: Tagged, const N: usize, S: Stored<T>, R: Wait>(
     rt: &R,
     f: &Fabric<T, N, S>,
@@ -115,8 +115,8 @@ pub(crate) fn put_bulk<T: Tagged, const N: usize, S: Stored<T>, R: Wait>(
     }
 }
 
-/// One bulk put of the oldest `spare` items of a cache, tried until it is answered. The others wait in `others`
-/// meanwhile, which is empty before and after.
+/// One bulk put of the oldest `spare` items of a cache, tried until it succeeds or is refused. The others are in
+/// `others` meanwhile, which is empty before and after.
 pub(crate) fn spill<T: Tagged, const N: usize, S: Stored<T>, R: Wait>(
     rt: &R,
     f: &Fabric<T, N, S>,
@@ -143,7 +143,7 @@ pub(crate) fn spill<T: Tagged, const N: usize, S: Stored<T>, R: Wait>(
     ensures left { others.new ≡ [] }
 {
     cache.move_tail_reversed(spare, others);
-    // the same in both arms, behind different items
+    // the same in both arms, after different items
     match put_bulk(rt, f, hand, ring, cache) {
         Ok(hand) => {
             others.move_tail_reversed(0, cache);
@@ -156,8 +156,8 @@ pub(crate) fn spill<T: Tagged, const N: usize, S: Stored<T>, R: Wait>(
     }
 }
 
-/// Gets items where the cache has too few: all of them, the newest first, and behind them the first of those that
-/// refill the cache. At a refusal nothing moves.
+/// Gets items if the cache has too few: all of them, the newest first, followed by the first of those that refill the
+/// cache. At a refusal nothing moves.
 pub(crate) fn fetch<T: Tagged, const N: usize, S: Stored<T>, R: Wait>(
     rt: &R,
     f: &Fabric<T, N, S>,
@@ -183,7 +183,7 @@ pub(crate) fn fetch<T: Tagged, const N: usize, S: Stored<T>, R: Wait>(
     ensures party { IfErr result (λ e. (view e.0).party ≡ (view hand).party) }
 {
     let missing = n - cache.len();
-    // the cache, emptied, is lent as the list of the take: so what it keeps is in it without a copy
+    // the emptied cache is the list of the take: so what it keeps is already in it
     cache.move_tail_reversed(0, into);
     match refill(rt, f, hand, ring, missing, size, cache) {
         Ok(hand) => {
@@ -218,7 +218,7 @@ pub(crate) fn empty<T: Tagged, const N: usize, S: Stored<T>, R: Wait>(
         return Ok(hand);
     }
     let answer = put_bulk(rt, f, hand, ring, cache);
-    // arm by arm, so that the proof has each answer by itself
+    // an arm for each, so that the proof has each answer separately
     match answer {
         Ok(hand) => Ok(hand),
         Err(hand) => Err(hand),

@@ -1,4 +1,4 @@
-//! A hand and the cache whose buffers it keeps back.
+//! A hand and the cache whose buffers it sets aside.
 ghost use Rattle.std.specs.Prelude.{◌≡◌, ◌+◌, ◌-◌, ◌<◌, ◌≤◌, ◌++◌, [], length, take, drop, reverse, true, false, Some, IfOk, IfErr};
 ghost use Rattle.std.specs.Option.{is_some};
 ghost use Rattle.ringcore_laws.specs.FreeRings.{AreSingle};
@@ -14,7 +14,7 @@ use burst::{Burst, Tagged};
 use fabric::{CacheHand, Fabric, Hand, Stored};
 use std::sync::Wait;
 
-/// Takes the hand of a cache from its place, for a call on a ring.
+/// Takes the hand out of a cache, for a call on a ring.
 pub(crate) fn take_hand<T: Tagged, S: Stored<T>>(
     hand: &mut Option<CacheHand<T, S>>,
 ) -> CacheHand<T, S>
@@ -27,7 +27,7 @@ pub(crate) fn take_hand<T: Tagged, S: Stored<T>>(
     }
 }
 
-/// The hand as one that keeps the buffers of a cache back. Requires: they are its own to put on a free ring.
+/// The hand as one that sets the buffers of a cache aside. Requires: it may put them on a free ring.
 pub(crate) fn keep_back<T: Tagged, const N: usize, S: Stored<T>>(
     hand: Hand<T, S>,
     cache: &Burst<T, N>,
@@ -43,8 +43,8 @@ pub(crate) fn keep_back<T: Tagged, const N: usize, S: Stored<T>>(
     cache_hand
 }
 
-/// Appends the items of a list to a cache, where all of them together are the hand's to put on a free ring; else
-/// nothing changes.
+/// Appends the items of a list to a cache if the hand may put all of them together on a free ring; otherwise nothing
+/// changes.
 pub(crate) fn admit<T: Tagged, const N: usize, S: Stored<T>>(
     cache_hand: &mut CacheHand<T, S>,
     cache: &mut Burst<T, N>,
@@ -70,8 +70,8 @@ pub(crate) fn admit<T: Tagged, const N: usize, S: Stored<T>>(
     may
 }
 
-/// Moves the items behind the first `k` of a cache into an empty list, the newest first, and keeps them back no more.
-/// Never in line, so that `give` is short enough to be.
+/// Moves the items after the first `k` of a cache into an empty list, the newest first; they are no longer set aside.
+/// Never inlined, so that `give` is short enough to be.
 #[inline(never)]
 fn give_behind<T: Tagged, const N: usize, S: Stored<T>>(
     cache_hand: &mut CacheHand<T, S>,
@@ -87,14 +87,14 @@ fn give_behind<T: Tagged, const N: usize, S: Stored<T>>(
     ensures left { cache.new ≡ take k cache.old }
     ensures moved { into.new ≡ reverse (drop k cache.old) }
 {
-    // its clause says that no list is longer than `N`
+    // for the proof: no list is longer than `N`
     let _fits = cache.len();
     cache.move_tail_reversed(k, into);
     cache_hand.restore(into);
 }
 
-/// Moves the newest `n` items of a cache into an empty list, the newest first, and keeps them back no more. One item,
-/// as in most calls, goes without a loop.
+/// Moves the newest `n` items of a cache into an empty list, the newest first; they are no longer set aside. One item,
+/// as in most calls, is moved without a loop.
 #[inline]
 pub(crate) fn give<T: Tagged, const N: usize, S: Stored<T>>(
     cache_hand: &mut CacheHand<T, S>,
@@ -121,7 +121,7 @@ pub(crate) fn give<T: Tagged, const N: usize, S: Stored<T>>(
     }
 }
 
-/// Puts the oldest items of a cache on the ring until `size` are left. Where that is refused, those behind the first
+/// Puts the oldest items of a cache on the ring until `size` are left. If that is refused, those after the first
 /// `before` go into an empty list, in order.
 pub(crate) fn shed<T: Tagged, const N: usize, S: Stored<T>, R: Wait>(
     rt: &R,

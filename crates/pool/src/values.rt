@@ -1,4 +1,4 @@
-//! Gets and puts with a list by value: each moves all `N` places of it, which the calls that are lent a list don't.
+//! Gets and puts with a list by value: each moves all `N` places of it. The calls that borrow a list don't.
 ghost use Rattle.std.specs.Prelude.{◌<◌, ◌≤◌, ◌++◌, length, IfOk};
 ghost use Rattle.fabric.specs.Hands.{OnRing};
 ghost use Rattle.fabric.specs.Settles.{AreOwnBuffers};
@@ -12,7 +12,7 @@ use fabric::{Fabric, Stored};
 use std::sync::Wait;
 
 impl<T: Tagged, const N: usize, S: Stored<T>> Local<T, N, S> {
-    /// `get_into` a list of its own.
+    /// `get_into` with a list of its own.
     pub fn get<R: Wait>(
         &mut self,
         rt: &R,
@@ -35,7 +35,7 @@ impl<T: Tagged, const N: usize, S: Stored<T>> Local<T, N, S> {
         }
     }
 
-    /// `put_from` a list by value, which comes back at a refusal.
+    /// `put_from` with a list by value, which comes back at a refusal.
     pub fn put<R: Wait>(
         &mut self,
         rt: &R,
@@ -56,7 +56,7 @@ impl<T: Tagged, const N: usize, S: Stored<T>> Local<T, N, S> {
         }
     }
 
-    /// `get_cached_into` a list of its own.
+    /// `get_cached_into` with a list of its own.
     pub fn get_cached(&mut self, n: usize) -> Result<Burst<T, N>, PoolFault>
         ensures same { SameRing self.old self.new × HasSameHand self.old self.new }
         ensures exact { GetsCached n (cache_of self.old) result (given result) (cache_of self.new) }
@@ -69,7 +69,7 @@ impl<T: Tagged, const N: usize, S: Stored<T>> Local<T, N, S> {
         }
     }
 
-    /// `put_cached_from` a list by value, which comes back at a refusal.
+    /// `put_cached_from` with a list by value, which comes back at a refusal.
     pub fn put_cached(&mut self, items: Burst<T, N>) -> Result<(), (Burst<T, N>, PoolFault)>
         ensures same { SameRing self.old self.new × HasSameHand self.old self.new }
         ensures exact { PutsCached T.numbers (view_of self.old) (cache_size self.old) (cache_of self.old) items

@@ -9,6 +9,7 @@ ghost use Rattle.pool.specs.Stacks.{room_of, stacked};
 mod cached;
 mod calls;
 mod opening;
+mod other_rings;
 mod queries;
 mod ring_requests;
 mod set_aside;
@@ -21,10 +22,10 @@ use fabric::{CacheHand, Stored};
 pub use opening::CacheFault;
 
 /// A hand with a cache of words of a free ring, each of which carries one buffer: a stack over an array, its newest
-/// last. Each buffer is the hand's own and set aside by it, and none stands twice: so none of them is on a ring or at
-/// another hand. Gets copy words into slices and puts copy them out of slices.
+/// last. Each buffer is the hand's own and set aside by it, and none occurs twice: so none of them is on a ring or
+/// belongs to another hand. Gets copy words into slices and puts copy them out of slices.
 ///
-/// The hand is in a place of its own since calls on rings take it whole; between calls it is always there.
+/// The hand is in an `Option` since calls on rings take it by value; between calls it is always there.
 #[derive(Drop)]
 pub struct LocalWords<T: Tagged, const N: usize, S: Stored<T>> {
     pub(crate) hand: Option<CacheHand<T, S>>,

@@ -1,4 +1,4 @@
--- What whole puts answer
+-- The answers of whole puts
 use Rattle.std.specs.Prelude.{◌≡◌, ◌<◌, ⊤, ℕ, List, [], ◌∷◌, length, take, drop}
 use Rattle.geom.specs.declared.plan.How.{How}
 use Rattle.geom.specs.declared.plan.Mode.TheVariants.{Multi}
@@ -29,9 +29,8 @@ module _ {T : Type 0} {S : Type 0} {G : Ghosts T} {H : StoredGhosts S T} {N : �
   IsPutOf f ring (Refused h why) = IsHandOf f h
   IsPutOf f ring (Open o tail) = (put_fabric o ≡ f) × ((put_span o).ring ≡ ring)
 
-  -- What a put with these items answers, after starts and settles that were refused before its last. The items that it
-  -- leaves are `rest`. Items that are not the hand's to put are refused before any start; they are answered by no other
-  -- refusal
+  -- What a put of these items returns, after starts and settles that were refused before its last. The items that it
+  -- leaves are `rest`. Items that the hand may not put are refused before any start, and by no other refusal
   abbrev pub PutTells : (T → List ℕ) → How → ℕ → RingPlan → View T → List T → List (View T × StartFault) → List ℕ
       → PutAnswer T N S G H → List T → Type 0
   PutTells tags how ring plan v items starts tails (Done h moved) rest =
@@ -61,14 +60,14 @@ module _ {T : Type 0} {S : Type 0} {G : Ghosts T} {H : StoredGhosts S T} {N : �
   PutHasTold tags how ring plan v items answer rest = (starts : List (View T × StartFault)) × (tails : List ℕ)
       × PutTells tags how ring plan v items starts tails answer rest
 
-  -- what a waiting put doesn't answer, but tries again
+  -- what a waiting put doesn't return, but tries again
   abbrev pub IsUnfinishedPut : PutAnswer T N S G H → Type 0
   IsUnfinishedPut (Done h moved) = ⊥
   IsUnfinishedPut (Refused h (Start e)) = IsTransient e
   IsUnfinishedPut (Refused h NotYours) = ⊥
   IsUnfinishedPut (Open o tail) = ⊤
 
-  -- what the settle of a put's span with its first items answers
+  -- what the settle of a put's span with its first items returns
   abbrev pub SettlesPut : PutOpen T N S G H → List T → PutAnswer T N S G H → List T → Type 0
   SettlesPut o items (Done h moved) rest =
       HasPut o (take moved.count items) h × (moved.count ≡ (put_span o).count) × (moved.left ≡ put_left o)

@@ -1,4 +1,4 @@
--- What whole takes answer
+-- The answers of whole takes
 use Rattle.std.specs.Prelude.{◌≡◌, ◌<◌, ⊤, ℕ, List, [], ◌∷◌, length}
 use Rattle.std.specs.List.{flat_map}
 use Rattle.geom.specs.declared.plan.How.{How}
@@ -29,7 +29,7 @@ module _ {T : Type 0} {S : Type 0} {G : Ghosts T} {H : StoredGhosts S T} {N : �
   IsTakeOf f ring (Refused h why) = IsHandOf f h
   IsTakeOf f ring (Open o tail) = (take_fabric o ≡ f) × ((take_span o).ring ≡ ring)
 
-  -- What a take of n items answers, after starts and settles that were refused before its last. The items are those
+  -- What a take of n items returns, after starts and settles that were refused before its last. The items are those
   -- that it took, or those that its open span shows
   abbrev pub TakeTells : (T → List ℕ) → How → ℕ → ℕ → RingPlan → View T → List (View T × StartFault) → List ℕ
       → TakeAnswer T N S G H → List T → Type 0
@@ -55,13 +55,13 @@ module _ {T : Type 0} {S : Type 0} {G : Ghosts T} {H : StoredGhosts S T} {N : �
   TakeHasTold tags how n ring plan v answer items = (starts : List (View T × StartFault)) × (tails : List ℕ)
       × TakeTells tags how n ring plan v starts tails answer items
 
-  -- what a waiting take doesn't answer, but tries again
+  -- what a waiting take doesn't return, but tries again
   abbrev pub IsUnfinishedTake : TakeAnswer T N S G H → Type 0
   IsUnfinishedTake (Done h moved) = ⊥
   IsUnfinishedTake (Refused h e) = IsTransient e
   IsUnfinishedTake (Open o tail) = ⊤
 
-  -- what the settle of a take's span with all its items answers
+  -- what the settle of a take's span with all its items returns
   abbrev pub SettlesTake : (T → List ℕ) → TakeOpenLent T N S G H → List T → TakeAnswer T N S G H → List T → Type 0
   SettlesTake tags o items (Done h moved) rest =
       IsHandOf (take_fabric o) h × (view h ≡ settled (take_span o) items (take_view o))

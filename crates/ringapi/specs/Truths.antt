@@ -1,4 +1,4 @@
--- What the refusal of a whole call says of the spans of all hands, in a state that the step that was refused fits
+-- What the refusal of a whole call says about the spans of all hands, in a state in which the refused step could happen
 use Rattle.std.specs.Prelude.{◌≡◌, ⊤, ℕ, List}
 use Rattle.geom.specs.declared.plan.RingPlan.{RingPlan}
 use Rattle.geom.specs.declared.plan.Side.TheVariants.{Put, Take}
@@ -17,8 +17,8 @@ use Rattle.ringapi.specs.declared.answers.TakeAnswer.{TakeAnswer}
 use Rattle.ringapi.specs.declared.answers.TakeAnswer.TheVariants as taken
 
 module _ {T : Type 0} {S : Type 0} {G : Ghosts T} {H : StoredGhosts S T} {N : ℕ} (tags : T → List ℕ) (ring : ℕ) (plan : RingPlan) where
-  -- The last attempt of a put, which is the one that is answered. Its start had the view v before it, with the spans
-  -- and buffers that the hand has still; an open span had the view v before the settle that came too early
+  -- The last attempt of a put, whose answer is returned. Its start had the view v before it, with the spans and buffers
+  -- that the hand still has; an open span had the view v before the settle that came too early
   abbrev pub IsTruePut : PutAnswer T N S G H → Type 0
   IsTruePut (put.Done h moved) = ⊤
   IsTruePut (put.Refused h (Start e)) =

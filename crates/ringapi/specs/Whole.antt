@@ -16,13 +16,13 @@ module _ {T : Type 0} {S : Type 0} {G : Ghosts T} {H : StoredGhosts S T} {N : �
   -- a put of these items that is tried once; `rest` are the items that it leaves
   pub record TriesPut (tags : T → List ℕ) (how : How) (f : Fabric T N S) (ring : ℕ) (hand : Hand T S G H) (items : List T)
       (answer : PutAnswer T N S G H) (rest : List T) : Type 0 where
-    -- the hand or the open span that it answers is of this fabric and ring
+    -- the hand or the open span that it returns is of this fabric and ring
     pub made : IsPutOf f ring answer
-    -- what it answers, and what it moved, start by start and step by step
+    -- what it returns and what it moved, start by start and step by step
     pub exact : OnRing f ring (λ plan. PutTells tags how ring plan (view hand) items [] [] answer rest)
     -- one span was settled with the first items, or nothing was
     pub settled : PutSettles ring (view hand) items answer
-    -- a refusal fits the spans of all hands
+    -- a refusal agrees with the spans of all hands
     pub true_refusal : OnRing f ring (λ plan. IsTruePut tags ring plan answer)
 
   -- a put of these items that is tried until it is finished
@@ -33,7 +33,7 @@ module _ {T : Type 0} {S : Type 0} {G : Ghosts T} {H : StoredGhosts S T} {N : �
     pub exact : OnRing f ring (λ plan. PutHasTold tags how ring plan (view hand) items answer rest)
     pub settled : PutSettles ring (view hand) items answer
     pub true_refusal : OnRing f ring (λ plan. IsTruePut tags ring plan answer)
-    -- it answers nothing that it should try again
+    -- it returns nothing that it should try again
     pub finished : IsUnfinishedPut answer → ⊥
 
   -- a take of n items that is tried once; `items` are those that it moved

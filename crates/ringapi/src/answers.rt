@@ -1,4 +1,4 @@
-//! What whole calls answer.
+//! The answers of whole calls.
 ghost use Rattle.std.specs.Prelude.{◌≡◌};
 ghost use Rattle.ringapi.specs.Faults.{number_of};
 
@@ -6,7 +6,7 @@ use burst::Tagged;
 use fabric::{Hand, PutOpen, SettleFault, StartFault, Stored, TakeOpenLent};
 use thiserror::Error;
 
-/// How many items moved, and how many positions more were free, or items queued, as the span was reserved.
+/// How many items moved, and how many more positions were free, or items queued, when the span was reserved.
 #[derive(Drop, Clone, Copy, Debug, PartialEq, Eq)]
 pub struct Moved {
     pub count: usize,
@@ -20,13 +20,13 @@ pub enum Refusal {
     #[error("{0}")]
     Start(StartFault),
     /// An item of a put carries a buffer that isn't the hand's own, or that another item carries too, or the ring is a
-    /// free ring and the item doesn't carry exactly one. Told before any step.
+    /// free ring and the item doesn't carry exactly one. Tested before any step.
     #[error("NotYours")]
     NotYours,
 }
 
 impl Refusal {
-    /// That of its start, 1 to 5, or 7 `NotYours`, as of a settle.
+    /// The number of its start's refusal, 1 to 5, or 7 for `NotYours`, as for a settle.
     pub fn number(self) -> u8
         ensures { result ≡ number_of self }
     {
@@ -37,26 +37,26 @@ impl Refusal {
     }
 }
 
-/// What a whole put answers. What it didn't move is in the burst still, in order. A slice stays as it is: of its words
-/// all but the first `count` weren't moved.
+/// The answer of a whole put. What it didn't move is still in the burst, in order. A slice isn't changed: all its words
+/// but the first `count` weren't moved.
 #[derive(Drop)]
 pub enum PutAnswer<'f, T: Tagged, const N: usize, S: Stored<T> = Option<T>> {
-    /// The first so many items were put.
+    /// The first items were put, as many as `Moved` says.
     Done(Hand<T, S>, Moved),
     /// Nothing was moved.
     Refused(Hand<T, S>, Refusal),
     /// A span is reserved, and an earlier one isn't settled yet: the tail found. The first items of the burst or the
-    /// slice, as many as it has positions, are to be settled there: by `PutOpen::try_settle_first_from`, or of a slice
-    /// by `PutOpen::try_settle_slice`.
+    /// slice, as many as it has positions, are still to be settled there: by `PutOpen::try_settle_first_from`, or of a
+    /// slice by `PutOpen::try_settle_slice`.
     Open(PutOpen<'f, T, N, S>, u64),
 }
 
-/// What a whole take answers.
+/// The answer of a whole take.
 #[derive(Drop)]
 pub enum TakeAnswer<'f, T: Tagged, const N: usize, S: Stored<T> = Option<T>> {
-    /// So many items were taken: the burst, or the front of the slice, has them.
+    /// Items were taken, as many as `Moved` says: they are in the burst, or at the front of the slice.
     Done(Hand<T, S>, Moved),
-    /// Nothing was moved, and the burst is empty, or the slice as it was.
+    /// Nothing was moved; the burst is empty, or the slice unchanged.
     Refused(Hand<T, S>, StartFault),
     /// A span is reserved, and an earlier one isn't settled yet: the tail found. The burst, or the front of the slice,
     /// shows its items. It is settled by `TakeOpenLent::try_settle_into`, or of a slice by

@@ -1,4 +1,4 @@
-//! Whole calls that are lent a list. Each costs as much as the items that it moves, and a put by burst that leaves some
+//! Whole calls that borrow a list. Each costs as much as the items that it moves; a put by burst that leaves some costs
 //! as much as a list by value.
 ghost use Rattle.std.specs.Prelude.{◌≡◌, ◌<◌, [], length};
 ghost use Rattle.fabric.specs.Hands.{IsHandOf, OnRing, rings_of, view};
@@ -16,8 +16,8 @@ use std::sync::Wait;
 
 /// Tries once to put all items of a list, or none. What was not moved stays in the list, in order.
 ///
-/// Errors, in the order of the tests: `NotYours`, before any step; `BadCount` where the list is empty; `Busy`;
-/// `NoRoom`; `Worn`; `Contended`. `Open` on a multi side alone. No memory, no waiting; at most four steps on words.
+/// Errors, in the order of the tests: `NotYours`, before any step; `BadCount` if the list is empty; `Busy`; `NoRoom`;
+/// `Worn`; `Contended`. `Open` on a multi side alone. No memory, no waiting; at most four steps on words.
 pub fn try_put_bulk_from<'f, T: Tagged, const N: usize, S: Stored<T>>(
     f: &'f Fabric<T, N, S>,
     hand: Hand<T, S>,
@@ -34,8 +34,8 @@ pub fn try_put_bulk_from<'f, T: Tagged, const N: usize, S: Stored<T>>(
 /// Tries once to put as many items of a list as there is room for, from its front. What was not moved stays in the
 /// list, in order.
 ///
-/// Errors, in the order of the tests: `NotYours`, before any step; `BadCount` where the list is empty; `Busy`;
-/// `NoRoom`; `Worn`; `Contended`. `Open` on a multi side alone. No memory, no waiting; at most four steps on words.
+/// Errors, in the order of the tests: `NotYours`, before any step; `BadCount` if the list is empty; `Busy`; `NoRoom`;
+/// `Worn`; `Contended`. `Open` on a multi side alone. No memory, no waiting; at most four steps on words.
 pub fn try_put_burst_from<'f, T: Tagged, const N: usize, S: Stored<T>>(
     f: &'f Fabric<T, N, S>,
     hand: Hand<T, S>,
@@ -49,10 +49,10 @@ pub fn try_put_burst_from<'f, T: Tagged, const N: usize, S: Stored<T>>(
     try_put(f, hand, ring, How::Burst, list)
 }
 
-/// Puts all items of a list, or none, and tries again after `Busy`, `Contended` and a settle that comes too early,
-/// with a backoff in between. It doesn't wait for room. What was not moved stays in the list, in order.
+/// Puts all items of a list, or none, and tries again after `Busy`, `Contended` and a settle that comes too early, with
+/// pauses in between. It doesn't wait for room. What was not moved stays in the list, in order.
 ///
-/// Never answered: `Open`, `Busy`, `Contended`. No memory; any number of steps on words.
+/// Never returned: `Open`, `Busy`, `Contended`. No memory; any number of steps on words.
 pub fn put_bulk_from<'f, T: Tagged, const N: usize, S: Stored<T>, R: Wait>(
     rt: &R,
     f: &'f Fabric<T, N, S>,
@@ -67,11 +67,11 @@ pub fn put_bulk_from<'f, T: Tagged, const N: usize, S: Stored<T>, R: Wait>(
     put(rt, f, hand, ring, How::Bulk, list)
 }
 
-/// Puts as many items of a list as there is room for, from its front, and tries again after `Busy`, `Contended` and
-/// a settle that comes too early, with a backoff in between. It doesn't wait for room. What was not moved stays in
-/// the list, in order.
+/// Puts as many items of a list as there is room for, from its front, and tries again after `Busy`, `Contended` and a
+/// settle that comes too early, with pauses in between. It doesn't wait for room. What was not moved stays in the list,
+/// in order.
 ///
-/// Never answered: `Open`, `Busy`, `Contended`. No memory; any number of steps on words.
+/// Never returned: `Open`, `Busy`, `Contended`. No memory; any number of steps on words.
 pub fn put_burst_from<'f, T: Tagged, const N: usize, S: Stored<T>, R: Wait>(
     rt: &R,
     f: &'f Fabric<T, N, S>,
@@ -86,10 +86,10 @@ pub fn put_burst_from<'f, T: Tagged, const N: usize, S: Stored<T>, R: Wait>(
     put(rt, f, hand, ring, How::Burst, list)
 }
 
-/// `put_bulk_from` of items that are the hand's to put, as who got them from a pool knows: nothing is tested before the
-/// start. Requires: they are.
+/// `put_bulk_from` for items that the hand may put, as a caller that got them from a pool knows: nothing is tested
+/// before the start. Requires: it may put them.
 ///
-/// Never answered: `NotYours`, `Open`, `Busy`, `Contended`. No memory; any number of steps on words.
+/// Never returned: `NotYours`, `Open`, `Busy`, `Contended`. No memory; any number of steps on words.
 pub fn put_own_bulk_from<'f, T: Tagged, const N: usize, S: Stored<T>, R: Wait>(
     rt: &R,
     f: &'f Fabric<T, N, S>,
@@ -105,10 +105,10 @@ pub fn put_own_bulk_from<'f, T: Tagged, const N: usize, S: Stored<T>, R: Wait>(
     put_own(rt, f, hand, ring, How::Bulk, list)
 }
 
-/// `put_burst_from` of items that are the hand's to put, as who got them from a pool knows: nothing is tested before
-/// the start. Requires: they are.
+/// `put_burst_from` for items that the hand may put, as a caller that got them from a pool knows: nothing is tested
+/// before the start. Requires: it may put them.
 ///
-/// Never answered: `NotYours`, `Open`, `Busy`, `Contended`. No memory; any number of steps on words.
+/// Never returned: `NotYours`, `Open`, `Busy`, `Contended`. No memory; any number of steps on words.
 pub fn put_own_burst_from<'f, T: Tagged, const N: usize, S: Stored<T>, R: Wait>(
     rt: &R,
     f: &'f Fabric<T, N, S>,
@@ -126,8 +126,8 @@ pub fn put_own_burst_from<'f, T: Tagged, const N: usize, S: Stored<T>, R: Wait>(
 
 /// Tries once to take `n` items, or none, into an empty list. Requires: the list is empty.
 ///
-/// Errors, in the order of the tests: `BadCount` where `n` is 0 or above `N`, before any step; `Busy`; `NoRoom`;
-/// `Worn`; `Contended`. `Open` on a multi side alone. No memory, no waiting; at most four steps on words.
+/// Errors, in the order of the tests: `BadCount` if `n` is 0 or above `N`, before any step; `Busy`; `NoRoom`; `Worn`;
+/// `Contended`. `Open` on a multi side alone. No memory, no waiting; at most four steps on words.
 pub fn try_take_bulk_into<'f, T: Tagged, const N: usize, S: Stored<T>>(
     f: &'f Fabric<T, N, S>,
     hand: Hand<T, S>,
@@ -145,8 +145,8 @@ pub fn try_take_bulk_into<'f, T: Tagged, const N: usize, S: Stored<T>>(
 
 /// Tries once to take at most `n` items, as many as are queued, into an empty list. Requires: the list is empty.
 ///
-/// Errors, in the order of the tests: `BadCount` where `n` is 0 or above `N`, before any step; `Busy`; `NoRoom`;
-/// `Worn`; `Contended`. `Open` on a multi side alone. No memory, no waiting; at most four steps on words.
+/// Errors, in the order of the tests: `BadCount` if `n` is 0 or above `N`, before any step; `Busy`; `NoRoom`; `Worn`;
+/// `Contended`. `Open` on a multi side alone. No memory, no waiting; at most four steps on words.
 pub fn try_take_burst_into<'f, T: Tagged, const N: usize, S: Stored<T>>(
     f: &'f Fabric<T, N, S>,
     hand: Hand<T, S>,
@@ -162,10 +162,10 @@ pub fn try_take_burst_into<'f, T: Tagged, const N: usize, S: Stored<T>>(
     try_take(f, hand, ring, n, How::Burst, into)
 }
 
-/// Takes `n` items, or none, into an empty list, and tries again after `Busy`, `Contended` and a settle that comes
-/// too early, with a backoff in between. It doesn't wait for items. Requires: the list is empty.
+/// Takes `n` items, or none, into an empty list, and tries again after `Busy`, `Contended` and a settle that comes too
+/// early, with pauses in between. It doesn't wait for items. Requires: the list is empty.
 ///
-/// Never answered: `Open`, `Busy`, `Contended`. No memory; any number of steps on words.
+/// Never returned: `Open`, `Busy`, `Contended`. No memory; any number of steps on words.
 pub fn take_bulk_into<'f, T: Tagged, const N: usize, S: Stored<T>, R: Wait>(
     rt: &R,
     f: &'f Fabric<T, N, S>,
@@ -182,11 +182,10 @@ pub fn take_bulk_into<'f, T: Tagged, const N: usize, S: Stored<T>, R: Wait>(
     take(rt, f, hand, ring, n, How::Bulk, into)
 }
 
-/// Takes at most `n` items, as many as are queued, into an empty list, and tries again after `Busy`, `Contended`
-/// and a settle that comes too early, with a backoff in between. It doesn't wait for items. Requires: the list is
-/// empty.
+/// Takes at most `n` items, as many as are queued, into an empty list, and tries again after `Busy`, `Contended` and a
+/// settle that comes too early, with pauses in between. It doesn't wait for items. Requires: the list is empty.
 ///
-/// Never answered: `Open`, `Busy`, `Contended`. No memory; any number of steps on words.
+/// Never returned: `Open`, `Busy`, `Contended`. No memory; any number of steps on words.
 pub fn take_burst_into<'f, T: Tagged, const N: usize, S: Stored<T>, R: Wait>(
     rt: &R,
     f: &'f Fabric<T, N, S>,

@@ -1,10 +1,10 @@
-//! Whole calls on the rings of a fabric: a start and a settle in one, tried once, or again until they come through; and
-//! peeks, which look at items before they are taken. Each is there for lists, and for slices of items that are plain
-//! words.
+//! Whole calls on the rings of a fabric: a start and a settle in one, tried once or until they are done; and peeks,
+//! which look at items before they are taken. Each exists for lists and for slices of plain words.
 #![tactic(auto)]
 
 mod answers;
 mod lent;
+mod pauses;
 mod peek;
 mod peek_slices;
 mod put;

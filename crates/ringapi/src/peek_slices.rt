@@ -15,7 +15,7 @@ use geom::How;
 
 /// Tries once to reserve words: by bulk as many as a slice has places, by burst at most so many. They are copied to the
 /// front of the slice, and stay queued; the places after them are as they were. Requires: the take side is
-/// head/tail-sync. Refused as `Fabric::try_start_take_slice`: the hand comes back, and the slice is as it was. No
+/// head/tail-sync. Errors: those of `Fabric::try_start_take_slice`; the hand comes back, and the slice is unchanged. No
 /// memory; at most three steps on words.
 pub fn peek_take_slice<'f, T: Word, const N: usize, S: Stored<T>>(
     f: &'f Fabric<T, N, S>,
@@ -46,7 +46,7 @@ pub fn peek_take_slice<'f, T: Word, const N: usize, S: Stored<T>>(
 }
 
 impl<'f, T: Word, const N: usize, S: Stored<T>> PeekPut<'f, T, N, S> {
-    /// Puts the words of a slice at the first positions, and gives up the others. At a refusal the peek is open. No
+    /// Puts the words of a slice at the first positions, and gives up the others. At a refusal the peek stays open. No
     /// memory; one step on a word.
     ///
     /// Errors, in the order of the tests: `BadCount` if there are more words than positions; `NotYours`.
@@ -67,8 +67,8 @@ impl<'f, T: Word, const N: usize, S: Stored<T>> PeekPut<'f, T, N, S> {
 }
 
 impl<'f, T: Word, const N: usize, S: Stored<T>> PeekTakeLent<'f, T, N, S> {
-    /// Takes the first `k` words; the others are queued again. At a refusal the peek is open. Requires: these are the
-    /// words that the start copied, the first `count` of its slice. No memory; one step on a word.
+    /// Takes the first `k` words; the others are queued again. At a refusal the peek stays open. Requires: these are
+    /// the words that the start copied, the first `count` of its slice. No memory; one step on a word.
     ///
     /// Errors: `BadCount` if `k` is above the count.
     pub fn finish_slice(

@@ -10,8 +10,8 @@ ghost use Rattle.ringapi.specs.Truths.{IsTruePut};
 ghost use Rattle.ringapi.specs.Whole.{MakesPut, TriesPut};
 
 use crate::answers::{Moved, PutAnswer, Refusal};
+use crate::pauses::Pauses;
 use burst::{Burst, Tagged};
-use crossbeam_utils::Backoff;
 use fabric::{Fabric, Hand, PutOpen, SettleFault, Stored};
 use geom::How;
 use std::sync::Wait;
@@ -106,7 +106,7 @@ fn again<'f, T: Tagged, const N: usize, S: Stored<T>>(
     }
 }
 
-/// A whole put of items that are the hand's to put, tried until it is finished.
+/// A whole put of items that the hand may put, tried until it is finished.
 pub(crate) fn put_own<'f, T: Tagged, const N: usize, S: Stored<T>, R: Wait>(
     rt: &R,
     f: &'f Fabric<T, N, S>,
@@ -120,13 +120,13 @@ pub(crate) fn put_own<'f, T: Tagged, const N: usize, S: Stored<T>, R: Wait>(
     requires yours { OnRing f.now ring (λ plan. AreYours T.numbers plan (view hand) list.old) }
     ensures { MakesPut T.numbers how f.now ring hand list.old result list.new }
 {
-    let backoff = Backoff::new();
+    let mut pauses = Pauses::new();
     let mut answer = attempt(f, hand, ring, how, list);
     for _ in rt.forever() {
         if !answer.should_retry() {
             return answer;
         }
-        backoff.snooze();
+        pauses.wait();
         answer = again(f, answer, ring, how, list);
     }
     unreachable!()

@@ -1,8 +1,8 @@
-//! Whole puts of words, which are read from a slice and stay there.
+//! Whole puts of words, which are read from a slice.
 //!
-//! These are the bodies of `put` once more, over a slice in place of a burst. A trait for both would need a method that
-//! takes a `PutOpen`, and the prover fits no `impl` to a method whose signature names a struct that has a lifetime and a
-//! const parameter of the trait.
+//! These are the bodies of `put` again, with a slice instead of a burst. A trait for both would need a method that
+//! takes a `PutOpen`, and the prover can't match an `impl` to a method whose signature has a struct with a lifetime and
+//! a const parameter of the trait.
 ghost use Rattle.std.specs.Prelude.{◌<◌, ◌≤◌, [], length, take};
 ghost use Rattle.std.specs.Prelude.{ℕ};
 ghost use Rattle.geom.specs.declared.plan.RingPlan.{RingPlan};
@@ -14,8 +14,8 @@ ghost use Rattle.ringapi.specs.Truths.{IsTruePut};
 ghost use Rattle.ringapi.specs.Whole.{MakesPut, TriesPut};
 
 use crate::answers::{Moved, PutAnswer, Refusal};
+use crate::pauses::Pauses;
 use burst::Word;
-use crossbeam_utils::Backoff;
 use fabric::{Fabric, Hand, PutOpen, SettleFault, Stored};
 use geom::How;
 use std::sync::Wait;
@@ -110,7 +110,7 @@ fn again<'f, T: Word, const N: usize, S: Stored<T>>(
     }
 }
 
-/// A whole put of words that are the hand's to put, tried until it is finished.
+/// A whole put of words that the hand may put, tried until it is finished.
 pub(crate) fn put_own<'f, T: Word, const N: usize, S: Stored<T>, R: Wait>(
     rt: &R,
     f: &'f Fabric<T, N, S>,
@@ -124,13 +124,13 @@ pub(crate) fn put_own<'f, T: Word, const N: usize, S: Stored<T>, R: Wait>(
     requires yours { OnRing f.now ring (λ plan. AreYours T.numbers plan (view hand) items.now) }
     ensures { MakesPut T.numbers how f.now ring hand items.now result (left_of result items.now) }
 {
-    let backoff = Backoff::new();
+    let mut pauses = Pauses::new();
     let mut answer = attempt(f, hand, ring, how, items);
     for _ in rt.forever() {
         if !answer.should_retry() {
             return answer;
         }
-        backoff.snooze();
+        pauses.wait();
         answer = again(f, answer, ring, how, items);
     }
     unreachable!()

@@ -1,9 +1,9 @@
-//! Whole calls on items that are plain words: a put reads them from a slice, which stays as it is, and a take writes
+//! Whole calls on items that are plain words: a put reads them from a slice and doesn't change it, and a take writes
 //! them to the front of one. No burst and no other list is needed. Each call costs as much as the words that it moves.
 //!
-//! An answer `Open` is finished by the caller, as that of a burst is: of a put by `PutOpen::try_settle_slice` with the
-//! first words of the slice, as many as the span has positions; of a take by `TakeOpenLent::try_settle_slice` with all
-//! that the span has, which stand at the front of the slice.
+//! The caller finishes an answer `Open`, as with a burst: of a put by `PutOpen::try_settle_slice` with the first words
+//! of the slice, as many as the span has positions; of a take by `TakeOpenLent::try_settle_slice` with all that the
+//! span has, which are at the front of the slice.
 ghost use Rattle.std.specs.Prelude.{◌≡◌, ◌<◌, ◌++◌, List, drop, length};
 ghost use Rattle.fabric.specs.Hands.{IsHandOf, OnRing, rings_of, view};
 ghost use Rattle.fabric.specs.Settles.{AreYours};
@@ -19,7 +19,7 @@ use fabric::{Fabric, Hand, Stored};
 use geom::How;
 use std::sync::Wait;
 
-/// Tries once to put all words of a slice, or none. The slice stays as it is.
+/// Tries once to put all words of a slice, or none. The slice isn't changed.
 ///
 /// Errors, in the order of the tests: `NotYours`, before any step; `BadCount` if the slice is empty or has more than
 /// `N` words; `Busy`; `NoRoom`; `Worn`; `Contended`. `Open` on a multi side alone. No memory, no waiting; at most four
@@ -38,7 +38,7 @@ pub fn try_put_bulk_slice<'f, T: Word, const N: usize, S: Stored<T>>(
 }
 
 /// Tries once to put as many words of a slice as there is room for, from its front: `Moved::count` says how many were
-/// put. The slice stays as it is.
+/// put. The slice isn't changed.
 ///
 /// Errors, in the order of the tests: `NotYours`, before any step; `BadCount` if the slice is empty or has more than
 /// `N` words; `Busy`; `NoRoom`; `Worn`; `Contended`. `Open` on a multi side alone. No memory, no waiting; at most four
@@ -57,7 +57,7 @@ pub fn try_put_burst_slice<'f, T: Word, const N: usize, S: Stored<T>>(
 }
 
 /// Puts all words of a slice, or none, and tries again after `Busy`, `Contended` and a settle that comes too early,
-/// with a backoff in between. It doesn't wait for room. The slice stays as it is.
+/// with pauses in between. It doesn't wait for room. The slice isn't changed.
 ///
 /// Errors, in the order of the tests: `NotYours`, before any step; `BadCount` if the slice is empty or has more than
 /// `N` words; `NoRoom`; `Worn`. Never `Open`, `Busy` or `Contended`. No memory; any number of steps on words.
@@ -76,8 +76,8 @@ pub fn put_bulk_slice<'f, T: Word, const N: usize, S: Stored<T>, R: Wait>(
 }
 
 /// Puts as many words of a slice as there is room for, from its front, and tries again after `Busy`, `Contended` and a
-/// settle that comes too early, with a backoff in between. It doesn't wait for room. `Moved::count` says how many were
-/// put; the slice stays as it is.
+/// settle that comes too early, with pauses in between. It doesn't wait for room. `Moved::count` says how many were
+/// put; the slice isn't changed.
 ///
 /// Errors, in the order of the tests: `NotYours`, before any step; `BadCount` if the slice is empty or has more than
 /// `N` words; `NoRoom`; `Worn`. Never `Open`, `Busy` or `Contended`. No memory; any number of steps on words.
@@ -95,8 +95,8 @@ pub fn put_burst_slice<'f, T: Word, const N: usize, S: Stored<T>, R: Wait>(
     put(rt, f, hand, ring, How::Burst, items)
 }
 
-/// `put_bulk_slice` of words that are the hand's to put, as a caller that got them from a pool knows: nothing is tested
-/// before the start. Requires: they are.
+/// `put_bulk_slice` for words that the hand may put, as a caller that got them from a pool knows: nothing is tested
+/// before the start. Requires: it may put them.
 ///
 /// Errors, in the order of the tests: `BadCount` if the slice is empty or has more than `N` words; `NoRoom`; `Worn`.
 /// Never `NotYours`, `Open`, `Busy` or `Contended`. No memory; any number of steps on words.
@@ -115,8 +115,8 @@ pub fn put_own_bulk_slice<'f, T: Word, const N: usize, S: Stored<T>, R: Wait>(
     put_own(rt, f, hand, ring, How::Bulk, items)
 }
 
-/// `put_burst_slice` of words that are the hand's to put, as a caller that got them from a pool knows: nothing is
-/// tested before the start. Requires: they are.
+/// `put_burst_slice` for words that the hand may put, as a caller that got them from a pool knows: nothing is tested
+/// before the start. Requires: it may put them.
 ///
 /// Errors, in the order of the tests: `BadCount` if the slice is empty or has more than `N` words; `NoRoom`; `Worn`.
 /// Never `NotYours`, `Open`, `Busy` or `Contended`. No memory; any number of steps on words.
@@ -135,8 +135,8 @@ pub fn put_own_burst_slice<'f, T: Word, const N: usize, S: Stored<T>, R: Wait>(
     put_own(rt, f, hand, ring, How::Burst, items)
 }
 
-/// Tries once to take as many words as a slice has places, or none. The slice has them then; at a refusal it is as it
-/// was.
+/// Tries once to take as many words as a slice has places, or none. The slice has them afterwards; at a refusal it is
+/// unchanged.
 ///
 /// Errors, in the order of the tests: `BadCount` if the slice is empty or has more than `N` places, before any step;
 /// `Busy`; `NoRoom`; `Worn`; `Contended`. `Open` on a multi side alone. No memory, no waiting; at most four steps on
@@ -155,8 +155,9 @@ pub fn try_take_bulk_slice<'f, T: Word, const N: usize, S: Stored<T>>(
     try_take(f, hand, ring, How::Bulk, into)
 }
 
-/// Tries once to take at most as many words as a slice has places, as many as are queued. They stand at the front of
-/// the slice then, and `Moved::count` says how many; the places after them, and at a refusal all, are as they were.
+/// Tries once to take at most as many words as a slice has places, as many as are queued. They are at the front of the
+/// slice afterwards, and `Moved::count` says how many; the places after them, and at a refusal all places, are
+/// unchanged.
 ///
 /// Errors, in the order of the tests: `BadCount` if the slice is empty or has more than `N` places, before any step;
 /// `Busy`; `NoRoom`; `Worn`; `Contended`. `Open` on a multi side alone. No memory, no waiting; at most four steps on
@@ -176,7 +177,7 @@ pub fn try_take_burst_slice<'f, T: Word, const N: usize, S: Stored<T>>(
 }
 
 /// Takes as many words as a slice has places, or none, and tries again after `Busy`, `Contended` and a settle that
-/// comes too early, with a backoff in between. It doesn't wait for items. At a refusal the slice is as it was.
+/// comes too early, with pauses in between. It doesn't wait for items. At a refusal the slice is unchanged.
 ///
 /// Errors, in the order of the tests: `BadCount` if the slice is empty or has more than `N` places, before any step;
 /// `NoRoom`; `Worn`. Never `Open`, `Busy` or `Contended`. No memory; any number of steps on words.
@@ -196,9 +197,9 @@ pub fn take_bulk_slice<'f, T: Word, const N: usize, S: Stored<T>, R: Wait>(
 }
 
 /// Takes at most as many words as a slice has places, as many as are queued, and tries again after `Busy`, `Contended`
-/// and a settle that comes too early, with a backoff in between. It doesn't wait for items. The words stand at the
-/// front of the slice then, and `Moved::count` says how many; the places after them, and at a refusal all, are as they
-/// were.
+/// and a settle that comes too early, with pauses in between. It doesn't wait for items. The words are at the front of
+/// the slice afterwards, and `Moved::count` says how many; the places after them, and at a refusal all places, are
+/// unchanged.
 ///
 /// Errors, in the order of the tests: `BadCount` if the slice is empty or has more than `N` places, before any step;
 /// `NoRoom`; `Worn`. Never `Open`, `Busy` or `Contended`. No memory; any number of steps on words.

@@ -8,8 +8,8 @@ ghost use Rattle.ringapi.specs.Truths.{IsTrueTake};
 ghost use Rattle.ringapi.specs.Whole.{MakesTake, TriesTake};
 
 use crate::answers::{Moved, TakeAnswer};
+use crate::pauses::Pauses;
 use burst::{Burst, Tagged};
-use crossbeam_utils::Backoff;
 use fabric::{Fabric, Hand, SettleFault, Stored, TakeOpenLent};
 use geom::How;
 use std::sync::Wait;
@@ -98,13 +98,13 @@ pub(crate) fn take<'f, T: Tagged, const N: usize, S: Stored<T>, R: Wait>(
     requires empty { into.old ≡ [] }
     ensures { MakesTake T.numbers how n f.now ring hand result into.new }
 {
-    let backoff = Backoff::new();
+    let mut pauses = Pauses::new();
     let mut answer = try_take(f, hand, ring, n, how, into);
     for _ in rt.forever() {
         if !answer.should_retry() {
             return answer;
         }
-        backoff.snooze();
+        pauses.wait();
         answer = again(f, answer, ring, n, how, into);
     }
     unreachable!()

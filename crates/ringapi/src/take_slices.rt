@@ -1,6 +1,6 @@
-//! Whole takes of words, which are written to the front of a slice. The bodies of `take` once more, since no trait
-//! serves both (`put_slices`). The slice that a take is given holds `before`; once a span is reserved it holds
-//! `shown ++ drop (length shown) before`.
+//! Whole takes of words, which are written to the front of a slice. The bodies of `take` again, since no trait works
+//! for both (`put_slices`). The slice of a take holds `before` at first; once a span is reserved it holds `shown ++
+//! drop (length shown) before`.
 ghost use Rattle.std.specs.Prelude.{◌≡◌, ◌<◌, ◌++◌, List, drop, length};
 ghost use Rattle.std.specs.Prelude.{ℕ};
 ghost use Rattle.geom.specs.declared.plan.RingPlan.{RingPlan};
@@ -11,13 +11,13 @@ ghost use Rattle.ringapi.specs.Truths.{IsTrueTake};
 ghost use Rattle.ringapi.specs.Whole.{MakesTake, TriesTake};
 
 use crate::answers::{Moved, TakeAnswer};
+use crate::pauses::Pauses;
 use burst::Word;
-use crossbeam_utils::Backoff;
 use fabric::{Fabric, Hand, SettleFault, Stored, TakeOpenLent};
 use geom::How;
 use std::sync::Wait;
 
-/// Tries once to settle a span with all its words, which stand at the front of a slice.
+/// Tries once to settle a span with all its words, which are at the front of a slice.
 fn settle<'f, T: Word, const N: usize, S: Stored<T>>(
     span: TakeOpenLent<'f, T, N, S>,
     items: &[T],
@@ -103,13 +103,13 @@ pub(crate) fn take<'f, T: Word, const N: usize, S: Stored<T>, R: Wait>(
     ensures { (shown : List T) × (into.new ≡ shown ++ drop (length shown) into.old)
         × MakesTake T.numbers how (length into.old) f.now ring hand result shown }
 {
-    let backoff = Backoff::new();
+    let mut pauses = Pauses::new();
     let mut answer = try_take(f, hand, ring, how, into);
     for _ in rt.forever() {
         if !answer.should_retry() {
             return answer;
         }
-        backoff.snooze();
+        pauses.wait();
         answer = again(f, answer, ring, how, into);
     }
     unreachable!()

@@ -1,4 +1,4 @@
-//! What a waiting call tries again.
+//! Which answers make a waiting call try again.
 ghost use Rattle.std.specs.Prelude.{◌≡◌, true, false};
 ghost use Rattle.ringapi.specs.Puts.{IsUnfinishedPut};
 ghost use Rattle.ringapi.specs.Takes.{IsUnfinishedTake};
@@ -8,7 +8,7 @@ use crate::answers::{PutAnswer, Refusal, TakeAnswer};
 use burst::Tagged;
 use fabric::{StartFault, Stored};
 
-/// Whether the next start may not find this refusal, with nothing done by the caller in between.
+/// Whether the next start may succeed although the caller does nothing in between.
 fn is_transient(fault: StartFault) -> bool
     ensures sound { result ≡ true → IsTransient fault }
     ensures none { result ≡ false → IsTransient fault → ⊥ }
@@ -21,7 +21,7 @@ fn is_transient(fault: StartFault) -> bool
 }
 
 impl<T: Tagged, const N: usize, S: Stored<T>> PutAnswer<'_, T, N, S> {
-    /// Whether a waiting put tries again: after `Busy` and `Contended`, and where its span is open.
+    /// Whether a waiting put tries again: after `Busy` and `Contended`, and if its span is open.
     pub fn should_retry(&self) -> bool
         ensures sound { result ≡ true → IsUnfinishedPut self.now }
         ensures none { result ≡ false → IsUnfinishedPut self.now → ⊥ }
@@ -38,7 +38,7 @@ impl<T: Tagged, const N: usize, S: Stored<T>> PutAnswer<'_, T, N, S> {
 }
 
 impl<T: Tagged, const N: usize, S: Stored<T>> TakeAnswer<'_, T, N, S> {
-    /// Whether a waiting take tries again: after `Busy` and `Contended`, and where its span is open.
+    /// Whether a waiting take tries again: after `Busy` and `Contended`, and if its span is open.
     pub fn should_retry(&self) -> bool
         ensures sound { result ≡ true → IsUnfinishedTake self.now }
         ensures none { result ≡ false → IsUnfinishedTake self.now → ⊥ }

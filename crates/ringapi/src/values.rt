@@ -1,4 +1,4 @@
-//! Whole calls with a list by value: each moves all `N` places of it, which the calls that are lent a list don't.
+//! Whole calls with a list by value: each moves all `N` places of it. The calls that borrow a list don't.
 ghost use Rattle.std.specs.Prelude.{◌<◌, length};
 ghost use Rattle.fabric.specs.Hands.{IsHandOf, rings_of};
 ghost use Rattle.ringapi.specs.Views.{by_bulk, by_burst};
@@ -13,7 +13,7 @@ use burst::{Burst, Tagged};
 use fabric::{Fabric, Hand, Stored};
 use std::sync::Wait;
 
-/// `try_put_bulk_from` of a list by value; what was not moved comes back with the answer.
+/// `try_put_bulk_from` with a list by value; what was not moved comes back with the answer.
 pub fn try_put_bulk<'f, T: Tagged, const N: usize, S: Stored<T>>(
     f: &'f Fabric<T, N, S>,
     hand: Hand<T, S>,
@@ -29,7 +29,7 @@ pub fn try_put_bulk<'f, T: Tagged, const N: usize, S: Stored<T>>(
     (answer, list)
 }
 
-/// `try_put_burst_from` of a list by value; what was not moved comes back with the answer.
+/// `try_put_burst_from` with a list by value; what was not moved comes back with the answer.
 pub fn try_put_burst<'f, T: Tagged, const N: usize, S: Stored<T>>(
     f: &'f Fabric<T, N, S>,
     hand: Hand<T, S>,
@@ -45,7 +45,7 @@ pub fn try_put_burst<'f, T: Tagged, const N: usize, S: Stored<T>>(
     (answer, list)
 }
 
-/// `put_bulk_from` of a list by value; what was not moved comes back with the answer.
+/// `put_bulk_from` with a list by value; what was not moved comes back with the answer.
 pub fn put_bulk<'f, T: Tagged, const N: usize, S: Stored<T>, R: Wait>(
     rt: &R,
     f: &'f Fabric<T, N, S>,
@@ -62,7 +62,7 @@ pub fn put_bulk<'f, T: Tagged, const N: usize, S: Stored<T>, R: Wait>(
     (answer, list)
 }
 
-/// `put_burst_from` of a list by value; what was not moved comes back with the answer.
+/// `put_burst_from` with a list by value; what was not moved comes back with the answer.
 pub fn put_burst<'f, T: Tagged, const N: usize, S: Stored<T>, R: Wait>(
     rt: &R,
     f: &'f Fabric<T, N, S>,
@@ -79,7 +79,7 @@ pub fn put_burst<'f, T: Tagged, const N: usize, S: Stored<T>, R: Wait>(
     (answer, list)
 }
 
-/// `try_take_bulk_into` a list of its own, which comes with the answer.
+/// `try_take_bulk_into` with a list of its own, which is returned with the answer.
 pub fn try_take_bulk<'f, T: Tagged, const N: usize, S: Stored<T>>(
     f: &'f Fabric<T, N, S>,
     hand: Hand<T, S>,
@@ -95,7 +95,7 @@ pub fn try_take_bulk<'f, T: Tagged, const N: usize, S: Stored<T>>(
     (answer, items)
 }
 
-/// `try_take_burst_into` a list of its own, which comes with the answer.
+/// `try_take_burst_into` with a list of its own, which is returned with the answer.
 pub fn try_take_burst<'f, T: Tagged, const N: usize, S: Stored<T>>(
     f: &'f Fabric<T, N, S>,
     hand: Hand<T, S>,
@@ -111,7 +111,7 @@ pub fn try_take_burst<'f, T: Tagged, const N: usize, S: Stored<T>>(
     (answer, items)
 }
 
-/// `take_bulk_into` a list of its own, which comes with the answer.
+/// `take_bulk_into` with a list of its own, which is returned with the answer.
 pub fn take_bulk<'f, T: Tagged, const N: usize, S: Stored<T>, R: Wait>(
     rt: &R,
     f: &'f Fabric<T, N, S>,
@@ -128,7 +128,7 @@ pub fn take_bulk<'f, T: Tagged, const N: usize, S: Stored<T>, R: Wait>(
     (answer, items)
 }
 
-/// `take_burst_into` a list of its own, which comes with the answer.
+/// `take_burst_into` with a list of its own, which is returned with the answer.
 pub fn take_burst<'f, T: Tagged, const N: usize, S: Stored<T>, R: Wait>(
     rt: &R,
     f: &'f Fabric<T, N, S>,

@@ -1,4 +1,4 @@
-//! Words go from a slice into the slots that a hand holds, and come out of them into a slice.
+//! Copying words from a slice into the slots that a hand holds, and out of them into a slice.
 ghost use Rattle.std.specs.Prelude.{◌≡◌, ◌+◌, ◌<◌, ◌++◌, ◌^◌, length, drop, replicate, map, None, Some};
 ghost use Rattle.burst.specs.Items.{somes};
 ghost use Rattle.fabric_laws.specs.Kinds.{run};
@@ -17,7 +17,7 @@ use std::mem::ManuallyDrop;
 const BLOCK: usize = 8;
 
 impl<T: Word, const N: usize, S: Stored<T>> Ring<'_, T, N, S> {
-    /// Copies words into as many slots side by side, one after the other.
+    /// Copies words into as many neighboring slots, one after the other.
     #[inline]
     fn fill_each(&self, seat: &mut Seat<Cell<T, S>, View<T>>, slot: usize, items: &[T])
         requires table { seat.old.table_id ≡ self.now.fabric.now.table.shared.table_id }
@@ -34,7 +34,7 @@ impl<T: Word, const N: usize, S: Stored<T>> Ring<'_, T, N, S> {
                 .table
                 .shared
                 .exchange(seat, slot + i, Cell::of(Some(items[i])));
-            // the slot held nothing, so that nothing is to be dropped
+            // the slot was empty, so nothing is dropped
             let _nothing = ManuallyDrop::new(found);
             seat.turn();
         }
@@ -60,8 +60,8 @@ impl<T: Word, const N: usize, S: Stored<T>> Ring<'_, T, N, S> {
         self.fill_each(seat, slot + at, &items[at..]);
     }
 
-    /// Copies words into as many slots from the position `start` on, which hold nothing and are the first of the row.
-    /// They are then its last.
+    /// Copies words into as many slots from the position `start` on, which are empty and the first of the row. They are
+    /// its last ones afterwards.
     #[inline]
     pub(crate) fn fill_slice(&self, seat: &mut Seat<Cell<T, S>, View<T>>, start: u64, items: &[T])
         requires table { seat.old.table_id ≡ self.now.fabric.now.table.shared.table_id }
@@ -81,7 +81,7 @@ impl<T: Word, const N: usize, S: Stored<T>> Ring<'_, T, N, S> {
         }
     }
 
-    /// Copies the words that as many slots side by side hold, one after the other.
+    /// Copies the words out of as many neighboring slots, one after the other.
     #[inline]
     fn drain_each(&self, seat: &mut Seat<Cell<T, S>, View<T>>, slot: usize, into: &mut [T])
         requires table { seat.old.table_id ≡ self.now.fabric.now.table.shared.table_id }
@@ -124,8 +124,8 @@ impl<T: Word, const N: usize, S: Stored<T>> Ring<'_, T, N, S> {
         self.drain_each(seat, slot + at, &mut into[at..]);
     }
 
-    /// Copies the words that as many slots from the position `start` on hold. The slots are all of the row, and hold
-    /// nothing then.
+    /// Copies the words out of as many slots from the position `start` on. The slots are all of the row, and are empty
+    /// afterwards.
     #[inline]
     pub(crate) fn drain_slice(
         &self,
@@ -151,7 +151,7 @@ impl<T: Word, const N: usize, S: Stored<T>> Ring<'_, T, N, S> {
         }
     }
 
-    /// Leaves nothing in the slots of the row.
+    /// Empties the slots of the row.
     pub(crate) fn clear_slots(&self, seat: &mut Seat<Cell<T, S>, View<T>>, start: u64, count: usize)
         requires table { seat.old.table_id ≡ self.now.fabric.now.table.shared.table_id }
         requires low { start + count < 2 ^ 63 }

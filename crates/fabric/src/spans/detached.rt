@@ -1,5 +1,5 @@
-//! An open span without a reference to its fabric, so that both may lie in one value. It goes on once it is attached to
-//! the fabric again (`attach`).
+//! An open span without a reference to its fabric, so that both can be in one value. Attach it to the fabric again to
+//! go on (`attach`).
 ghost use Rattle.std.specs.Prelude.{◌≡◌, ◌<◌, ◌≤◌, None, Some, length, replicate, slice_get};
 ghost use Rattle.geom.specs.declared.plan.RingPlan.{RingPlan};
 ghost use Rattle.geom.specs.declared.plan.Side.TheVariants.{Put, Take};
@@ -14,7 +14,8 @@ use crate::ring::Positions;
 use crate::stored::Stored;
 use burst::Tagged;
 
-/// A hand with a span that it will put items into, apart from its fabric. One that is dropped keeps its span for ever.
+/// A hand with a span that it will put items into, apart from its fabric. If it is dropped, its span stays reserved for
+/// ever.
 #[derive(Drop)]
 #[must_use]
 pub struct DetachedPut<T: Tagged, const N: usize, S: Stored<T> = Option<T>> {
@@ -28,8 +29,8 @@ pub struct DetachedPut<T: Tagged, const N: usize, S: Stored<T> = Option<T>> {
     pub ghost fits: { range.count ≤ N },
 }
 
-/// A hand with a span whose items it takes, apart from its fabric; the items are the caller's to keep. One that is
-/// dropped keeps its span for ever.
+/// A hand with a span whose items it takes, apart from its fabric; the caller keeps the items. If it is dropped, its
+/// span stays reserved for ever.
 #[derive(Drop)]
 #[must_use]
 pub struct DetachedTake<T: Tagged, const N: usize, S: Stored<T> = Option<T>> {

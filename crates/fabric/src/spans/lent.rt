@@ -32,7 +32,7 @@ impl<'f, T: Tagged, const N: usize, S: Stored<T>> PutOpen<'f, T, N, S> {
         self.range.count
     }
 
-    /// How many positions more were free as the span was reserved.
+    /// How many more positions were free when the span was reserved.
     pub fn left(&self) -> u64
         ensures { result ≡ put_left self.now }
     {
@@ -40,8 +40,8 @@ impl<'f, T: Tagged, const N: usize, S: Stored<T>> PutOpen<'f, T, N, S> {
     }
 
     /// Tries once to publish the items at the positions of the span: on a multi side as many as it has, on an HTS side
-    /// at most so many, and the others are given up. One step on a word at most. The burst is empty then; at a refusal
-    /// it is as it was, and the span stays open.
+    /// at most as many, and the other positions are given up. One step on a word at most. The burst is empty
+    /// afterwards; at a refusal it is unchanged, and the span stays open.
     ///
     /// Errors, in the order of the tests: `BadCount`, `NotYours`, before any step; `NotYet`.
     pub fn try_settle_from(
@@ -80,7 +80,7 @@ impl<'f, T: Tagged, const N: usize, S: Stored<T>> PutOpen<'f, T, N, S> {
     }
 
     /// Gives up all positions of a span on a head/tail-sync side: `try_settle_from` with no item, without a burst.
-    /// Requires: the side is one. One step on a word.
+    /// Requires: the span is on such a side. One step on a word.
     pub fn abort(self) -> Hand<T, S>
         requires hts { self.ring.shape.plan.put ≡ Hts }
         ensures { HasPut self.entry [] result }
@@ -114,7 +114,7 @@ impl<'f, T: Tagged, const N: usize, S: Stored<T>> TakeOpenLent<'f, T, N, S> {
         self.range.count
     }
 
-    /// How many items more were queued as the span was reserved.
+    /// How many more items were queued when the span was reserved.
     pub fn left(&self) -> u64
         ensures { result ≡ take_left self.now }
     {
@@ -122,9 +122,9 @@ impl<'f, T: Tagged, const N: usize, S: Stored<T>> TakeOpenLent<'f, T, N, S> {
     }
 
     /// Tries once to take the items at the first `k` positions of the span: on a multi side all, on an HTS side any
-    /// number, and the other items are queued again. One step on a word at most. The burst, as the start filled it,
-    /// then has the items that were taken; at a refusal it is as it was, and the span stays open. Requires: the burst has
-    /// the items that the start showed.
+    /// number, and the other items are queued again. One step on a word at most. The burst, as the start filled it, has
+    /// the items that were taken afterwards; at a refusal it is unchanged, and the span stays open. Requires: the burst
+    /// has the items that the start showed.
     ///
     /// Errors, in the order of the tests: `BadCount`, before any step; `NotYet`.
     pub fn try_settle_into(

@@ -1,4 +1,5 @@
-//! Settling a span: its slots are filled, or the rest of a take goes back, and one step on a word sends them home.
+//! Settling a span: its slots are filled, or the rest of a take is put back, and one step on a word returns them to the
+//! ring.
 ghost use Rattle.std.specs.Prelude.{◌≡◌, ◌+◌, ◌-◌, ◌<◌, ◌≤◌, ◌++◌, [], length, map, take, drop, replicate};
 ghost use Rattle.std.specs.Prelude.{None, Some, IfNone, IfSome, true, false};
 ghost use Rattle.geom.specs.declared.plan.Mode.TheVariants.{Multi};
@@ -69,8 +70,8 @@ impl<T: Tagged, const N: usize, S: Stored<T>> Ring<'_, T, N, S> {
         self.drain(seat, range.start, range.count, cells);
     }
 
-    /// Publishes items at the first positions of a put span. Where an earlier span of a multi side isn't settled, the
-    /// items come back, and the tail found is answered.
+    /// Publishes items at the first positions of a put span. If an earlier span of a multi side isn't settled, the
+    /// items come back, and the tail found is returned.
     pub(crate) fn publish(
         &self,
         seat: &mut Seat<Cell<T, S>, View<T>>,
@@ -113,7 +114,7 @@ impl<T: Tagged, const N: usize, S: Stored<T>> Ring<'_, T, N, S> {
         }
     }
 
-    /// Puts the items behind the first `k` of a take back into their slots.
+    /// Puts the items after the first `k` of a take back into their slots.
     fn keep(
         &self,
         seat: &mut Seat<Cell<T, S>, View<T>>,
@@ -133,8 +134,8 @@ impl<T: Tagged, const N: usize, S: Stored<T>> Ring<'_, T, N, S> {
         self.fill(seat, range.start + k as u64, k, cells);
     }
 
-    /// Dequeues the items at the first `k` positions of a take span. Where an earlier span of a multi side isn't
-    /// settled, nothing is done, and the tail found is answered.
+    /// Dequeues the items at the first `k` positions of a take span. If an earlier span of a multi side isn't settled,
+    /// nothing is done, and the tail found is returned.
     pub(crate) fn dequeue(
         &self,
         seat: &mut Seat<Cell<T, S>, View<T>>,

@@ -1,5 +1,5 @@
 //! Settling a span of words: its slots are filled from a slice, or the rest of a take goes back, and one step on a word
-//! sends them home.
+//! returns them to the ring.
 ghost use Rattle.std.specs.Prelude.{◌≡◌, ◌-◌, ◌<◌, ◌≤◌, ◌++◌, [], length, map, take, drop, replicate};
 ghost use Rattle.std.specs.Prelude.{None, Some, IfNone, IfSome, true};
 ghost use Rattle.geom.specs.declared.plan.Mode.TheVariants.{Multi};
@@ -58,7 +58,7 @@ impl<T: Word, const N: usize, S: Stored<T>> Ring<'_, T, N, S> {
         self.drain_slice(seat, range.start, into);
     }
 
-    /// Leaves nothing in the slots of a span.
+    /// Empties the slots of a span.
     fn clear_span(&self, seat: &mut Seat<Cell<T, S>, View<T>>, range: Positions)
         requires table { seat.old.table_id ≡ self.now.fabric.now.table.shared.table_id }
         requires slots { (length (values seat.old.me.1) ≡ range.count)
@@ -70,7 +70,7 @@ impl<T: Word, const N: usize, S: Stored<T>> Ring<'_, T, N, S> {
     }
 
     /// Publishes words at the first positions of a put span. If an earlier span of a multi side isn't settled, the tail
-    /// found is returned, and the slots hold nothing again.
+    /// found is returned, and the slots are empty again.
     #[inline]
     pub(crate) fn publish_slice(
         &self,

@@ -27,7 +27,7 @@ impl<T: Word, const N: usize, S: Stored<T>> Fabric<T, N, S> {
     /// places. At most three steps on words.
     ///
     /// Errors, in the order of the tests: `BadCount` if `n` is 0 or above `N`, before any step; `Busy`; `NoRoom`;
-    /// `Worn`; `Contended`. The hand comes back, and the slice is as it was.
+    /// `Worn`; `Contended`. The hand comes back, and the slice is unchanged.
     pub fn try_start_take_slice(
         &self,
         hand: Hand<T, S>,
@@ -79,7 +79,8 @@ impl<T: Word, const N: usize, S: Stored<T>> Fabric<T, N, S> {
 
 impl<'f, T: Word, const N: usize, S: Stored<T>> PutOpen<'f, T, N, S> {
     /// Tries once to publish words at the positions of the span: on a multi side as many as it has, on an HTS side at
-    /// most so many, and the others are given up. One step on a word at most. At a refusal the span stays open.
+    /// most as many, and the other positions are given up. One step on a word at most. At a refusal the span stays
+    /// open.
     ///
     /// Errors, in the order of the tests: `BadCount`, `NotYours`, before any step; `NotYet`.
     pub fn try_settle_slice(

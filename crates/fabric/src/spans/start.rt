@@ -1,4 +1,4 @@
-//! Reserving a span: a look, a question for room, and an exchange of the own word.
+//! Reserving a span: a look at the own word, a look at the room, and an exchange of the own word.
 ghost use Rattle.std.specs.Prelude.{◌≡◌, ◌≢◌, ◌+◌, ◌%◌, ◌<◌, ◌≤◌, ◌⊎◌, [], length, None, IfOk, IfErr};
 ghost use Rattle.std.specs.Prelude.{true, false};
 ghost use Rattle.geom.specs.declared.plan.Mode.TheVariants.{Hts};
@@ -55,7 +55,7 @@ fn is_busy(mode: Mode, word: u64) -> bool
     }
 }
 
-/// Whether a request for `n` positions of a side is to be refused with `BadCount`.
+/// Whether a request for `n` positions of a side is refused with `BadCount`.
 #[inline]
 fn is_bad_count(shape: &Shape, owned: &Owned, side: Side, n: usize, most: usize) -> bool
     ensures bad { result ≡ true → (n ≡ 0) ⊎ ((most < n) ⊎ ((side ≡ Put) × (shape.now.plan.free ≡ true)
@@ -89,8 +89,8 @@ fn measure(how: How, n: usize, start: u64, room: u64) -> Result<usize, StartFaul
 }
 
 impl<T: Tagged, const N: usize, S: Stored<T>> Ring<'_, T, N, S> {
-    /// Looks at a side and asks for its room: two steps on words, or one where the side is busy. Answers the word found
-    /// where it is.
+    /// Looks at a side and at its room: two steps on words, or one if the side is busy; the word found is returned
+    /// then.
     pub(crate) fn probe(
         &self,
         seat: &mut Seat<Cell<T, S>, View<T>>,
@@ -128,7 +128,7 @@ impl<T: Tagged, const N: usize, S: Stored<T>> Ring<'_, T, N, S> {
         })
     }
 
-    /// What a start does before it reserves: it tells how many positions to reserve, and from where.
+    /// What a start does before it reserves: it returns how many positions to reserve, and from where.
     fn aim(
         &self,
         seat: &mut Seat<Cell<T, S>, View<T>>,
@@ -157,7 +157,7 @@ impl<T: Tagged, const N: usize, S: Stored<T>> Ring<'_, T, N, S> {
     }
 
     /// The same by a hand, once the count was tested: its share, what was found, and how many positions to reserve. The
-    /// hand comes back where a start is refused here.
+    /// hand comes back if a start is refused here.
     #[inline]
     fn approach(
         &self,
@@ -193,8 +193,8 @@ impl<T: Tagged, const N: usize, S: Stored<T>> Ring<'_, T, N, S> {
         }
     }
 
-    /// A start of either side, but for the items of a take: the share with its open span, and where that lies. The hand
-    /// comes back where it is refused.
+    /// A start of either side, without the items of a take: the share with its open span, and where the span is. The
+    /// hand comes back if it is refused.
     #[inline]
     pub(crate) fn start(
         &self,
@@ -244,7 +244,7 @@ impl<T: Tagged, const N: usize, S: Stored<T>> Fabric<T, N, S> {
     /// Tries once to reserve a span of positions for a put: by bulk `n` of them, by burst at most `n`. At most three
     /// steps on words.
     ///
-    /// Errors, in the order of the tests: `BadCount` where `n` is 0 or above `N`, or above the number of the hand's
+    /// Errors, in the order of the tests: `BadCount` if `n` is 0 or above `N`, or above the number of the hand's
     /// buffers on a free ring, before any step; `Busy`; `NoRoom`, never on a free ring; `Worn`; `Contended`. The hand
     /// comes back.
     pub fn try_start_put(
@@ -287,7 +287,7 @@ impl<T: Tagged, const N: usize, S: Stored<T>> Fabric<T, N, S> {
     /// Tries once to reserve a span of positions for a take: by bulk `n` of them, by burst at most `n`. Its items go
     /// into an empty burst at once; they stay queued until the span is settled. At most three steps on words.
     ///
-    /// Errors, in the order of the tests: `BadCount` where `n` is 0 or above `N`, before any step; `Busy`; `NoRoom`;
+    /// Errors, in the order of the tests: `BadCount` if `n` is 0 or above `N`, before any step; `Busy`; `NoRoom`;
     /// `Worn`; `Contended`. The hand comes back, and the burst stays empty.
     pub fn try_start_take_into(
         &self,

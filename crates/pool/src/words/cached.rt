@@ -1,4 +1,4 @@
-//! Gets and puts of the cache alone, into slices and from slices. They touch no ring.
+//! Gets and puts on the cache alone, into slices and from slices. They touch no ring.
 ghost use Rattle.std.specs.Prelude.{◌≡◌, ◌++◌, length, IfOk, IfErr};
 ghost use Rattle.fabric.specs.Settles.{AreOwnBuffers};
 ghost use Rattle.pool.specs.Calls.{GetsCached, PutsCached, filled, undone};
@@ -14,7 +14,7 @@ impl<T: Word, const N: usize, S: Stored<T>> LocalWords<T, N, S> {
     /// Fills a slice from the cache alone, the newest word first. No step on a word of the fabric, no memory, no
     /// waiting.
     ///
-    /// Errors: `Short` if the cache has fewer words; nothing moves then, and the slice stays as it is.
+    /// Errors: `Short` if the cache has fewer words; nothing moves then, and the slice isn't changed.
     #[inline]
     pub fn get_cached_into_slice(&mut self, into: &mut [T]) -> Result<(), PoolFault>
         ensures same { SameRing self.old self.new × HasSameHand self.old self.new }

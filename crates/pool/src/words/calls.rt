@@ -1,4 +1,5 @@
-//! Gets into slices, puts from slices, and flushes, through the cache to the ring.
+//! Gets into slices, puts from slices, and flushes, through the cache to the ring. What the cache can do is inlined, and
+//! what goes to the ring is not.
 ghost use Rattle.std.specs.Prelude.{◌≡◌, ◌<◌, ◌≤◌, ◌++◌, length, IfOk, IfErr};
 ghost use Rattle.fabric.specs.Hands.{OnRing};
 ghost use Rattle.fabric.specs.Settles.{AreOwnBuffers};
@@ -15,12 +16,14 @@ use fabric::{Fabric, Stored};
 use std::sync::Wait;
 
 impl<T: Word, const N: usize, S: Stored<T>> LocalWords<T, N, S> {
-    /// Gets as many words as a slice has places, 1 to 64: the newest of the cache, the newest first. If it has too few,
-    /// all of them, and behind them the first that one bulk take of the missing and `size` more gave; the others of
-    /// these are the cache then, in the ring's order. If that take is refused, one of the missing alone.
+    /// Gets as many words as a slice has places, 1 to 64: the newest of the cache, the newest first. If it has too few:
+    /// all of them, followed by the first ones of a bulk take of the missing and `size` more; the others of that take
+    /// are the cache afterwards, in the ring's order. If that take is refused, a take of only the missing ones is
+    /// tried.
     ///
-    /// Errors, if that is refused too: `Short`, if it found too few; `Worn`. Nothing moves then, and the slice stays as
-    /// it is. No memory; it waits while the ring is busy, and not for words.
+    /// Errors, if that is refused too: `Short` if it found too few; `Worn`. Nothing moves then, and the slice isn't
+    /// changed. No memory; it waits while the ring is busy, but not for words.
+    #[inline]
     pub fn get_into_slice<R: Wait>(
         &mut self,
         rt: &R,
@@ -59,6 +62,7 @@ impl<T: Word, const N: usize, S: Stored<T>> LocalWords<T, N, S> {
     /// until `size` are left.
     ///
     /// Errors: `NotYours`, tested first; `Worn`. Nothing moves then. No memory; it waits while the ring is busy.
+    #[inline]
     pub fn put_from_slice<R: Wait>(
         &mut self,
         rt: &R,
@@ -106,7 +110,7 @@ impl<T: Word, const N: usize, S: Stored<T>> LocalWords<T, N, S> {
 
     /// Puts all of the cache on the ring in one bulk put, the oldest first, if it isn't empty.
     ///
-    /// Errors: `Worn`. The cache stays as it is then. No memory; it waits while the ring is busy.
+    /// Errors: `Worn`. The cache isn't changed then. No memory; it waits while the ring is busy.
     pub fn flush<R: Wait>(&mut self, rt: &R, f: &Fabric<T, N, S>) -> Result<(), PoolFault>
         requires local { IsLocalOf f.now self.old }
         ensures local { IsLocalOf f.now self.new }

@@ -1,4 +1,4 @@
-//! How a cache of words begins, and how its hand and its words come back.
+//! Making a cache of words, and getting its hand and its words back.
 ghost use Rattle.std.specs.Prelude.{◌≡◌, ◌+◌, ◌≤◌, [], IfOk, IfErr};
 ghost use Rattle.fabric.specs.Hands.{SameHand, view};
 ghost use Rattle.pool.specs.Caches.{threshold};
@@ -23,13 +23,13 @@ pub enum CacheFault {
     /// Out of memory for its array.
     #[error("Memory")]
     Memory,
-    /// The size or the words are no cache: `BadSize`, `NotYours` or `CacheFull`.
+    /// No cache can have this size or these words: `BadSize`, `NotYours` or `CacheFull`.
     #[error("{0}")]
     Pool(PoolFault),
 }
 
 impl CacheFault {
-    /// That of the pool, 1 to 5, or 6 `Memory`.
+    /// The number of the pool's fault, 1 to 5, or 6 for `Memory`.
     pub fn number(self) -> u8
         ensures { result ≡ cache_number_of self }
     {
@@ -73,10 +73,10 @@ impl<T: Word, const N: usize, S: Stored<T>> LocalWords<T, N, S> {
         })
     }
 
-    /// A cache of this size that has the words of a slice, the oldest first, as `into_hand` gave them. Requires: as of
-    /// `new`. Takes the memory of its array.
+    /// A cache of this size that has the words of a slice, the oldest first, as `into_hand` returned them. Requires: as
+    /// for `new`. Takes the memory of its array.
     ///
-    /// Errors, in the order of the tests: `BadSize`, `Memory`, as of `new`; `NotYours`; `CacheFull` if there are more
+    /// Errors, in the order of the tests: `BadSize`, `Memory`, as for `new`; `NotYours`; `CacheFull` if there are more
     /// than `floor(3 * size / 2)`. The hand comes back.
     pub fn resume(
         alloc: Global,

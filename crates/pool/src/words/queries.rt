@@ -1,4 +1,4 @@
-//! What a cache of words returns about itself.
+//! Queries about a cache of words.
 ghost use Rattle.std.specs.Prelude.{◌≡◌, ◌==◌, ◌<◌, ◌↔◌, IsTrue, length, true, false};
 ghost use Rattle.ringcore_laws.specs.FreeRings.{AreSingle};
 ghost use Rattle.ringcore_laws.specs.Sound.{holds, occurrences_in};
@@ -38,14 +38,14 @@ impl<T: Word, const N: usize, S: Stored<T>> LocalWords<T, N, S> {
         self.cache.len() == 0
     }
 
-    /// The size of the cache, as it was made.
+    /// The size that the cache was made with.
     pub fn size(&self) -> usize
         ensures { result ≡ cache_size self.now }
     {
         self.size
     }
 
-    /// Whether a buffer is the hand's own, cached or not. Looks at each cached word if it isn't in the hand's row.
+    /// Whether a buffer is the hand's own, cached or not. Looks at each cached word if the hand's flag of it isn't set.
     pub fn owns(&self, b: u32) -> bool
         ensures { IsTrue result ↔ (holds T.numbers b (view_of self.now).party ≡ 1) }
     {

@@ -16,7 +16,7 @@ use fabric::{Fabric, Hand, Stored};
 use ringapi::{PutAnswer, TakeAnswer, put_own_bulk_slice, take_bulk_slice};
 use std::sync::Wait;
 
-/// One bulk take that fills a slice, tried until it is answered. At a refusal the slice stays as it is.
+/// One bulk take that fills a slice, tried until it succeeds or is refused. At a refusal the slice stays as it is.
 fn ask_slice<T: Word, const N: usize, S: Stored<T>, R: Wait>(
     rt: &R,
     f: &Fabric<T, N, S>,
@@ -87,8 +87,8 @@ fn ask<T: Word, const N: usize, S: Stored<T>, R: Wait>(
     }
 }
 
-/// The words that a cache is short of, by `missing`, and `size` more, pushed onto it; if so many aren't available, the
-/// missing alone.
+/// The `missing` words that a cache lacks, and `size` more, pushed onto it; if the ring doesn't have that many, the
+/// missing ones alone.
 fn refill<T: Word, const N: usize, S: Stored<T>, R: Wait>(
     rt: &R,
     f: &Fabric<T, N, S>,
@@ -127,8 +127,9 @@ fn refill<T: Word, const N: usize, S: Stored<T>, R: Wait>(
     }
 }
 
-/// Gets words into a slice if the cache has too few: all of them, the newest first, and behind them the first of those
-/// that refill the cache. At a refusal nothing moves.
+/// Gets words into a slice if the cache has too few: all of them, the newest first, followed by the first of those that
+/// refill the cache. At a refusal nothing moves.
+#[inline(never)]
 pub(crate) fn fetch<T: Word, const N: usize, S: Stored<T>, R: Wait>(
     rt: &R,
     f: &Fabric<T, N, S>,
@@ -165,8 +166,8 @@ pub(crate) fn fetch<T: Word, const N: usize, S: Stored<T>, R: Wait>(
     }
 }
 
-/// One bulk put of all words of a slice that are the hand's to put, tried until it is answered. Refused only if the
-/// ring is worn; nothing changes then.
+/// One bulk put of all words of a slice that the hand may put, tried until it succeeds or is refused. Refused only if
+/// the ring is worn; nothing changes then.
 fn put_bulk<T: Word, const N: usize, S: Stored<T>, R: Wait>(
     rt: &R,
     f: &Fabric<T, N, S>,
@@ -192,7 +193,8 @@ fn put_bulk<T: Word, const N: usize, S: Stored<T>, R: Wait>(
     }
 }
 
-/// One bulk put of the oldest `spare` words of a cache, tried until it is answered. The others move to the front then.
+/// One bulk put of the oldest `spare` words of a cache, tried until it succeeds or is refused. The others move to the
+/// front afterwards.
 pub(crate) fn spill<T: Word, const N: usize, S: Stored<T>, R: Wait>(
     rt: &R,
     f: &Fabric<T, N, S>,
@@ -206,7 +208,7 @@ pub(crate) fn spill<T: Word, const N: usize, S: Stored<T>, R: Wait>(
     requires own { AreOwnBuffers T.numbers (view hand) (stacked cache.old) }
     requires nonzero { 0 < spare }
     requires at_most { spare ≤ length (stacked cache.old) }
-    requires few { length (stacked cache.old) ≤ N }
+    requires fits { length (stacked cache.old) ≤ N }
     ensures room { room_of cache.new ≡ room_of cache.old }
     ensures kept { IfOk result (IsHandOf f.now) }
     ensures same { IfErr result (IsHandOf f.now) }
@@ -237,7 +239,7 @@ pub(crate) fn empty<T: Word, const N: usize, S: Stored<T>, R: Wait>(
     requires hand { IsHandOf f.now hand }
     requires free { IsFreeOf f.now ring }
     requires own { AreOwnBuffers T.numbers (view hand) (stacked cache.old) }
-    requires few { length (stacked cache.old) ≤ N }
+    requires fits { length (stacked cache.old) ≤ N }
     ensures room { room_of cache.new ≡ room_of cache.old }
     ensures kept { IfOk result (λ h. IsHandOf f.now h × (stacked cache.new ≡ [])) }
     ensures same { IfErr result (λ h. IsHandOf f.now h × (stacked cache.new ≡ stacked cache.old)) }

@@ -16,6 +16,7 @@ use fabric::{CacheHand, Fabric, Hand, Stored};
 use std::sync::Wait;
 
 /// The whole hand, for a call on a ring. Requires: it sets the buffers of this cache aside.
+#[inline(never)]
 pub(crate) fn whole_hand<T: Word, S: Stored<T>>(
     cache_hand: CacheHand<T, S>,
     cache: &WordStack<T>,
@@ -26,7 +27,8 @@ pub(crate) fn whole_hand<T: Word, S: Stored<T>>(
     cache_hand.into_hand_slice(cache.as_slice())
 }
 
-/// The hand as one that sets the buffers of a cache aside. Requires: they are its own to put on a free ring.
+/// The hand as one that sets the buffers of a cache aside. Requires: it may put them on a free ring.
+#[inline(never)]
 pub(crate) fn keep_back<T: Word, S: Stored<T>>(
     hand: Hand<T, S>,
     cache: &WordStack<T>,
@@ -42,8 +44,8 @@ pub(crate) fn keep_back<T: Word, S: Stored<T>>(
     cache_hand
 }
 
-/// Pushes the words of a slice onto a cache, if all of them together are the hand's to put on a free ring; otherwise
-/// nothing changes.
+/// Pushes the words of a slice onto a cache if the hand may put all of them together on a free ring; otherwise nothing
+/// changes.
 #[inline]
 pub(crate) fn admit<T: Word, S: Stored<T>>(
     cache_hand: &mut CacheHand<T, S>,
@@ -90,8 +92,9 @@ pub(crate) fn give<T: Word, S: Stored<T>>(
     cache_hand.restore_slice(into);
 }
 
-/// Puts the oldest words of a cache on the ring until `size` are left. If that is refused, the words behind the first
-/// `before` are left out of the cache.
+/// Puts the oldest words of a cache on the ring until `size` are left. If that is refused, the words after the first
+/// `before` are removed from the cache.
+#[inline(never)]
 pub(crate) fn shed<T: Word, const N: usize, S: Stored<T>, R: Wait>(
     rt: &R,
     f: &Fabric<T, N, S>,
@@ -106,7 +109,7 @@ pub(crate) fn shed<T: Word, const N: usize, S: Stored<T>, R: Wait>(
     requires kept { Keeps T.numbers cache_hand (stacked cache.old) }
     requires single { AreSingle T.numbers (stacked cache.old) }
     requires length { size < length (stacked cache.old) }
-    requires few { length (stacked cache.old) ≤ N }
+    requires fits { length (stacked cache.old) ≤ N }
     requires before { before ≤ length (stacked cache.old) }
     ensures room { room_of cache.new ≡ room_of cache.old }
     ensures cache_hand { IfOk result (λ k. IsCacheHandOf f.now k × Keeps T.numbers k (stacked cache.new)) }

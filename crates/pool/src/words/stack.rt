@@ -1,8 +1,8 @@
 //! A stack of words over an array.
 ghost use Rattle.std.specs.Prelude.{◌≤◌, length};
 
-/// A stack of words: the first `count` places of the array have its words, the newest last. What the other places have
-/// means nothing.
+/// A stack of words: the first `count` places of the array have its words, the newest last. The content of the other
+/// places has no meaning.
 #[derive(Drop)]
 pub struct WordStack<T> {
     pub(crate) places: Vec<T>,

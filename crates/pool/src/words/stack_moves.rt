@@ -1,10 +1,22 @@
-//! Pushes and pops of a stack of words: each copies a run of words.
-ghost use Rattle.std.specs.Prelude.{◌≡◌, ◌+◌, ◌-◌, ◌≤◌, ◌++◌, [], length, take, drop, reverse, IfOk};
+//! Pushes and pops of a stack of words. One word, as in most calls, is moved by itself; a longer run is copied.
+ghost use Rattle.std.specs.Prelude.{◌≡◌, ◌<◌, ◌+◌, ◌-◌, ◌≤◌, ◌++◌, ◌∷◌, [], length, take, drop, reverse, IfOk};
 ghost use Rattle.pool.specs.Stacks.{room_of, stacked};
 
 use crate::words::stack::WordStack;
 use burst::Word;
 use std::alloc::{AllocError, Global};
+
+/// Copies words in reverse order. Requires: as many places.
+#[inline]
+fn copy_reversed<T: Word>(from: &[T], into: &mut [T])
+    requires { length from.now ≡ length into.old }
+    ensures { into.new ≡ reverse from.now }
+{
+    let n = into.len();
+    for i in 0..n {
+        into[i] = from[n - 1 - i];
+    }
+}
 
 impl<T: Word> WordStack<T> {
     /// An empty stack with so many places. Takes their memory.
@@ -45,6 +57,31 @@ impl<T: Word> WordStack<T> {
         places
     }
 
+    /// Pushes a word. Requires: there is room for it.
+    #[inline]
+    fn push(&mut self, item: T)
+        requires room { length (stacked self.old) < room_of self.old }
+        ensures room { room_of self.new ≡ room_of self.old }
+        ensures pushed { stacked self.new ≡ stacked self.old ++ item ∷ [] }
+    {
+        let count = self.count;
+        self.places[count] = item;
+        self.count = count + 1;
+    }
+
+    /// Pops the newest word. Requires: there is one.
+    #[inline]
+    fn pop(&mut self) -> T
+        requires enough { 0 < length (stacked self.old) }
+        ensures room { room_of self.new ≡ room_of self.old }
+        ensures left { stacked self.new ≡ take (length (stacked self.old) - 1) (stacked self.old) }
+        ensures popped { result ∷ [] ≡ drop (length (stacked self.old) - 1) (stacked self.old) }
+    {
+        let count = self.count - 1;
+        self.count = count;
+        self.places[count]
+    }
+
     /// Pushes the words of a slice, in order. Requires: there is room for them.
     #[inline]
     pub(crate) fn push_slice(&mut self, items: &[T])
@@ -52,6 +89,10 @@ impl<T: Word> WordStack<T> {
         ensures room { room_of self.new ≡ room_of self.old }
         ensures pushed { stacked self.new ≡ stacked self.old ++ items.now }
     {
+        if items.len() == 1 {
+            self.push(items[0]);
+            return;
+        }
         let end = self.count + items.len();
         self.places.as_mut_slice()[self.count..end].copy_from_slice(items);
         self.count = end;
@@ -65,13 +106,16 @@ impl<T: Word> WordStack<T> {
         ensures left { stacked self.new ≡ take (length (stacked self.old) - length into.old) (stacked self.old) }
         ensures popped { into.new ≡ reverse (drop (length (stacked self.old) - length into.old) (stacked self.old)) }
     {
+        if into.len() == 1 {
+            into[0] = self.pop();
+            return;
+        }
         let rest = self.count - into.len();
-        into.copy_from_slice(&self.places.as_slice()[rest..self.count]);
-        into.reverse();
+        copy_reversed(&self.places.as_slice()[rest..self.count], into);
         self.count = rest;
     }
 
-    /// Moves the first words into a slice, as many as it has places: the first `k` of them turned, the others behind
+    /// Moves the first words into a slice, as many as it has places: the first `k` of them reversed, the others after
     /// them in order. Requires: there are as many.
     pub(crate) fn serve(&mut self, k: usize, into: &mut [T])
         requires fits { k ≤ length into.old }
@@ -87,7 +131,7 @@ impl<T: Word> WordStack<T> {
         self.drop_first(n);
     }
 
-    /// Leaves the first `k` words out, and moves the others to the front. Requires: there are as many.
+    /// Removes the first `k` words, and moves the others to the front. Requires: there are as many.
     pub(crate) fn drop_first(&mut self, k: usize)
         requires enough { k ≤ length (stacked self.old) }
         ensures room { room_of self.new ≡ room_of self.old }
@@ -98,7 +142,7 @@ impl<T: Word> WordStack<T> {
         self.count = count - k;
     }
 
-    /// Leaves the words behind the first `k` out. Requires: there are as many.
+    /// Removes the words after the first `k`. Requires: there are as many.
     pub(crate) fn cut(&mut self, k: usize)
         requires enough { k ≤ length (stacked self.old) }
         ensures room { room_of self.new ≡ room_of self.old }

@@ -1,4 +1,4 @@
-use Rattle.std.proofs.Common.{◌+◌, ◌++◌, ◌≡◌, ◌∙◌, IfOk, List, ap, sym, subst, inl, inr, refl, Err, rules, arith}
+use Rattle.std.proofs.Common.{◌+◌, ◌++◌, ◌≡◌, ◌∙◌, IfOk, List, subst, inl, inr, refl, Err, rules}
 use Rattle.ringcore_laws.specs.FreeRings.{AreSingle}
 use Rattle.ringcore_laws.specs.declared.party.Party.{Party}
 use Rattle.fabric.specs.Hands.{view}

@@ -1,4 +1,4 @@
-use Rattle.std.proofs.Common.{◌≡◌, length, take, ap, sym, subst, ◌∙◌, rules, arith}
+use Rattle.std.proofs.Common.{◌≡◌, length, take, ap, sym, subst, rules, arith}
 use Rattle.std.proofs.lemmas.List.{length-take}
 use Rattle.fabric.specs.Hands.{view}
 use Rattle.fabric.specs.Settles.{AreOwnBuffers}
@@ -24,7 +24,7 @@ put_bulk-requires g c =
                 (first_own tags (view c.args.hand) all c.args.spare c.requires.own),
             (
               omega (arith, few, ap length is, c.requires.nonzero, c.requires.at_most),
-              omega (arith, few, ap length is, c.requires.few),
+              omega (arith, few, ap length is, c.requires.fits),
             ),
           ),
         ),
