@@ -7,6 +7,7 @@ mod openings;
 mod peeks;
 mod spans;
 mod whole_calls;
+mod word_caches;
 
 use crate::memory::{Wrong, taken};
 use arrayvec::ArrayVec;
@@ -61,32 +62,6 @@ const POOL: usize = 0;
 const FIRST: usize = 1;
 
 const SECOND: usize = 2;
-
-/// `count` rings, each for `capacity` items; the second is a free ring.
-fn plans(alloc: Global, capacity: u64, count: usize) -> Option<Vec<RingPlan>> {
-    let geometry = Geometry::exact(capacity).ok()?;
-    let mut rings = Vec::new(alloc);
-    for i in 0..count {
-        rings
-            .push(RingPlan {
-                geometry,
-                put: Mode::Multi,
-                take: Mode::Hts,
-                free: i == 1,
-            })
-            .ok()?;
-    }
-    Some(rings)
-}
-
-/// Tickets with these numbers.
-fn tickets(alloc: Global, numbers: &[u32]) -> Option<Vec<Ticket>> {
-    let mut made = Vec::new(alloc);
-    for number in numbers {
-        made.push(Ticket::new(alloc, *number).ok()?).ok()?;
-    }
-    Some(made)
-}
 
 /// The plans of a free ring and of two rings for any items, each with room for all buffers.
 fn planned(alloc: Global, modes: (Mode, Mode)) -> Result<Vec<RingPlan>, Fail>
