@@ -1,5 +1,7 @@
 pub mod Windows
+pub mod Lending
 pub mod Records
+pub mod Lent
 pub mod Chains
 pub mod Headers
 pub mod Begins

@@ -2,10 +2,12 @@ pub mod Answer
 pub mod Counted
 pub mod Begin
 pub mod ReadBuffer
+pub mod BufferLends
 pub mod WriteBuffer
 pub mod Record
 pub mod ReaderState
 pub mod Reader
+pub mod Lent
 pub mod Writer
 pub mod Copy
 pub mod Collect

@@ -1,5 +1,7 @@
 -- What a reader has read ahead of its caller.
-use Rattle.std.specs.Prelude.{◌≡◌, ℕ, ◌<◌, List, Option, Result, IfSome, length, slice_range}
+use Rattle.std.specs.Prelude.{◌≡◌, ℕ, ◌+◌, ◌<◌, min, List, Option, Result, IfSome, length, slice_range}
+use Rattle.std.specs.Vec.{with_items_from}
+use Rattle.std.proofs.Math.Nat.{min-le_right}
 use Rattle.std.specs.Io.KnownBytes.{prepend_known, Keeps, Consumes, ReadConsumes}
 use Rattle.pcapio.specs.declared.read_buffer.ReadBuffer.{ReadBuffer}
 use Rattle.pcapio.specs.declared.counted.Counted.{Counted}
@@ -8,6 +10,14 @@ use Rattle.pcapio.specs.Counted.{to_come}
 -- the bytes that were read and not yet consumed
 abbrev pub items : ReadBuffer → List ℕ
 items ahead = slice_range ahead.buffer.items ahead.start ahead.end
+
+-- the buffer without its first n bytes
+abbrev pub past : ReadBuffer → ℕ → ReadBuffer
+past ahead n = record ahead { start = min (ahead.start + n) ahead.end; ordered = min-le_right (ahead.start + n) ahead.end }
+
+-- the buffer with these bytes written over those from an index on
+abbrev pub with_part : ReadBuffer → ℕ → List ℕ → ReadBuffer
+with_part ahead from bytes = record ahead { buffer = with_items_from ahead.buffer from bytes }
 
 module _ {R : Type 0} (remaining : R → Option (List ℕ)) where
   -- the bytes that were not yet consumed, if those of the device are known

@@ -1,5 +1,5 @@
 -- How far a reader has got.
-use Rattle.std.specs.Prelude.{Option, Some, None, ⊤, Bool, true, false}
+use Rattle.std.specs.Prelude.{ℕ, Option, Some, None, ⊤, Bool, true, false}
 use Rattle.pcapio.specs.declared.record.Head.{Head}
 use Rattle.pcapio.specs.declared.reader_state.ReaderState.{ReaderState}
 use Rattle.pcapio.specs.declared.reader_state.ReaderState.TheVariants.{Between, Pending, Ended}
@@ -8,6 +8,11 @@ use Rattle.pcapio.specs.declared.reader_state.ReaderState.TheVariants.{Between, 
 abbrev pub head_of : ReaderState → Option Head
 head_of (Pending head) = Some head
 head_of _ = None
+
+-- its captured length; 0 if there is none
+abbrev pub captured_of : ReaderState → ℕ
+captured_of (Pending head) = head.captured
+captured_of _ = 0
 
 -- neither at the end nor at a fault
 abbrev pub GoesOn : ReaderState → Type 0

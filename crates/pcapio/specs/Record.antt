@@ -1,5 +1,6 @@
 -- A packet as it is in the header of its record, in its record, or in a chain.
-use Rattle.std.specs.Prelude.{◌≡◌, ℕ, ◌≤◌, max, List, length}
+use Rattle.std.specs.Prelude.{◌≡◌, ℕ, ◌≤◌, max, List, ◌++◌, length}
+use Rattle.byteorder.specs.Endian.{little_bytes}
 use Rattle.mbuf.specs.Buffer.{Buffer}
 use Rattle.mbuf.specs.Chain.{bytes_of}
 use Rattle.pcapio_laws.specs.Capture.{Packet, field, captured}
@@ -20,9 +21,19 @@ pub record IsHead (order : ByteOrder) (bytes : List ℕ) (head : Head) : Type 0 
 abbrev pub packet_of : Head → List ℕ → Packet
 packet_of head bytes = record { seconds = head.seconds; fraction = head.fraction; wire = head.wire; bytes = bytes }
 
+-- the 16 bytes of a record's header, with these fields
+abbrev pub header_with : ℕ → ℕ → ℕ → ℕ → List ℕ
+header_with seconds fraction wire captured =
+    little_bytes 4 seconds ++ (little_bytes 4 fraction ++ (little_bytes 4 captured ++ little_bytes 4 wire))
+
 -- a record as a packet
 abbrev pub view : Record → Packet
 view r = record { seconds = r.seconds; fraction = r.fraction; wire = r.wire; bytes = r.bytes.items }
+
+-- the packet of these fields and bytes
+abbrev pub packet_with : ℕ → ℕ → ℕ → List ℕ → Packet
+packet_with seconds fraction wire bytes =
+    record { seconds = seconds; fraction = fraction; wire = wire; bytes = bytes }
 
 -- the packet whose bytes are in a chain
 abbrev pub packet_in : ℕ → ℕ → ℕ → List Buffer → Packet

@@ -8,7 +8,7 @@ use Rattle.pcapio_laws.specs.declared.format.Resolution.{Resolution}
 use Rattle.pcapio.specs.Begin.{Begins}
 use Rattle.pcapio.specs.WriteBuffer.{unsent}
 use Rattle.pcapio.specs.Counted.{told, HasFailed}
-use Rattle.pcapio.specs.Record.{packet_in}
+use Rattle.pcapio.specs.Record.{packet_in, packet_with}
 use Rattle.pcapio.specs.declared.counted.Counted.{Counted}
 use Rattle.pcapio.specs.declared.writer.Writer.{Writer}
 
@@ -46,6 +46,16 @@ module _ {W : Type 0} (contents : W → Option (List ℕ)) where
   abbrev pub BeginsToPut : Writer W → Writer W → ℕ → ℕ → ℕ → List Buffer → Type 0
   BeginsToPut old new seconds fraction wire chain =
       Begins (told contents new.device) (append_known (text old) (record_text (packet_in seconds fraction wire chain)))
+
+  -- the record of a packet with these bytes was added
+  abbrev pub PutsFrame : Writer W → Writer W → ℕ → ℕ → ℕ → List ℕ → Type 0
+  PutsFrame old new seconds fraction wire frame =
+      Appends (text old) (text new) (record_text (packet_with seconds fraction wire frame))
+
+  -- a prefix of what there was, followed by that record, has been written to the device
+  abbrev pub BeginsToPutFrame : Writer W → Writer W → ℕ → ℕ → ℕ → List ℕ → Type 0
+  BeginsToPutFrame old new seconds fraction wire frame =
+      Begins (told contents new.device) (append_known (text old) (record_text (packet_with seconds fraction wire frame)))
 
   -- all of it has been written to the device
   abbrev pub IsTold : Writer W → Writer W → Type 0

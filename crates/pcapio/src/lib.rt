@@ -2,9 +2,10 @@
 //! resolutions, and a writer, over devices whose failures are counted.
 //!
 //! `pcapio_laws` defines what a capture is. A reader returns its records one after another: `head`, and then `body`,
-//! which reads the record's bytes into the segments of a chain, or `skip`; or `next`, which makes a vector. A writer's
-//! `put` takes the bytes from a chain. Each has a buffer of 64 KiB, made in `open`; of their other calls, only `next`
-//! takes memory. `copy_records` and `collect_records` show them in use.
+//! which reads the record's bytes into the segments of a chain, or `skip`; or `next`, which makes a vector. If the
+//! record is in the reader's buffer as a whole (`is_buffered`), `lend` lends its bytes there. A writer's `put` takes
+//! the bytes from a chain, and `put_frame` from a slice. Each has a buffer of 64 KiB, made in `open`; of their other
+//! calls, only `next` takes memory. `copy_records` and `collect_records` show them in use.
 #![tactic(auto)]
 
 mod collect;

@@ -6,6 +6,8 @@ ghost use Rattle.std.specs.Io.KnownBytes.{Keeps, IsAtEnd};
 ghost use Rattle.pcapio.specs.Answer.{OnAll, OnCut};
 ghost use Rattle.pcapio.specs.Counted.{to_come, GivesAt, HasFailed, HasNotFailed};
 
+mod lending;
+
 use crate::counted::{Counted, Failed};
 use std::alloc::{AllocError, Global};
 use std::io::Read;

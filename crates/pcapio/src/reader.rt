@@ -9,6 +9,7 @@ ghost use Rattle.pcapio.specs.Record.{IsHead};
 ghost use Rattle.pcapio.specs.ReaderState.{head_of};
 
 mod bodies;
+mod lent;
 
 use crate::counted::{Counted, Failed};
 use crate::header::{FILE_HEADER, header_in};

@@ -2,7 +2,7 @@
 ghost use Rattle.std.specs.Prelude.{◌≡◌};
 ghost use Rattle.byteorder.specs.Endian.{little_bytes};
 ghost use Rattle.pcapio_laws.specs.Text.{file_header, record_header};
-ghost use Rattle.pcapio.specs.Record.{packet_in};
+ghost use Rattle.pcapio.specs.Record.{packet_in, packet_with, header_with};
 
 use byteorder::{ByteOrder as Endian, LittleEndian};
 use mbuf::Chain;
@@ -25,14 +25,30 @@ pub(crate) fn header_bytes(resolution: Resolution) -> [u8; 24]
     bytes
 }
 
-/// The header of a packet's record.
+/// The header of the record of a packet in a chain.
 pub(crate) fn header_of(seconds: u32, fraction: u32, wire: u32, chain: &Chain) -> [u8; 16]
     ensures { result ≡ record_header (packet_in seconds fraction wire chain.now) }
+{
+    header_with(seconds, fraction, wire, chain.len())
+}
+
+/// The header of the record of a packet with these bytes.
+#[inline]
+pub(crate) fn header_of_frame(seconds: u32, fraction: u32, wire: u32, frame: &[u8]) -> [u8; 16]
+    ensures { result ≡ record_header (packet_with seconds fraction wire frame.now) }
+{
+    header_with(seconds, fraction, wire, frame.len())
+}
+
+/// The header of a record with so many captured bytes.
+#[inline]
+fn header_with(seconds: u32, fraction: u32, wire: u32, captured: usize) -> [u8; 16]
+    ensures { result ≡ header_with seconds fraction wire captured }
 {
     let mut bytes = [0; 16];
     LittleEndian::write_u32(&mut bytes, seconds);
     LittleEndian::write_u32(&mut bytes[4..], fraction);
-    LittleEndian::write_u32(&mut bytes[8..], low_bits(chain.len()));
+    LittleEndian::write_u32(&mut bytes[8..], low_bits(captured));
     LittleEndian::write_u32(&mut bytes[12..], wire);
     bytes
 }

@@ -4,6 +4,8 @@ ghost use Rattle.std.specs.Io.KnownBytes.{Keeps};
 ghost use Rattle.pcapio.specs.WriteBuffer.{AddsRecord, BeginsToAddRecord, SendsAll, BeginsToSend, KeepsUnsent};
 ghost use Rattle.pcapio.specs.Counted.{HasFailed, HasNotFailed};
 
+mod frames;
+
 use crate::counted::{Counted, Failed};
 use crate::text::{header_bytes, header_of};
 use crate::write_buffer::WriteBuffer;
