@@ -24,9 +24,11 @@ pub(crate) fn verdict_of_frame(frame: &[u8], table: &Table, ports: &Ports, wire:
     }
 }
 
-/// The verdict on the frame, which is rewritten if it is sent.
+/// The verdict on a frame that was `wire` bytes long and whose captured bytes are in one slice. The frame is rewritten
+/// in place as it leaves if it is sent: what `forward` does to one in a chain. A dropped frame is unchanged. Requires:
+/// `wire` is at least the number of bytes. Takes no memory.
 #[inline]
-pub(crate) fn forward_frame(frame: &mut [u8], table: &Table, ports: &Ports, wire: usize) -> Verdict
+pub fn forward_frame(frame: &mut [u8], table: &Table, ports: &Ports, wire: usize) -> Verdict
     requires { length frame.old ≤ wire }
     ensures verdict { result ≡ (forwarded table.now.members ports.now frame.old wire).verdict }
     ensures frame { frame.new ≡ (forwarded table.now.members ports.now frame.old wire).frame }

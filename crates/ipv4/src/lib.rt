@@ -3,8 +3,8 @@
 //! memory.
 //!
 //! What becomes of a frame is one function of its bytes and of its length on the wire, `forwarded` in
-//! `specs/Forwarding.antt`: a table of drops, and the frame as it leaves. Both `verdict` and `forward` return its
-//! result, so they always agree.
+//! `specs/Forwarding.antt`: a table of drops, and the frame as it leaves. `verdict`, `forward` and, for a frame in one
+//! slice, `forward_frame` return its result, so they always agree.
 //!
 //! A caller, proved in memory_tests (`told_and_done`): the two verdicts are the same.
 //!
@@ -27,6 +27,7 @@ mod verdicts;
 
 pub use chains::{forward, verdict};
 pub use checksum::sum16;
+pub use frame::forward_frame;
 pub use laws::{a_frame_is_sent_by_a_port, a_sent_frame_is_right, a_sent_frame_is_sent_again};
 pub use ports::{Hop, MAX_PORTS, Ports};
 pub use verdicts::{Reason, Verdict};
