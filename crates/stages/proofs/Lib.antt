@@ -22,3 +22,4 @@ pub mod Rounds
 pub mod Ended
 pub mod Alike
 mod Rows
+pub mod LentTurn

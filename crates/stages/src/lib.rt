@@ -1,9 +1,9 @@
 //! A run: a capture in, captures out.
 //!
-//! `one` is a run by one thread: it reads a record into a chain, judges the packet and hands it to the sink. `threads`
-//! is the same run by several threads, over three rings: `threads::reader` reads records into free segments and sends
-//! packets, each `threads::worker` judges packets, and `threads::sink_loop` takes them to the sink and frees their
-//! segments.
+//! `one` is a run by one thread: it judges a record in the reader's buffer, or reads it into a chain and judges that,
+//! and hands it to the sink. `threads` is the same run by several threads, over three rings: `threads::reader` reads
+//! records into free segments and sends packets, each `threads::worker` judges packets, and `threads::sink_loop` takes
+//! them to the sink and frees their segments.
 //!
 //! Both share `records` (what the input has next), `packet` (what goes from stage to stage, and its verdict), `sink`
 //! (packets in the order of the input, and their counts), `ports` (the writers, opened and closed) and `summary` (the

@@ -10,6 +10,7 @@ ghost use Rattle.stages.specs.Ports.{AreOutputs, AreBeginnings};
 ghost use Rattle.stages.specs.Tallies.{fates_of};
 ghost use Rattle.stages.specs.Whole.{IsRun, IsBegun, IsUntouched, WhyStoppedAt, WhyNoSummary};
 
+mod lent;
 mod record_chain;
 mod single;
 

@@ -7,6 +7,7 @@ ghost use Rattle.stages.specs.PortSteps.{AreLonger, AreCut, part_at};
 ghost use Rattle.stages.specs.Failing.{FailsOnce};
 
 pub(crate) mod close;
+mod frames;
 pub(crate) mod open;
 
 use ipv4::Verdict;

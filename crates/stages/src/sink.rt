@@ -11,6 +11,8 @@ ghost use Rattle.stages.specs.Keyed.{IsKeyed, LetsGo};
 ghost use Rattle.stages.specs.Ports.{HasTexts, HasBegun, AreFresh, devices_of};
 ghost use Rattle.stages.specs.Tallies.{IsTally, fates_of};
 
+mod frames;
+
 use crate::packet::Judged;
 use crate::ports::Outputs;
 use counters::Counts;

@@ -1,4 +1,5 @@
-//! The run by one thread: each record is read, judged, and passed through the sink, in the order of the input.
+//! The run by one thread: each record is read, judged, and passed through the sink, in the order of the input. A record
+//! that is in the reader's buffer as a whole stays there meanwhile; any other is read into a chain.
 ghost use Rattle.std.specs.Prelude.{◌≡◌, ◌≤◌, ◌<◌, ◌*◌, min, None, IfOk, IfErr, OnOk, length, vec_len};
 ghost use Rattle.ipv4.specs.Forwarding.{forwarded};
 ghost use Rattle.mbuf.specs.Chain.{space_of};
@@ -9,6 +10,7 @@ ghost use Rattle.stages_laws.specs.Input.{IsInput};
 ghost use Rattle.stages.specs.Turns.{IsVacant, WhyStopped};
 
 use crate::fault::RunFault;
+use crate::one::lent::forward_lent;
 use crate::one::record_chain::RecordChains;
 use crate::records::input_totals::InputTotals;
 use crate::records::next_record::NextRecord;
@@ -57,6 +59,13 @@ pub(crate) fn forward_all<J: Run, R: Read, W: Write + Drop>(
             Ok(NextRecord::Ended(torn)) => return Ok(progress.into_totals(torn)),
             Err(fault) => return Err(fault),
         };
+        if reader.is_buffered() {
+            forward_lent(reader, sink, &mut progress, head, table, ports);
+            if let Some(port) = sink.outputs.failed {
+                return Err(RunFault::Write(port));
+            }
+            continue;
+        }
         let (chain, other, is_long) = chains.choose(head.captured as usize);
         let packet = match read_record::<J, R>(reader, &mut progress, head, chain) {
             Ok(Some(packet)) => packet,

@@ -66,7 +66,7 @@ loop-turn-preserved g c =
           ∙ (same_long c.choose-chain.result.2 c.choose-chain.result.0 c.forward-back.result c.choose-chain.result.1 back ∙ ap space_of c.choose-chain.ensures.long) in
           omega (arith, long, i.space);
       writers = c.forward-back.ensures.length ∙ i.writers;
-      well = c.in_default.is;
+      well = c.in_default-failed.is;
     }
 
 pub returns-clause-cause : goal.returns-clause-cause
