@@ -140,6 +140,67 @@ fn copies_while_every_request_is_refused(rt: HostRuntime) -> Result<(), Fail> {
     Ok(())
 }
 
+/// Copies each record, in place if it is in the reader's buffer as a whole, and else through a chain. Returns how many
+/// were lent.
+fn copy_lent<R: Read, W: Write>(
+    rt: &impl Abort,
+    reader: &mut Reader<R>,
+    writer: &mut Writer<W>,
+    chain: &mut Chain,
+) -> Result<u32, CapFault> {
+    let mut lent = 0u32;
+    for _ in 0..RECORDS {
+        let Some(head) = reader.head()? else {
+            break;
+        };
+        if reader.is_buffered() {
+            let frame = reader.lend();
+            writer.put_frame(head.seconds, head.fraction, head.wire, frame)?;
+            lent = lent.wrapping_add(1);
+        } else {
+            assert!(rt; head.captured as usize <= chain.space());
+            let _all = reader.body(chain)?;
+            writer.put(head.seconds, head.fraction, head.wire, chain)?;
+        }
+    }
+    writer.flush()?;
+    Ok(lent)
+}
+
+/// The same with all memory taken once reader and writer are open.
+fn lend_starved(
+    rt: &impl Abort,
+    alloc: Global,
+    reader: &mut Reader<&[u8]>,
+    writer: &mut Writer<Vec<u8>>,
+    chain: &mut Chain,
+) -> Result<u32, Fail> {
+    let held = taken(alloc)?;
+    let lent = copy_lent(rt, reader, writer, chain);
+    let refused = refuses(alloc);
+    drop(held);
+    assert!(rt; refused, "lending gave memory back");
+    Ok(lent?)
+}
+
+#[test]
+fn lends_while_every_request_is_refused(rt: HostRuntime) -> Result<(), Fail> {
+    let file = capture(rt.alloc(), 45_000)?;
+    let mut chain = chain(rt.alloc(), 45_000)?;
+    let to = Counted::new(Vec::with_capacity(rt.alloc(), file.len())?);
+    let Ok(mut reader) = Reader::open(rt.alloc(), Counted::new(file.as_slice())) else {
+        return Err(Fail::new("no reader"));
+    };
+    let Ok(mut writer) = Writer::open(rt.alloc(), to, reader.resolution()) else {
+        return Err(Fail::new("no writer"));
+    };
+    let lent = lend_starved(&rt, rt.alloc(), &mut reader, &mut writer, &mut chain)?;
+    assert!(rt; lent > 500);
+    let to = writer.into_inner().into_inner();
+    assert!(rt; to.as_slice() == file.as_slice());
+    Ok(())
+}
+
 /// Reads a capture to its end by `head` and `body`: its heads and their bytes are those of the rows. A row without
 /// bytes is for a record that is cut off. Returns whether the end is torn.
 fn stream_rows<R: Read>(
