@@ -3,6 +3,7 @@ ghost use Rattle.std.specs.Prelude.{◌≡◌, ◌<◌, [], Some, length};
 ghost use Rattle.ringcore_laws.specs.FreeRings.{AreSingle};
 ghost use Rattle.fabric.specs.Hands.{OnRing, rings_of};
 ghost use Rattle.fabric.specs.CacheHands.{IsCacheHandOf, Keeps};
+ghost use Rattle.ringapi.specs.Views.{by_burst};
 ghost use Rattle.pool.specs.Beside.{Receives, Sends};
 ghost use Rattle.pool.specs.Locals.{IsLocalOf, SameCache, SameRing, cache_of, hand_of};
 
@@ -28,7 +29,7 @@ fn send<T: Tagged, const N: usize, S: Stored<T>, R: Wait>(
     requires single { AreSingle T.numbers cache.now }
     ensures cache_hand { IsCacheHandOf f.now result.0 × Keeps T.numbers result.0 cache.now }
     ensures exact { OnRing f.now ring
-        (λ plan. Sends T.numbers N ring plan (Some cache_hand) (Some result.0) cache.now list.old result.1 list.new) }
+        (λ plan. Sends T.numbers by_burst N ring plan (Some cache_hand) (Some result.0) cache.now list.old result.1 list.new) }
 {
     let mut cache_hand = cache_hand;
     if !cache_hand.may_put(f, ring, list) {
@@ -58,7 +59,7 @@ fn receive<T: Tagged, const N: usize, S: Stored<T>, R: Wait>(
     requires single { AreSingle T.numbers cache.now }
     requires empty { into.old ≡ [] }
     ensures cache_hand { IsCacheHandOf f.now result.0 × Keeps T.numbers result.0 cache.now }
-    ensures exact { OnRing f.now ring (λ plan. Receives T.numbers N ring plan (Some cache_hand) (Some result.0) n
+    ensures exact { OnRing f.now ring (λ plan. Receives T.numbers by_burst N ring plan (Some cache_hand) (Some result.0) n
         result.1 into.new) }
 {
     let hand = cache_hand.into_hand(cache);
@@ -87,7 +88,7 @@ impl<T: Tagged, const N: usize, S: Stored<T>> Local<T, N, S> {
         requires ring { ring < length (rings_of f.now) }
         ensures local { IsLocalOf f.now self.new }
         ensures same { SameRing self.old self.new × SameCache self.old self.new }
-        ensures exact { OnRing f.now ring (λ plan. Sends T.numbers N ring plan (hand_of self.old) (hand_of self.new)
+        ensures exact { OnRing f.now ring (λ plan. Sends T.numbers by_burst N ring plan (hand_of self.old) (hand_of self.new)
             (cache_of self.old) list.old result list.new) }
     {
         let cache_hand = take_hand(&mut self.hand);
@@ -114,7 +115,7 @@ impl<T: Tagged, const N: usize, S: Stored<T>> Local<T, N, S> {
         requires empty { into.old ≡ [] }
         ensures local { IsLocalOf f.now self.new }
         ensures same { SameRing self.old self.new × SameCache self.old self.new }
-        ensures exact { OnRing f.now ring (λ plan. Receives T.numbers N ring plan (hand_of self.old)
+        ensures exact { OnRing f.now ring (λ plan. Receives T.numbers by_burst N ring plan (hand_of self.old)
             (hand_of self.new) n result into.new) }
     {
         let cache_hand = take_hand(&mut self.hand);

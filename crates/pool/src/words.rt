@@ -15,6 +15,7 @@ mod ring_requests;
 mod set_aside;
 mod stack;
 mod stack_moves;
+mod tries;
 
 use crate::words::stack::WordStack;
 use burst::Tagged;

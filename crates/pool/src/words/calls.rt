@@ -1,5 +1,5 @@
-//! Gets into slices, puts from slices, and flushes, through the cache to the ring. What the cache can do is inlined, and
-//! what goes to the ring is not.
+//! Gets into slices, puts from slices, and flushes, through the cache to the ring. What the cache can do is inlined,
+//! and what goes to the ring is not.
 ghost use Rattle.std.specs.Prelude.{◌≡◌, ◌<◌, ◌≤◌, ◌++◌, length, IfOk, IfErr};
 ghost use Rattle.fabric.specs.Hands.{OnRing};
 ghost use Rattle.fabric.specs.Settles.{AreOwnBuffers};
@@ -43,6 +43,28 @@ impl<T: Word, const N: usize, S: Stored<T>> LocalWords<T, N, S> {
         if into.len() <= self.cache.len() {
             return self.get_cached_into_slice(into);
         }
+        self.get_from_ring(rt, f, into)
+    }
+
+    /// Gets as many words as a slice has places if the cache has too few. Apart from `get_into_slice`, which needs none
+    /// of what this call clears for its own use.
+    #[inline(never)]
+    fn get_from_ring<R: Wait>(
+        &mut self,
+        rt: &R,
+        f: &Fabric<T, N, S>,
+        into: &mut [T],
+    ) -> Result<(), PoolFault>
+        requires local { IsLocalOf f.now self.old }
+        requires short { length (cache_of self.old) < length into.old }
+        requires at_most { length into.old ≤ 64 }
+        ensures local { IsLocalOf f.now self.new }
+        ensures same { SameRing self.old self.new }
+        ensures exact { OnRing f.now (ring_of self.old)
+            (λ plan. GetTells T.numbers plan self.old self.new result into.old into.new) }
+        ensures back { IfErr result (λ _. into.new ≡ into.old) }
+        ensures own { IfOk result (λ _. AreOwnBuffers T.numbers (view_of self.new) (into.new ++ cache_of self.new)) }
+    {
         let cache_hand = take_hand(&mut self.hand);
         let hand = whole_hand(cache_hand, &self.cache);
         match fetch(rt, f, hand, self.ring, self.size, &mut self.cache, into) {
@@ -64,6 +86,35 @@ impl<T: Word, const N: usize, S: Stored<T>> LocalWords<T, N, S> {
     /// Errors: `NotYours`, tested first; `Worn`. Nothing moves then. No memory; it waits while the ring is busy.
     #[inline]
     pub fn put_from_slice<R: Wait>(
+        &mut self,
+        rt: &R,
+        f: &Fabric<T, N, S>,
+        items: &[T],
+    ) -> Result<(), PoolFault>
+        requires local { IsLocalOf f.now self.old }
+        requires at_most { length items.now ≤ 64 }
+        ensures local { IsLocalOf f.now self.new }
+        ensures same { SameRing self.old self.new }
+        ensures exact { OnRing f.now (ring_of self.old)
+            (λ plan. PutBackTells T.numbers plan self.old self.new result items.now) }
+    {
+        if self.cache.len() + items.len() > 3 * self.size / 2 {
+            return self.put_on_ring(rt, f, items);
+        }
+        let may = match &mut self.hand {
+            Some(cache_hand) => admit(cache_hand, &mut self.cache, items),
+            None => unreachable!(),
+        };
+        if may {
+            Ok(())
+        } else {
+            Err(PoolFault::NotYours)
+        }
+    }
+
+    /// `put_from_slice` with the work on the ring, and so with what that clears for its own use.
+    #[inline(never)]
+    fn put_on_ring<R: Wait>(
         &mut self,
         rt: &R,
         f: &Fabric<T, N, S>,

@@ -4,7 +4,8 @@ ghost use Rattle.std.specs.Prelude.{◌≡◌, ◌<◌, ◌++◌, List, Some, dr
 ghost use Rattle.ringcore_laws.specs.FreeRings.{AreSingle};
 ghost use Rattle.fabric.specs.Hands.{OnRing, rings_of};
 ghost use Rattle.fabric.specs.CacheHands.{IsCacheHandOf, Keeps};
-ghost use Rattle.pool.specs.Beside.{Receives, Sends, unsent_of};
+ghost use Rattle.ringapi.specs.Views.{by_burst};
+ghost use Rattle.pool.specs.Beside.{IsPutBeside, IsTakenBeside, PutOwns, Receives, Sends, TakeOwns, unsent_of};
 ghost use Rattle.pool.specs.Stacks.{stacked};
 ghost use Rattle.pool.specs.Words.{IsLocalOf, SameCache, SameRing, cache_of, hand_of};
 
@@ -16,6 +17,38 @@ use burst::Word;
 use fabric::{CacheHand, Fabric, StartFault, Stored};
 use ringapi::{Moved, PutAnswer, Refusal, TakeAnswer, put_own_burst_slice, take_burst_slice};
 use std::sync::Wait;
+
+/// The answer of a put, beside the cache whose buffers the hand sets aside again.
+pub(crate) fn put_answered<T: Word, const N: usize, S: Stored<T>>(
+    answer: PutAnswer<'_, T, N, S>,
+    cache: &WordStack<T>,
+) -> (CacheHand<T, S>, Result<Moved, Refusal>)
+    requires own { PutOwns T.numbers (stacked cache.now) answer }
+    ensures kept { Keeps T.numbers result.0 (stacked cache.now) }
+    ensures same { IsPutBeside answer.entry result.0 result.1 }
+{
+    match answer {
+        PutAnswer::Done(hand, moved) => (keep_back(hand, cache), Ok(moved)),
+        PutAnswer::Refused(hand, refusal) => (keep_back(hand, cache), Err(refusal)),
+        PutAnswer::Open(_, _) => unreachable!(),
+    }
+}
+
+/// The answer of a take, in the same way.
+pub(crate) fn take_answered<T: Word, const N: usize, S: Stored<T>>(
+    answer: TakeAnswer<'_, T, N, S>,
+    cache: &WordStack<T>,
+) -> (CacheHand<T, S>, Result<Moved, StartFault>)
+    requires own { TakeOwns T.numbers (stacked cache.now) answer }
+    ensures kept { Keeps T.numbers result.0 (stacked cache.now) }
+    ensures same { IsTakenBeside answer.entry result.0 result.1 }
+{
+    match answer {
+        TakeAnswer::Done(hand, moved) => (keep_back(hand, cache), Ok(moved)),
+        TakeAnswer::Refused(hand, fault) => (keep_back(hand, cache), Err(fault)),
+        TakeAnswer::Open(_, _) => unreachable!(),
+    }
+}
 
 /// Puts as many words of a slice as there is room for, from its front.
 fn send<T: Word, const N: usize, S: Stored<T>, R: Wait>(
@@ -31,7 +64,7 @@ fn send<T: Word, const N: usize, S: Stored<T>, R: Wait>(
     requires kept { Keeps T.numbers cache_hand (stacked cache.now) }
     requires single { AreSingle T.numbers (stacked cache.now) }
     ensures cache_hand { IsCacheHandOf f.now result.0 × Keeps T.numbers result.0 (stacked cache.now) }
-    ensures exact { OnRing f.now ring (λ plan. Sends T.numbers N ring plan (Some cache_hand) (Some result.0)
+    ensures exact { OnRing f.now ring (λ plan. Sends T.numbers by_burst N ring plan (Some cache_hand) (Some result.0)
         (stacked cache.now) items.now result.1 (unsent_of result.1 items.now)) }
 {
     let mut cache_hand = cache_hand;
@@ -39,11 +72,7 @@ fn send<T: Word, const N: usize, S: Stored<T>, R: Wait>(
         return (cache_hand, Err(Refusal::NotYours));
     }
     let hand = whole_hand(cache_hand, cache);
-    match put_own_burst_slice(rt, f, hand, ring, items) {
-        PutAnswer::Done(hand, moved) => (keep_back(hand, cache), Ok(moved)),
-        PutAnswer::Refused(hand, refusal) => (keep_back(hand, cache), Err(refusal)),
-        PutAnswer::Open(_, _) => unreachable!(),
-    }
+    put_answered(put_own_burst_slice(rt, f, hand, ring, items), cache)
 }
 
 /// Takes at most as many words as a slice has places, as many as are queued.
@@ -61,15 +90,11 @@ fn receive<T: Word, const N: usize, S: Stored<T>, R: Wait>(
     requires single { AreSingle T.numbers (stacked cache.now) }
     ensures cache_hand { IsCacheHandOf f.now result.0 × Keeps T.numbers result.0 (stacked cache.now) }
     ensures exact { (shown : List T) × (into.new ≡ shown ++ drop (length shown) into.old)
-        × OnRing f.now ring (λ plan. Receives T.numbers N ring plan (Some cache_hand) (Some result.0)
+        × OnRing f.now ring (λ plan. Receives T.numbers by_burst N ring plan (Some cache_hand) (Some result.0)
         (length into.old) result.1 shown) }
 {
     let hand = whole_hand(cache_hand, cache);
-    match take_burst_slice(rt, f, hand, ring, into) {
-        TakeAnswer::Done(hand, moved) => (keep_back(hand, cache), Ok(moved)),
-        TakeAnswer::Refused(hand, fault) => (keep_back(hand, cache), Err(fault)),
-        TakeAnswer::Open(_, _) => unreachable!(),
-    }
+    take_answered(take_burst_slice(rt, f, hand, ring, into), cache)
 }
 
 impl<T: Word, const N: usize, S: Stored<T>> LocalWords<T, N, S> {
@@ -90,7 +115,7 @@ impl<T: Word, const N: usize, S: Stored<T>> LocalWords<T, N, S> {
         requires ring { ring < length (rings_of f.now) }
         ensures local { IsLocalOf f.now self.new }
         ensures same { SameRing self.old self.new × SameCache self.old self.new }
-        ensures exact { OnRing f.now ring (λ plan. Sends T.numbers N ring plan (hand_of self.old) (hand_of self.new)
+        ensures exact { OnRing f.now ring (λ plan. Sends T.numbers by_burst N ring plan (hand_of self.old) (hand_of self.new)
             (cache_of self.old) items.now result (unsent_of result items.now)) }
     {
         let cache_hand = take_hand(&mut self.hand);
@@ -117,7 +142,7 @@ impl<T: Word, const N: usize, S: Stored<T>> LocalWords<T, N, S> {
         ensures local { IsLocalOf f.now self.new }
         ensures same { SameRing self.old self.new × SameCache self.old self.new }
         ensures exact { (shown : List T) × (into.new ≡ shown ++ drop (length shown) into.old)
-            × OnRing f.now ring (λ plan. Receives T.numbers N ring plan (hand_of self.old) (hand_of self.new)
+            × OnRing f.now ring (λ plan. Receives T.numbers by_burst N ring plan (hand_of self.old) (hand_of self.new)
             (length into.old) result shown) }
     {
         let cache_hand = take_hand(&mut self.hand);

@@ -14,7 +14,7 @@ keep_back-requires g c =
     let h = c.into_hand-hand.result in
     let is : view h ≡ view_of_cache_hand c.args.cache_hand = ap (λ s. s.me.0) (sym c.into_hand-hand.ensures) in (
       search rules,
-      received_own g.T.Tagged.numbers g.row.N c.args.ring known.0 (view h) c.in-Done.hand c.args.cache_hand c.args.n (view h).pool c.args.cache.now
+      received_own g.T.Tagged.numbers by_burst g.row.N c.args.ring known.0 (view h) c.in-Done.hand c.args.cache_hand c.args.n (view h).pool c.args.cache.now
           c.take_burst_into.new.into c.in-Done.moved is c.requires.kept c.requires.single h.share.well (c.in-Done.ensures.exact known.0 known.1),
     )
 
@@ -25,7 +25,7 @@ keep_back-requires-in-Refused g c =
     let is : view h ≡ view_of_cache_hand c.args.cache_hand = ap (λ s. s.me.0) (sym c.into_hand-hand.ensures) in (
       search rules,
       kept_own g.T.Tagged.numbers c.args.cache_hand c.in-Refused.hand c.args.cache.now
-          (unreceived_party g.T.Tagged.numbers g.row.N c.args.ring known.0 (view h) c.in-Refused.hand c.args.n
+          (unreceived_party g.T.Tagged.numbers by_burst g.row.N c.args.ring known.0 (view h) c.in-Refused.hand c.args.n
           c.take_burst_into.new.into c.in-Refused.fault (c.in-Refused.ensures.exact known.0 known.1) ∙ ap (λ v. v.party) is)
           c.requires.kept c.requires.single,
     )

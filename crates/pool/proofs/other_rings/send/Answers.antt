@@ -44,7 +44,7 @@ keep_back-requires g c =
     let is : view c.into_hand-hand.result ≡ view_of_cache_hand c.args.cache_hand =
     ap (λ s. s.me.0) (sym c.into_hand-hand.ensures) ∙ ap (λ s. s.me.0) c.may_put.ensures.same.0 in (
       search rules,
-      sent_own g.T.Tagged.numbers g.row.N c.args.ring known.0 (view c.into_hand-hand.result) c.in-Done.hand c.args.cache_hand c.args.cache.now c.args.list.now
+      sent_own g.T.Tagged.numbers by_burst g.row.N c.args.ring known.0 (view c.into_hand-hand.result) c.in-Done.hand c.args.cache_hand c.args.cache.now c.args.list.now
           c.put_own_burst_from.new.list c.in-Done.moved is c.requires.kept c.requires.single
           (c.may_put.ensures.yours known.0 known.1 c.if-not-may_put.false) (c.in-Done.ensures.exact known.0 known.1),
     )
@@ -56,7 +56,7 @@ keep_back-requires-in-Refused g c =
     ap (λ s. s.me.0) (sym c.into_hand-hand.ensures) ∙ ap (λ s. s.me.0) c.may_put.ensures.same.0 in (
       search rules,
       kept_own g.T.Tagged.numbers c.args.cache_hand c.in-Refused.hand c.args.cache.now
-          (unsent_party g.T.Tagged.numbers g.row.N c.args.ring known.0 (view c.into_hand-hand.result) c.in-Refused.hand c.args.list.now
+          (unsent_party g.T.Tagged.numbers by_burst g.row.N c.args.ring known.0 (view c.into_hand-hand.result) c.in-Refused.hand c.args.list.now
           c.put_own_burst_from.new.list c.in-Refused.refusal (c.in-Refused.ensures.exact known.0 known.1) ∙ ap (λ v. v.party) is)
           c.requires.kept c.requires.single,
     )
@@ -76,7 +76,7 @@ pub returns-in-Refused-clause-exact : goal.returns-in-Refused-clause-exact
 returns-in-Refused-clause-exact g c plan there =
     let is : view c.into_hand-hand.result ≡ view_of_cache_hand c.args.cache_hand =
     ap (λ s. s.me.0) (sym c.into_hand-hand.ensures) ∙ ap (λ s. s.me.0) c.may_put.ensures.same.0 in
-    unsent g.T.Tagged.numbers g.row.N c.args.ring plan c.args.cache_hand c.keep_back-in-Refused.result c.in-Refused.hand c.args.cache.now c.args.list.now
+    unsent g.T.Tagged.numbers by_burst g.row.N c.args.ring plan c.args.cache_hand c.keep_back-in-Refused.result c.in-Refused.hand c.args.cache.now c.args.list.now
     c.put_own_burst_from.new.list c.in-Refused.refusal c.requires.kept (c.may_put.ensures.yours plan there c.if-not-may_put.false)
     (subst (λ v. PutHasTold {N = g.row.N} g.T.Tagged.numbers by_burst c.args.ring plan v c.args.list.now (Refused c.in-Refused.hand c.in-Refused.refusal)
     c.put_own_burst_from.new.list) is (c.in-Refused.ensures.exact plan there))

@@ -1,4 +1,5 @@
 use Rattle.std.proofs.Common.{◌≡◌, Some, length, refl, rules, subst, sym}
+use Rattle.ringapi.specs.Views.{by_burst}
 use Rattle.pool.specs.Beside.{Receives}
 use Rattle.pool.specs.Stacks.{stacked}
 use Rattle.pool.proofs.Wholes.{free_at, free_of, keeps_of, mine_of}
@@ -42,7 +43,7 @@ returns-clause-exact g c =
       told.0,
       told.1,
       λ plan there.
-          subst (λ o. Receives g.T.Tagged.numbers g.row.N c.args.ring plan o (Some c.receive-cache_hand.result.0) (length c.args.into.now)
+          subst (λ o. Receives g.T.Tagged.numbers by_burst g.row.N c.args.ring plan o (Some c.receive-cache_hand.result.0) (length c.args.into.now)
           c.receive-cache_hand.result.1 told.0) (sym was)
           (told.2 plan there),
     )

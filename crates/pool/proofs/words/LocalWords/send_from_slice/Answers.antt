@@ -1,4 +1,5 @@
 use Rattle.std.proofs.Common.{◌≡◌, Some, refl, rules, subst, sym}
+use Rattle.ringapi.specs.Views.{by_burst}
 use Rattle.pool.specs.Beside.{Sends, unsent_of}
 use Rattle.pool.specs.Stacks.{stacked}
 use Rattle.pool.proofs.Wholes.{free_at, free_of, keeps_of, mine_of}
@@ -38,6 +39,6 @@ returns-clause-exact g c plan there =
     let l = c.args.self.now in
     let k = c.take_hand-cache_hand.result in
     let was : l.hand ≡ Some k = search rules in
-    subst (λ o. Sends g.T.Tagged.numbers g.row.N c.args.ring plan o (Some c.send-cache_hand.result.0) (stacked l.cache) c.args.items.now c.send-cache_hand.result.1
+    subst (λ o. Sends g.T.Tagged.numbers by_burst g.row.N c.args.ring plan o (Some c.send-cache_hand.result.0) (stacked l.cache) c.args.items.now c.send-cache_hand.result.1
     (unsent_of c.send-cache_hand.result.1 c.args.items.now)) (sym was)
     (c.send-cache_hand.ensures.exact plan there)

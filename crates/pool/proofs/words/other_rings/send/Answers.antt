@@ -1,12 +1,11 @@
-use Rattle.std.proofs.Common.{◌≡◌, ap, drop, refl, rules, subst, sym, ◌∙◌}
+use Rattle.std.proofs.Common.{◌≡◌, Some, ap, refl, rules, subst, sym, ◌∙◌}
 use Rattle.fabric.specs.Hands.{rings_of, view}
 use Rattle.fabric.specs.CacheHands.{view_of_cache_hand}
 use Rattle.fabric.proofs.Told.{ring_at}
-use Rattle.ringapi.specs.declared.answers.PutAnswer.TheVariants.{Done, Refused}
-use Rattle.ringapi.specs.Puts.{PutHasTold}
 use Rattle.ringapi.specs.Views.{by_burst}
+use Rattle.pool.specs.Beside.{Sends}
 use Rattle.pool.specs.Stacks.{stacked}
-use Rattle.pool.proofs.Others.{kept_own, not_spare, sent_own, spare_yours, unsent, unsent_party}
+use Rattle.pool.proofs.Others.{finished_put, left_unsent, not_spare, put_here, put_owns, sends_beside, spare_yours}
 use Rattle.pool.proofs.words.other_rings.send.Goals as goal
 
 pub returns-then-not-may_put_slice-clause-exact : goal.returns-then-not-may_put_slice-clause-exact
@@ -36,46 +35,35 @@ put_own_burst_slice-requires g c =
       ),
     )
 
-pub keep_back-requires : goal.keep_back-requires
-keep_back-requires g c =
+pub put_answered-requires : goal.put_answered-requires
+put_answered-requires g c =
+    let tags = g.T.Tagged.numbers in
     let known = ring_at (rings_of c.args.f.now) c.args.ring c.requires.ring in
-    let is : view c.whole_hand-hand.result ≡ view_of_cache_hand c.args.cache_hand =
-    ap (λ s. s.me.0) (sym c.whole_hand-hand.ensures) ∙ ap (λ s. s.me.0) c.may_put_slice.ensures.same.0 in
-    record {
-      own = sent_own g.T.Tagged.numbers g.row.N c.args.ring known.0 (view c.whole_hand-hand.result) c.in-Done.hand c.args.cache_hand (stacked c.args.cache.now) c.args.items.now
-          _ c.in-Done.moved is c.requires.kept c.requires.single
-          (c.may_put_slice.ensures.yours known.0 known.1 c.if-not-may_put_slice.false) (c.in-Done.ensures.exact known.0 known.1);
-    }
-
-pub keep_back-requires-in-Refused : goal.keep_back-requires-in-Refused
-keep_back-requires-in-Refused g c =
-    let known = ring_at (rings_of c.args.f.now) c.args.ring c.requires.ring in
-    let is : view c.whole_hand-hand.result ≡ view_of_cache_hand c.args.cache_hand =
-    ap (λ s. s.me.0) (sym c.whole_hand-hand.ensures) ∙ ap (λ s. s.me.0) c.may_put_slice.ensures.same.0 in
-    record {
-      own = kept_own g.T.Tagged.numbers c.args.cache_hand c.in-Refused.hand (stacked c.args.cache.now)
-          (unsent_party g.T.Tagged.numbers g.row.N c.args.ring known.0 (view c.whole_hand-hand.result) c.in-Refused.hand c.args.items.now
-          _ c.in-Refused.refusal (c.in-Refused.ensures.exact known.0 known.1) ∙ ap (λ v. v.party) is)
-          c.requires.kept c.requires.single;
-    }
-
-pub returns-in-Done-clause-exact : goal.returns-in-Done-clause-exact
-returns-in-Done-clause-exact g c plan there =
-    let is : view c.whole_hand-hand.result ≡ view_of_cache_hand c.args.cache_hand =
+    let h = c.whole_hand-hand.result in
+    let is : view h ≡ view_of_cache_hand c.args.cache_hand =
     ap (λ s. s.me.0) (sym c.whole_hand-hand.ensures) ∙ ap (λ s. s.me.0) c.may_put_slice.ensures.same.0 in (
-      c.in-Done.hand,
-      subst (λ v. PutHasTold {N = g.row.N} g.T.Tagged.numbers by_burst c.args.ring plan v c.args.items.now (Done c.in-Done.hand c.in-Done.moved)
-          (drop c.in-Done.moved.count c.args.items.now))
-          is (c.in-Done.ensures.exact plan there),
-      ap (λ s. s.me.0) c.keep_back.ensures.seat,
+      search rules,
+      put_owns tags by_burst g.row.N c.args.ring known.0 (view h) c.args.cache_hand (stacked c.args.cache.now) c.args.items.now _ c.put_own_burst_slice.result
+          is c.requires.kept c.requires.single (c.may_put_slice.ensures.yours known.0 known.1 c.if-not-may_put_slice.false)
+          (finished_put tags c.put_own_burst_slice.result c.put_own_burst_slice.ensures.finished)
+          (c.put_own_burst_slice.ensures.exact known.0 known.1),
     )
 
-pub returns-in-Refused-clause-exact : goal.returns-in-Refused-clause-exact
-returns-in-Refused-clause-exact g c plan there =
-    let is : view c.whole_hand-hand.result ≡ view_of_cache_hand c.args.cache_hand =
+pub returns-clause-cache_hand : goal.returns-clause-cache_hand
+returns-clause-cache_hand g c = (
+  put_here c.args.f.now c.args.ring c.put_own_burst_slice.result c.put_answered.result.0 c.put_answered.result.1 c.put_own_burst_slice.ensures.made c.put_answered.ensures.same,
+  c.put_answered.ensures.kept,
+)
+
+pub returns-clause-exact : goal.returns-clause-exact
+returns-clause-exact g c plan there =
+    let tags = g.T.Tagged.numbers in
+    let h = c.whole_hand-hand.result in
+    let result = c.put_answered.result.1 in
+    let is : view h ≡ view_of_cache_hand c.args.cache_hand =
     ap (λ s. s.me.0) (sym c.whole_hand-hand.ensures) ∙ ap (λ s. s.me.0) c.may_put_slice.ensures.same.0 in
-    unsent g.T.Tagged.numbers g.row.N c.args.ring plan c.args.cache_hand c.keep_back-in-Refused.result c.in-Refused.hand (stacked c.args.cache.now) c.args.items.now
-    c.args.items.now c.in-Refused.refusal c.requires.kept (c.may_put_slice.ensures.yours plan there c.if-not-may_put_slice.false)
-    (subst (λ v. PutHasTold {N = g.row.N} g.T.Tagged.numbers by_burst c.args.ring plan v c.args.items.now (Refused c.in-Refused.hand c.in-Refused.refusal)
-    c.args.items.now) is (c.in-Refused.ensures.exact plan there))
-    (ap (λ s. s.me.0) c.keep_back-in-Refused.ensures.seat)
+    subst (Sends tags by_burst g.row.N c.args.ring plan (Some c.args.cache_hand) (Some c.put_answered.result.0) (stacked c.args.cache.now) c.args.items.now result)
+    (left_unsent c.put_own_burst_slice.result c.put_answered.result.0 result c.args.items.now c.put_answered.ensures.same)
+    (sends_beside tags by_burst g.row.N c.args.ring plan (view h) c.args.cache_hand c.put_answered.result.0 (stacked c.args.cache.now) c.args.items.now _
+    c.put_own_burst_slice.result result is c.requires.kept (c.may_put_slice.ensures.yours plan there c.if-not-may_put_slice.false)
+    (c.put_own_burst_slice.ensures.exact plan there) c.put_answered.ensures.same)

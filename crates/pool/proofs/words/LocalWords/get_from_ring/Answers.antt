@@ -5,7 +5,7 @@ use Rattle.pool.proofs.Kept.{later_own, same_own}
 use Rattle.pool.proofs.Wholes.{free_at, free_of, hand_from, hand_own, cache_hand_from, mine_of, view_at}
 use Rattle.pool.specs.Asks.{Fetches}
 use Rattle.pool.specs.Stacks.{stacked}
-use Rattle.pool.proofs.words.LocalWords.get_into_slice.Goals as goal
+use Rattle.pool.proofs.words.LocalWords.get_from_ring.Goals as goal
 
 pub fetch-requires : goal.fetch-requires
 fetch-requires g c =
