@@ -3,7 +3,7 @@
  *
  *   run.yardstick settings OUT ROUTES        settings for pktkit: two ports, and the first routes of lists.h
  *   run.yardstick make OUT RECORDS ROUTES    a capture of frames to these routes, the same each time
- *   run.yardstick forward ROUTES IN PREFIX   forwards it, with a buffer of 1 MiB to read and one of 256 KiB a port to write
+ *   run.yardstick forward ROUTES IN PREFIX   forwards it, with a buffer of 64 KiB to read and one a port to write
  *   run.yardstick peak PROGRAM ..            runs a program, and prints the most memory that it had, in KiB
  */
 #include "lists.h"
@@ -12,8 +12,9 @@
 #include <stdlib.h>
 
 #define ROOM 2048
-#define READ_ROOM (1 << 20)
-#define WRITE_ROOM (1 << 18)
+/* The sizes with which it was fastest: 1 MiB to read and 256 KiB to write took 1.07 times as long. */
+#define READ_ROOM (1 << 16)
+#define WRITE_ROOM (1 << 16)
 
 /* The routes: an entry for each first 24 bits of an address, and groups of 256 below; 0 is no route, else the route's index and 1. */
 
@@ -68,7 +69,7 @@ static void settings(const char *path, unsigned count)
 	FILE *out = fopen(path, "w");
 	struct route *routes = make_routes(count);
 	if (!out) fail(path);
-	fprintf(out, "buffers = 8192\nroom = %u\n", ROOM);
+	fprintf(out, "buffers = 512\nroom = %u\ncache = 64\nburst = 64\nring = 128\n", ROOM);
 	for (unsigned port = 0; port < PORTS; port++)
 		fprintf(out, "[[port]]\nmac = \"02:00:00:00:00:%02x\"\n", 0x10 + port);
 	for (unsigned i = 0; i < count; i++) {
