@@ -35,6 +35,8 @@ pub struct RunFiles<'a> {
     pub out: &'a str,
     /// How many workers judge packets, each in a thread of its own; with 0, one thread does everything.
     pub workers: usize,
+    /// Whether a line on standard error shows the progress of the run from its start on.
+    pub progress: bool,
 }
 
 /// The arguments after the program's name.
@@ -68,6 +70,7 @@ fn run_files<'a>(run: &ArgMatches<'a>) -> Option<RunFiles<'a>> {
         input: run.get_str("in")?,
         out: run.get_str("out")?,
         workers: run.get_one::<usize>("workers")?,
+        progress: run.get_flag("progress"),
     })
 }
 
@@ -118,6 +121,10 @@ fn run_command<'a>(alloc: Global) -> Result<Command<'a>, Error> {
         .value_parser(ValueParser::unsigned(0, MAX_WORKERS as u64))
         .default_value("1")
         .help("How many threads judge packets, 0 to 16; with 0 one thread does all");
+    let progress = Arg::new(alloc, "progress")
+        .long("progress")
+        .action(ArgAction::SetTrue)
+        .help("Shows the progress in a line on standard error, erased at the end");
     let command = Command::new(alloc, "run")
         .about("Forwards a capture by routes, and prints a report")
         .after_help(help::RUN)
@@ -139,7 +146,8 @@ fn run_command<'a>(alloc: Global) -> Result<Command<'a>, Error> {
             "PREFIX",
             "Port 0 is written to PREFIX.0.pcap, and so on; required",
         ))?
-        .arg(workers)?;
+        .arg(workers)?
+        .arg(progress)?;
     Ok(command)
 }
 

@@ -6,15 +6,17 @@ ghost use Rattle.std.specs.Prelude.{◌≡◌, ◌≤◌};
 use crate::command_line::{Request, RunFiles, read_words};
 use crate::fault::Fault;
 use crate::one_line::OneLine;
+use crate::progress::Progress;
 use crate::run_answer::run_files;
 use clap::Error;
 use command_file::TextFault;
 use ring_file::ring_text;
 use std::fs;
-use std::io::{Read, Write};
+use std::io::{IsTerminal, Read, Write};
 use std::rt::Files;
 use std::sync::Wait;
 use std::thread::Threads;
+use std::time::Clock;
 use steps_file::steps_text;
 
 /// The name for standard input when no file is named.
@@ -22,13 +24,15 @@ const INPUT: &str = "-";
 
 /// Runs the program and returns its exit status: 0 on success, or if help or the version was requested, 1 after a
 /// fault, which is printed in one line on `err`, and 2 if the command line is refused. If `out` fails, that is the only
-/// fault printed; if `err` fails, the status is the same.
+/// fault printed; if `err` fails, the status is the same. While a run reads its capture, a line on `err` shows its
+/// progress, if `--progress` requests it, or if `err` is a terminal and the run takes longer than two seconds; it is
+/// erased before the fault, if there is one, is printed.
 pub fn program<
-    R: Files + AllocGlobal,
+    R: Files + AllocGlobal + Clock + Sync,
     T: Threads + Wait + Sync,
     I: Read + Drop,
     O: Write,
-    E: Write,
+    E: Write + IsTerminal + Send,
 >(rt: &R, threads: &T, words: &[String], input: I, out: &mut O, err: &mut E) -> u8
 where
     R::File: Send,
@@ -37,7 +41,7 @@ where
     let done = match read_words(rt.alloc(), words) {
         Ok(Request::Ring(file)) => answer_ring(rt, file, input, out),
         Ok(Request::Steps(file)) => answer_steps(rt, file, input, out),
-        Ok(Request::Run(files)) => answer_run(rt, threads, &files, out),
+        Ok(Request::Run(files)) => answer_run(rt, threads, &files, out, err),
         Err(refusal) => return refuse(&refusal, out, err),
     };
     match done {
@@ -115,17 +119,21 @@ fn text_result<'a>(answered: Result<(), TextFault>) -> Result<(), Fault<'a>> {
 }
 
 /// Prints the report of a run over a capture.
-fn answer_run<'a, R: Files + AllocGlobal, T: Threads + Wait + Sync, O: Write>(
-    rt: &R,
-    threads: &T,
-    files: &RunFiles<'a>,
-    out: &mut O,
-) -> Result<(), Fault<'a>>
+fn answer_run<
+    'a,
+    R: Files + AllocGlobal + Clock + Sync,
+    T: Threads + Wait + Sync,
+    O: Write,
+    E: Write + IsTerminal + Send,
+>(rt: &R, threads: &T, files: &RunFiles<'a>, out: &mut O, err: &mut E) -> Result<(), Fault<'a>>
 where
     R::File: Send,
 {
-    let report = run_files(rt, threads, files)?;
-    print(report.as_slice(), out)
+    let at_terminal = err.is_terminal();
+    let mut progress = Progress::new(rt, err, files.progress, at_terminal);
+    let report = run_files(rt, threads, files, &mut progress);
+    progress.erase();
+    print(report?.as_slice(), out)
 }
 
 /// The bytes of a file, or of standard input.

@@ -15,7 +15,7 @@ Examples:
 
 Exit status:
   0  success, or help or the version was requested
-  1  a fault, told in one line on standard error
+  1  a fault, printed in one line on standard error
   2  this command line is refused, and no file was touched";
 
 /// Below the options of `ring`.
@@ -35,7 +35,7 @@ Examples:
 
 Exit status:
   0  each line has its reply, or help was requested
-  1  a fault, told in one line on standard error; the lines before it have their replies
+  1  a fault, printed in one line on standard error; the lines before it have their replies
   2  this command line is refused, and no file was touched";
 
 /// Below the options of `steps`.
@@ -60,7 +60,7 @@ Examples:
 
 Exit status:
   0  each step has its reply, or help was requested
-  1  a fault, told in one line on standard error; the steps before it have their replies
+  1  a fault, printed in one line on standard error; the steps before it have their replies
   2  this command line is refused, and no file was touched";
 
 /// Below the options of `run`.
@@ -69,7 +69,12 @@ Examples:
   pktkit run --config examples/router.toml --in examples/traffic.pcap --out traffic
   pktkit run --config examples/router.toml --in examples/traffic.pcap --out traffic --workers 0
 
+Workers:
+  N workers are N + 2 threads, each of which wants a processor of its own.
+  On four processors 1 and 2 workers are the fastest, with the settings of examples/fast.toml.
+  On one or two processors 0 is the fastest.
+
 Exit status:
   0  the report is on standard output and the files of the ports are complete, or help was requested
-  1  a fault, told in one line on standard error; there is no report
+  1  a fault, printed in one line on standard error; there is no report
   2  this command line is refused, and no file was touched";

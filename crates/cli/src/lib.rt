@@ -7,6 +7,7 @@ mod entry;
 mod fault;
 mod help;
 mod one_line;
+mod progress;
 mod run_answer;
 mod same_file;
 

@@ -7,6 +7,7 @@ ghost use Rattle.counters.specs.Report.{report_of};
 use crate::command_line::{MAX_WORKERS, RunFiles};
 use crate::fault::Fault;
 use crate::one_line::OneLine;
+use crate::progress::{Progress, Watched};
 use crate::same_file::{FileId, check_ports, note};
 use itoa::Buffer;
 use pcapio::Counted;
@@ -14,24 +15,33 @@ use settings::Settings;
 use stages::{Open, Summary, run_one, run_threads};
 use std::alloc::{AllocError, Global};
 use std::fs::{self, OpenFile};
+use std::io::Write;
 use std::rt::Files;
 use std::sync::Wait;
 use std::thread::Threads;
+use std::time::Clock;
 
 /// The report of a run over these files. The settings are read first, then the capture is opened, then the files of the
 /// ports are created or emptied, and then the run begins: a fault leaves the files that come later untouched. A port's
-/// file that is one of the other files is a fault before any file is created or emptied.
-pub fn run_files<'a, R: Files + AllocGlobal, T: Threads + Wait + Sync>(
+/// file that is one of the other files is a fault before any file is created or emptied. `progress` counts what is read
+/// of the capture.
+pub(crate) fn run_files<
+    'a,
+    R: Files + AllocGlobal + Clock + Sync,
+    T: Threads + Wait + Sync,
+    E: Write + Send,
+>(
     rt: &R,
     threads: &T,
     files: &RunFiles<'a>,
+    progress: &mut Progress<'_, R, E>,
 ) -> Result<Vec<u8>, Fault<'a>>
 where
     R::File: Send,
 {
     let settings = read_settings(rt, files.config)?;
     let input = match fs::open(rt, files.input) {
-        Ok(input) => Counted::new(input),
+        Ok(device) => Counted::new(Watched { device, progress }),
         Err(error) => return Err(Fault::of_file(&error, Fault::File(OneLine(files.input)))),
     };
     check_ports(rt, files, settings.ports.sources.len())?;

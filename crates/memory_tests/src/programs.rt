@@ -4,12 +4,13 @@ use crate::memory::taken;
 use cli::program;
 use std::alloc::{AllocError, Global};
 use std::fs;
-use std::io::{self, Write};
+use std::io::{self, IsTerminal, Write};
 use std::process::Abort;
 use std::rt::Files;
 use std::sync::Wait;
 use std::test::Fail;
 use std::thread::Threads;
+use std::time::Clock;
 
 /// The size of a `Sheet` in bytes: more than the replies to a test's file.
 const SHEET: usize = 32_768;
@@ -50,6 +51,12 @@ impl Write for Sheet {
     }
 }
 
+impl IsTerminal for Sheet {
+    fn is_terminal(&self) -> bool {
+        false
+    }
+}
+
 /// The words of a command line.
 fn words_of(alloc: Global, words: &[&str]) -> Result<Vec<String>, AllocError> {
     let mut texts = Vec::new(alloc);
@@ -60,7 +67,7 @@ fn words_of(alloc: Global, words: &[&str]) -> Result<Vec<String>, AllocError> {
 }
 
 /// Runs the program on blank sheets, and returns its status.
-fn go<R: Files + AllocGlobal + Threads + Wait + Sync>(
+fn go<R: Files + AllocGlobal + Clock + Threads + Wait + Sync>(
     rt: &R,
     words: &[String],
     out: &mut Sheet,
@@ -85,7 +92,7 @@ const QUESTIONS: usize = 2000;
 
 /// Runs the program with more memory each time, until it is enough: whether it ever printed a part of the replies and
 /// then that memory was refused. What it printed each time is a prefix of the replies.
-fn run_at_last<R: Abort + Files + AllocGlobal + Threads + Wait + Sync>(
+fn run_at_last<R: Abort + Files + AllocGlobal + Clock + Threads + Wait + Sync>(
     rt: &R,
     words: &[String],
     replies: &[u8],
