@@ -28,8 +28,8 @@ fn send<T: Tagged, const N: usize, S: Stored<T>, R: Wait>(
     requires kept { Keeps T.numbers cache_hand cache.now }
     requires single { AreSingle T.numbers cache.now }
     ensures cache_hand { IsCacheHandOf f.now result.0 × Keeps T.numbers result.0 cache.now }
-    ensures exact { OnRing f.now ring
-        (λ plan. Sends T.numbers by_burst N ring plan (Some cache_hand) (Some result.0) cache.now list.old result.1 list.new) }
+    ensures exact { OnRing f.now ring (λ plan. Sends T.numbers by_burst N ring plan (Some cache_hand) (Some result.0)
+        cache.now list.old result.1 list.new) }
 {
     let mut cache_hand = cache_hand;
     if !cache_hand.may_put(f, ring, list) {
@@ -59,8 +59,8 @@ fn receive<T: Tagged, const N: usize, S: Stored<T>, R: Wait>(
     requires single { AreSingle T.numbers cache.now }
     requires empty { into.old ≡ [] }
     ensures cache_hand { IsCacheHandOf f.now result.0 × Keeps T.numbers result.0 cache.now }
-    ensures exact { OnRing f.now ring (λ plan. Receives T.numbers by_burst N ring plan (Some cache_hand) (Some result.0) n
-        result.1 into.new) }
+    ensures exact { OnRing f.now ring (λ plan. Receives T.numbers by_burst N ring plan (Some cache_hand)
+        (Some result.0) n result.1 into.new) }
 {
     let hand = cache_hand.into_hand(cache);
     match take_burst_into(rt, f, hand, ring, n, into) {
@@ -88,8 +88,8 @@ impl<T: Tagged, const N: usize, S: Stored<T>> Local<T, N, S> {
         requires ring { ring < length (rings_of f.now) }
         ensures local { IsLocalOf f.now self.new }
         ensures same { SameRing self.old self.new × SameCache self.old self.new }
-        ensures exact { OnRing f.now ring (λ plan. Sends T.numbers by_burst N ring plan (hand_of self.old) (hand_of self.new)
-            (cache_of self.old) list.old result list.new) }
+        ensures exact { OnRing f.now ring (λ plan. Sends T.numbers by_burst N ring plan (hand_of self.old)
+            (hand_of self.new) (cache_of self.old) list.old result list.new) }
     {
         let cache_hand = take_hand(&mut self.hand);
         let (cache_hand, answer) = send(rt, f, cache_hand, ring, &self.cache, list);

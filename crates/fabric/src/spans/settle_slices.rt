@@ -39,7 +39,7 @@ impl<T: Word, const N: usize, S: Stored<T>> Ring<'_, T, N, S> {
     }
 
     /// Copies the words out of the slots of a take span.
-    #[inline]
+    #[inline(always)]
     pub(crate) fn withdraw_slice(
         &self,
         seat: &mut Seat<Cell<T, S>, View<T>>,
@@ -71,7 +71,7 @@ impl<T: Word, const N: usize, S: Stored<T>> Ring<'_, T, N, S> {
 
     /// Publishes words at the first positions of a put span. If an earlier span of a multi side isn't settled, the tail
     /// found is returned, and the slots are empty again.
-    #[inline]
+    #[inline(always)]
     pub(crate) fn publish_slice(
         &self,
         seat: &mut Seat<Cell<T, S>, View<T>>,
@@ -133,7 +133,7 @@ impl<T: Word, const N: usize, S: Stored<T>> Ring<'_, T, N, S> {
 
     /// Dequeues the words at the first `k` positions of a take span. If an earlier span of a multi side isn't settled,
     /// nothing is done, and the tail found is returned.
-    #[inline]
+    #[inline(always)]
     pub(crate) fn dequeue_slice(
         &self,
         seat: &mut Seat<Cell<T, S>, View<T>>,

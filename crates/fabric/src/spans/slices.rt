@@ -23,11 +23,12 @@ use geom::{How, Side};
 
 impl<T: Word, const N: usize, S: Stored<T>> Fabric<T, N, S> {
     /// Tries once to reserve a span of positions for a take: by bulk `n` of them, by burst at most `n`. Its words are
-    /// copied to the front of the slice at once; they stay queued until the span is settled. Requires: the slice has `n`
-    /// places. At most three steps on words.
+    /// copied to the front of the slice at once; they stay queued until the span is settled. Requires: the slice has
+    /// `n` places. At most three steps on words.
     ///
     /// Errors, in the order of the tests: `BadCount` if `n` is 0 or above `N`, before any step; `Busy`; `NoRoom`;
     /// `Worn`; `Contended`. The hand comes back, and the slice is unchanged.
+    #[inline(always)]
     pub fn try_start_take_slice(
         &self,
         hand: Hand<T, S>,
@@ -83,6 +84,7 @@ impl<'f, T: Word, const N: usize, S: Stored<T>> PutOpen<'f, T, N, S> {
     /// open.
     ///
     /// Errors, in the order of the tests: `BadCount`, `NotYours`, before any step; `NotYet`.
+    #[inline(always)]
     pub fn try_settle_slice(
         self,
         items: &[T],
@@ -125,6 +127,7 @@ impl<'f, T: Word, const N: usize, S: Stored<T>> TakeOpenLent<'f, T, N, S> {
     /// these are the words that the start copied.
     ///
     /// Errors, in the order of the tests: `BadCount`, before any step; `NotYet`.
+    #[inline(always)]
     pub fn try_settle_slice(
         self,
         k: usize,

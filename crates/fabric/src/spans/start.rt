@@ -247,6 +247,7 @@ impl<T: Tagged, const N: usize, S: Stored<T>> Fabric<T, N, S> {
     /// Errors, in the order of the tests: `BadCount` if `n` is 0 or above `N`, or above the number of the hand's
     /// buffers on a free ring, before any step; `Busy`; `NoRoom`, never on a free ring; `Worn`; `Contended`. The hand
     /// comes back.
+    #[inline(always)]
     pub fn try_start_put(
         &self,
         hand: Hand<T, S>,

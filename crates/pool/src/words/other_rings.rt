@@ -115,8 +115,8 @@ impl<T: Word, const N: usize, S: Stored<T>> LocalWords<T, N, S> {
         requires ring { ring < length (rings_of f.now) }
         ensures local { IsLocalOf f.now self.new }
         ensures same { SameRing self.old self.new × SameCache self.old self.new }
-        ensures exact { OnRing f.now ring (λ plan. Sends T.numbers by_burst N ring plan (hand_of self.old) (hand_of self.new)
-            (cache_of self.old) items.now result (unsent_of result items.now)) }
+        ensures exact { OnRing f.now ring (λ plan. Sends T.numbers by_burst N ring plan (hand_of self.old)
+            (hand_of self.new) (cache_of self.old) items.now result (unsent_of result items.now)) }
     {
         let cache_hand = take_hand(&mut self.hand);
         let (cache_hand, answer) = send(rt, f, cache_hand, ring, &self.cache, items);

@@ -1,5 +1,5 @@
-//! Bulk puts and takes of words that are tried once, for callers that may not wait: by the hand of a cache, on rings with
-//! head/tail-sync sides. There a span is settled at once, so that no open span is left. The cache isn't changed.
+//! Bulk puts and takes of words that are tried once, for callers that may not wait: by the hand of a cache, on rings
+//! with head/tail-sync sides. There a span is settled at once, so that no open span is left. The cache isn't changed.
 ghost use Rattle.std.specs.Prelude.{◌≡◌, ◌<◌, ◌++◌, List, Some, drop, length};
 ghost use Rattle.ringcore_laws.specs.FreeRings.{AreSingle};
 ghost use Rattle.fabric.specs.Hands.{OnRing, rings_of};
