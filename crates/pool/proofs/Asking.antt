@@ -2,12 +2,10 @@
 use Rattle.std.proofs.Common.{◌≡◌, ℕ, ◌+◌, ◌-◌, ◌<◌, ◌≤◌, List, [], ◌∷◌, length, refl, ap, ◌∙◌, subst, arith, Ok, Err, drop, take}
 use Rattle.std.proofs.lemmas.Bool.Decides.{nat_tests}
 use Rattle.geom.specs.Plan.{granted}
-use Rattle.geom.specs.declared.plan.How.{How}
 use Rattle.geom.specs.declared.plan.How.TheVariants.{Bulk}
 use Rattle.geom.specs.declared.plan.RingPlan.{RingPlan}
 use Rattle.geom.specs.declared.plan.Side.{Side}
 use Rattle.geom.specs.declared.plan.Side.TheVariants.{Put, Take}
-use Rattle.ringcore_laws.specs.Party.{with_settled}
 use Rattle.ringcore_laws.specs.Sound.{holds, occurrences_in}
 use Rattle.burst.specs.declared.tagged.Tagged.{Ghosts}
 use Rattle.fabric.specs.declared.stored.Stored.{Ghosts as StoredGhosts}
@@ -29,42 +27,22 @@ use Rattle.ringapi.specs.Puts.{IsUnfinishedPut, PutHasTold}
 use Rattle.ringapi.proofs.Yours.{not_both}
 use Rattle.fabric.specs.Settles.{AreOwnBuffers, AreYours}
 use Rattle.ringapi.specs.Takes.{IsUnfinishedTake, TakeHasTold}
-use Rattle.ringapi.specs.Views.{IsMoved, RefusedStarts, by_bulk}
-use Rattle.ringapi.proofs.Tries.{reserved_party, starts_kept}
+use Rattle.ringapi.specs.Views.{IsMoved, by_bulk}
+use Rattle.ringapi.proofs.Tries.{starts_kept}
 use Rattle.fabric.proofs.Told.{refused_kept}
 use Rattle.fabric.proofs.Pours.{all_first, none_behind}
 use Rattle.std.proofs.lemmas.List.{length-drop}
 use Rattle.ringcore_laws.specs.FreeRings.{AreSingle, buffers_had}
 use Rattle.std.specs.Prelude.{true}
-use Rattle.pool.proofs.Counts.{count_parts}
-use Rattle.pool.proofs.Singles.{single_drop, single_take}
-use Rattle.pool.specs.Asks.{HasLess, Spills, Takes, refusal_of}
+use Rattle.ringapi.proofs.Counts.{count_parts}
+use Rattle.ringapi.proofs.Moves.{had_before, moved_party}
+use Rattle.ringapi.proofs.Singles.{single_drop, single_take}
+use Rattle.ringapi.specs.Holdings.{HasLess}
+use Rattle.pool.specs.Asks.{Spills, Takes, refusal_of}
 
 -- by bulk all positions are granted, or none
 pub all_granted : (n room count : ℕ) → count ≡ granted Bulk n room → 0 < count → count ≡ n
 all_granted n room count is some = grind (arith, nat_tests, is, some)
-
-module _ {T : Type 0} (tags : T → List ℕ) (most : ℕ) (how : How) (n ring : ℕ) (side : Side) (plan : RingPlan) where
-  -- the party of the hand, after its span was settled
-  pub moved_party : (v w : View T) (starts : List (View T × StartFault)) (count left : ℕ) (shown items : List T) (tails : List ℕ)
-      → (is : IsMoved tags most how n ring side plan v starts count left shown tails items w)
-      → w.party ≡ with_settled v.party (span_of ring side is.0 count) items
-  moved_party v w starts count left shown items tails is =
-      ap (λ (u : View T). u.party) is.3
-      ∙ ap (λ p. with_settled p (span_of ring side is.0 count) items)
-      (reserved_party tags most how n ring side plan v starts is.0 count left shown tails is.1 is.2)
-
-module _ {T : Type 0} (tags : T → List ℕ) (most : ℕ) (how : How) (n ring : ℕ) (side : Side) (plan : RingPlan) where
-  pool_before : (v : View T) (starts : List (View T × StartFault)) (w : View T) → RefusedStarts tags most how n ring side plan v starts w
-      → w.pool ≡ v.pool
-  pool_before v [] w is = ap (λ u. u.pool) is
-  pool_before v (start ∷ before) w is =
-      (refused_kept tags most how n ring side plan start.0 w start.1 is.0).pool ∙ pool_before v before start.0 is.2
-
-  -- refused starts leave the hand as many buffers as it had
-  pub had_before : (v : View T) (starts : List (View T × StartFault)) (w : View T) → RefusedStarts tags most how n ring side plan v starts w
-      → buffers_had tags w.pool w.party ≡ buffers_had tags v.pool v.party
-  had_before v starts w is = λ i. buffers_had tags (pool_before v starts w is i) (starts_kept tags most how n ring side plan v starts w is i)
 
 module _ {T : Type 0} (tags : T → List ℕ) (most n ring : ℕ) (side : Side) (plan : RingPlan) where
   pub bulk_all : (v w : View T) (starts : List (View T × StartFault)) (count left : ℕ) (shown items : List T) (tails : List ℕ)

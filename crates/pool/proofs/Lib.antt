@@ -1,6 +1,5 @@
 pub mod Counts
 pub mod Singles
-pub mod Few
 pub mod Asking
 pub mod Turned
 pub mod Kept

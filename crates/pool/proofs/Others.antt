@@ -32,9 +32,9 @@ use Rattle.ringapi.specs.Takes.{IsTakeOf, IsUnfinishedTake, TakeHasTold}
 use Rattle.ringapi.proofs.Tries.{starts_kept}
 use Rattle.ringapi.proofs.Yours.{not_both}
 use Rattle.pool.specs.Beside.{IsPutBeside, IsTakenBeside, PutOwns, Receives, Sends, TakeOwns, unsent_of}
-use Rattle.pool.proofs.Asking.{moved_party}
-use Rattle.pool.proofs.Counts.{count_both, count_parts}
-use Rattle.pool.proofs.Singles.{single_later}
+use Rattle.ringapi.proofs.Moves.{moved_party}
+use Rattle.ringapi.proofs.Counts.{count_both, count_parts}
+use Rattle.ringapi.proofs.Singles.{single_later}
 
 module _ {T : Type 0} {S : Type 0} {G : Ghosts T} {H : StoredGhosts S T} (tags : T → List ℕ) where
   -- a cache_hand that was asked keeps back what it kept

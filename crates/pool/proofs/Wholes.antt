@@ -10,7 +10,8 @@ use Rattle.fabric.specs.declared.hand.cache_hand.CacheHand.{CacheHand}
 use Rattle.fabric.specs.Hands.{IsHandOf, view}
 use Rattle.fabric.specs.CacheHands.{IsCacheHandFor, IsCacheHandOf, Keeps, SameCacheHand, view_of_cache_hand}
 use Rattle.fabric.specs.Settles.{AreOwnBuffers}
-use Rattle.pool.specs.Hands.{IsFreeOf, IsFreeRing, IsIn, KeepsIn, view_in}
+use Rattle.ringapi.specs.Holdings.{IsFreeRing}
+use Rattle.pool.specs.Hands.{IsFreeOf, IsIn, KeepsIn, view_in}
 use Rattle.pool.proofs.Kept.{own_kept}
 
 module _ {T : Type 0} {S : Type 0} {G : Ghosts T} {H : StoredGhosts S T} {N : ℕ} (f : Fabric T N S) where

@@ -1,8 +1,6 @@
 -- What the bulk requests of a cache return
 use Rattle.std.specs.Prelude.{◌≡◌, ◌+◌, ◌-◌, ◌<◌, ◌⊎◌, ℕ, List, [], length, take, drop, Result, Ok, Err, IsOk}
 use Rattle.geom.specs.declared.plan.RingPlan.{RingPlan}
-use Rattle.ringcore_laws.specs.declared.party.Party.{Party}
-use Rattle.ringcore_laws.specs.Sound.{holds, occurrences_in}
 use Rattle.burst.specs.declared.tagged.Tagged.{Ghosts}
 use Rattle.fabric.specs.declared.stored.Stored.{Ghosts as StoredGhosts}
 use Rattle.fabric_laws.specs.declared.view.View.{View}
@@ -31,14 +29,6 @@ refusal_of (Contended x) = Short
 refusal_of (NoRoom left) = Short
 refusal_of start.Worn = Worn
 refusal_of BadCount = Short
-
--- a party has the buffers of these items in addition to those that it had
-abbrev pub HasMore : {T : Type 0} → (T → List ℕ) → Party T → List T → Party T → Type 0
-HasMore tags before items after = (b : ℕ) → holds tags b after ≡ holds tags b before + occurrences_in tags b items
-
--- a party has the buffers that it had, except those of these items
-abbrev pub HasLess : {T : Type 0} → (T → List ℕ) → Party T → List T → Party T → Type 0
-HasLess tags before items after = (b : ℕ) → holds tags b after ≡ holds tags b before - occurrences_in tags b items
 
 module _ {T : Type 0} {S : Type 0} {G : Ghosts T} {H : StoredGhosts S T} (tags : T → List ℕ) (most ring : ℕ) (plan : RingPlan) where
   -- What one bulk take of n items returns, tried until it succeeded or was refused: n items, or none. Short is returned

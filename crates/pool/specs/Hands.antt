@@ -1,6 +1,5 @@
 -- What a contract sees of the hand in a cache
-use Rattle.std.specs.Prelude.{◌≡◌, ◌+◌, ◌<◌, ℕ, List, length, slice_get, Option, Some, None, true}
-use Rattle.geom.specs.declared.plan.RingPlan.{RingPlan}
+use Rattle.std.specs.Prelude.{◌≡◌, ◌+◌, ℕ, List, Option, Some, None}
 use Rattle.ringcore_laws.specs.Sound.{holds, occurrences_in}
 use Rattle.burst.specs.declared.tagged.Tagged.{Ghosts}
 use Rattle.fabric.specs.declared.stored.Stored.{Ghosts as StoredGhosts}
@@ -11,11 +10,7 @@ use Rattle.fabric.specs.declared.hand.Hand.{Hand}
 use Rattle.fabric.specs.declared.hand.cache_hand.CacheHand.{CacheHand}
 use Rattle.fabric.specs.Hands.{rings_of}
 use Rattle.fabric.specs.CacheHands.{IsCacheHandFor, IsCacheHandOf, SameCacheHand, spare, view_of_cache_hand}
-
--- a ring of these is a free ring
-abbrev pub IsFreeRing : List RingPlan → ℕ → Type 0
-IsFreeRing plans ring =
-    (ring < length plans) × ((plan : RingPlan) → slice_get plans ring ≡ Some plan → plan.free ≡ true)
+use Rattle.ringapi.specs.Holdings.{IsFreeRing}
 
 module _ {T : Type 0} {S : Type 0} {G : Ghosts T} {H : StoredGhosts S T} where
   -- the view of a hand that is there

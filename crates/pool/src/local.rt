@@ -3,7 +3,8 @@ ghost use Rattle.std.specs.Prelude.{◌≡◌, ◌≤◌, ◌+◌, length, true}
 ghost use Rattle.std.specs.Option.{is_some};
 ghost use Rattle.ringcore_laws.specs.FreeRings.{AreSingle};
 ghost use Rattle.pool.specs.Caches.{threshold};
-ghost use Rattle.pool.specs.Hands.{IsFreeRing, KeepsIn, view_in};
+ghost use Rattle.ringapi.specs.Holdings.{IsFreeRing};
+ghost use Rattle.pool.specs.Hands.{KeepsIn, view_in};
 
 use burst::{Burst, Tagged};
 use fabric::{CacheHand, Stored};

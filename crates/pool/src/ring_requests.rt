@@ -3,7 +3,8 @@ ghost use Rattle.std.specs.Prelude.{◌≡◌, ◌+◌, ◌<◌, ◌≤◌, ◌+
 ghost use Rattle.ringcore_laws.specs.FreeRings.{AreSingle};
 ghost use Rattle.fabric.specs.Hands.{IsHandOf, OnRing, view};
 ghost use Rattle.fabric.specs.Settles.{AreOwnBuffers};
-ghost use Rattle.pool.specs.Asks.{Fetches, Flushes, HasLess, HasMore, Refills, Spills, Takes, refusal_of};
+ghost use Rattle.ringapi.specs.Holdings.{HasLess, HasMore};
+ghost use Rattle.pool.specs.Asks.{Fetches, Flushes, Refills, Spills, Takes, refusal_of};
 ghost use Rattle.pool.specs.Hands.{IsFreeOf};
 
 use crate::faults::PoolFault;

@@ -23,11 +23,11 @@ use Rattle.fabric.specs.Starts.{Starts}
 use Rattle.fabric.specs.Views.{IsWornAt, span_of}
 use Rattle.fabric.proofs.Holding.{holds_put, holds_take}
 use Rattle.fabric.proofs.Told.{refused_kept, started_party}
-use Rattle.pool.specs.Asks.{HasMore}
-use Rattle.pool.proofs.Asking.{had_before, moved_party}
-use Rattle.pool.proofs.Counts.{count_parts}
-use Rattle.pool.proofs.Few.{own_few}
-use Rattle.pool.proofs.Singles.{single_drop}
+use Rattle.ringapi.specs.Holdings.{HasMore}
+use Rattle.ringapi.proofs.Moves.{had_before, moved_party}
+use Rattle.ringapi.proofs.Counts.{count_parts}
+use Rattle.ringapi.proofs.Few.{own_few}
+use Rattle.ringapi.proofs.Singles.{single_drop}
 use Rattle.ringapi.specs.declared.answers.Moved.{Moved}
 use Rattle.ringapi.specs.declared.answers.PutAnswer.TheVariants.{Done, Refused}
 use Rattle.ringapi.specs.declared.answers.Refusal.{Refusal}

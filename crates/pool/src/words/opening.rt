@@ -3,7 +3,7 @@ ghost use Rattle.std.specs.Prelude.{◌≡◌, ◌+◌, ◌≤◌, [], IfOk, IfE
 ghost use Rattle.fabric.specs.Hands.{SameHand, view};
 ghost use Rattle.pool.specs.Caches.{threshold};
 ghost use Rattle.pool.specs.Faults.{cache_number_of};
-ghost use Rattle.pool.specs.Hands.{IsFreeRing};
+ghost use Rattle.ringapi.specs.Holdings.{IsFreeRing};
 ghost use Rattle.pool.specs.WordCalls.{RefusesSize, RefusesWords};
 ghost use Rattle.pool.specs.Words.{HasHand, cache_of, cache_size, ring_of};
 

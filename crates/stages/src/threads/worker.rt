@@ -4,7 +4,7 @@ ghost use Rattle.geom.specs.declared.plan.Side.TheVariants.{Take};
 ghost use Rattle.fabric.specs.Hands.{IsHandOf, rings_of, view};
 ghost use Rattle.fabric.specs.Views.{IsWornAt};
 ghost use Rattle.ipv4.specs.Forwarding.{forwarded};
-ghost use Rattle.pool.specs.Asks.{HasMore};
+ghost use Rattle.ringapi.specs.Holdings.{HasMore};
 ghost use Rattle.ringapi.specs.Views.{HasSettled};
 ghost use Rattle.stages.specs.Judging.{AllPairs, HasWorked, IsJudged, has_mark, is_mark, until_mark};
 ghost use Rattle.stages.specs.Numbers.{packet_numbers};

@@ -4,7 +4,8 @@ use Rattle.ringcore_laws.specs.Sound.{occurrences_in}
 use Rattle.fabric.specs.Hands.{view}
 use Rattle.pool.specs.Asks.{Refills}
 use Rattle.pool.specs.Caches.{cached_after_get, taken_by_get}
-use Rattle.pool.proofs.Counts.{count_both, count_get}
+use Rattle.ringapi.proofs.Counts.{count_both}
+use Rattle.pool.proofs.Counts.{count_get}
 use Rattle.pool.proofs.Singles.{single_get}
 use Rattle.pool.proofs.Turned.{poured_back}
 use Rattle.pool.proofs.ring_requests.fetch.Goals as goal

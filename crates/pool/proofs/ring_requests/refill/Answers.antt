@@ -1,7 +1,8 @@
 use Rattle.std.proofs.Common.{◌+◌, ◌∙◌, IfOk, subst, inl, inr, refl, Err, rules}
 use Rattle.fabric.specs.Hands.{view}
 use Rattle.pool.proofs.ring_requests.refill.Goals as goal
-use Rattle.pool.specs.Asks.{HasMore, Takes}
+use Rattle.ringapi.specs.Holdings.{HasMore}
+use Rattle.pool.specs.Asks.{Takes}
 use Rattle.std.proofs.lemmas.Result.{IfErr-weaker}
 
 pub returns-in-Ok-clause-exact : goal.returns-in-Ok-clause-exact

@@ -6,7 +6,7 @@ use Rattle.fabric.specs.CacheHands.{view_of_cache_hand}
 use Rattle.pool.specs.Asks.{Spills}
 use Rattle.pool.proofs.Asking.{first_own}
 use Rattle.pool.proofs.Kept.{own_kept, same_own}
-use Rattle.pool.proofs.Singles.{single_take}
+use Rattle.ringapi.proofs.Singles.{single_take}
 use Rattle.pool.proofs.set_aside.shed.Goals as goal
 
 pub keep_back-requires-in-Err : goal.keep_back-requires-in-Err

@@ -4,10 +4,11 @@ use Rattle.ringcore_laws.specs.FreeRings.{AreSingle}
 use Rattle.fabric_laws.specs.declared.view.View.{View}
 use Rattle.fabric.specs.CacheHands.{Keeps, view_of_cache_hand}
 use Rattle.fabric.specs.Settles.{AreOwnBuffers}
-use Rattle.pool.specs.Hands.{IsFreeRing, KeepsIn, view_in}
+use Rattle.ringapi.specs.Holdings.{IsFreeRing}
+use Rattle.pool.specs.Hands.{KeepsIn, view_in}
 use Rattle.pool.specs.Stacks.{stacked}
 use Rattle.pool.proofs.Kept.{hit_own, own_kept, same_view}
-use Rattle.pool.proofs.Singles.{single_take}
+use Rattle.ringapi.proofs.Singles.{single_take}
 use Rattle.pool.proofs.words.LocalWords.get_cached_into_slice.Goals as goal
 
 pub give-requires : goal.give-requires

@@ -4,7 +4,8 @@ use Rattle.std.proofs.lemmas.Slice.{take-put_mid_below}
 use borrow.Rule.Slice.PartMut.{put_mid}
 use Rattle.ringcore_laws.specs.FreeRings.{AreSingle}
 use Rattle.fabric.specs.Hands.{view}
-use Rattle.pool.specs.Asks.{HasMore, Takes}
+use Rattle.ringapi.specs.Holdings.{HasMore}
+use Rattle.pool.specs.Asks.{Takes}
 use Rattle.pool.specs.Stacks.{stacked}
 use Rattle.pool.proofs.Stacks.{added_is, added_none, front_kept, part_long, pushed_run}
 use Rattle.pool.proofs.words.ring_requests.ask.Goals as goal

@@ -5,7 +5,8 @@ use Rattle.fabric.specs.Hands.{rings_of, view}
 use Rattle.pool.proofs.Asking.{none_party, took, took_holds, took_none, took_single}
 use Rattle.pool.proofs.Slices.{none_shown, whole_shown}
 use Rattle.pool.proofs.words.ring_requests.ask_slice.Goals as goal
-use Rattle.pool.specs.Asks.{HasMore, Takes, refusal_of}
+use Rattle.ringapi.specs.Holdings.{HasMore}
+use Rattle.pool.specs.Asks.{Takes, refusal_of}
 
 pub returns-in-Done-clause-exact : goal.returns-in-Done-clause-exact
 returns-in-Done-clause-exact g c plan there =

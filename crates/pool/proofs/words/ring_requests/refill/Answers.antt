@@ -4,7 +4,8 @@ use Rattle.ringcore_laws.specs.declared.party.Party.{Party}
 use Rattle.fabric.specs.Hands.{view}
 use Rattle.pool.proofs.Stacks.{added_none}
 use Rattle.pool.proofs.words.ring_requests.refill.Goals as goal
-use Rattle.pool.specs.Asks.{HasMore, Takes}
+use Rattle.ringapi.specs.Holdings.{HasMore}
+use Rattle.pool.specs.Asks.{Takes}
 use Rattle.pool.specs.Stacks.{added, stacked}
 use Rattle.std.proofs.lemmas.Result.{IfErr-weaker}
 

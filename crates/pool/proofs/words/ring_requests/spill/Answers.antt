@@ -3,7 +3,7 @@ use Rattle.std.proofs.lemmas.List.{length-take}
 use Rattle.fabric.specs.Hands.{view}
 use Rattle.fabric.specs.Settles.{AreOwnBuffers}
 use Rattle.pool.proofs.Asking.{first_own, left_own}
-use Rattle.pool.specs.Asks.{HasLess}
+use Rattle.ringapi.specs.Holdings.{HasLess}
 use Rattle.pool.specs.Stacks.{stacked}
 use Rattle.pool.proofs.words.ring_requests.spill.Goals as goal
 

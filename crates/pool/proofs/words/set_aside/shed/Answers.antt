@@ -7,7 +7,7 @@ use Rattle.pool.specs.Asks.{Spills}
 use Rattle.pool.specs.Stacks.{stacked}
 use Rattle.pool.proofs.Asking.{first_own}
 use Rattle.pool.proofs.Kept.{own_kept, same_own}
-use Rattle.pool.proofs.Singles.{single_take}
+use Rattle.ringapi.proofs.Singles.{single_take}
 use Rattle.pool.proofs.words.set_aside.shed.Goals as goal
 
 pub keep_back-requires-in-Err : goal.keep_back-requires-in-Err

@@ -5,7 +5,7 @@ use Rattle.fabric_laws.specs.Changes.{settled}
 use Rattle.fabric.specs.Hands.{rings_of, take_left, take_view, view}
 use Rattle.fabric.specs.Views.{span_of}
 use Rattle.fabric.proofs.Told.{granted_few, refused_kept, ring_at, worn_at}
-use Rattle.pool.specs.Asks.{HasMore}
+use Rattle.ringapi.specs.Holdings.{HasMore}
 use Rattle.ringapi.specs.Views.{by_burst}
 use Rattle.stages.specs.Judging.{until_mark}
 use Rattle.stages.specs.Numbers.{packet_numbers}

@@ -12,7 +12,7 @@ use Rattle.ringcore_laws.specs.Sound.{holds, occurrences}
 use Rattle.ringcore_laws.proofs.FreeRoom.{count_all}
 use Rattle.ringcore_laws.proofs.Laws.{times_in_is}
 use Rattle.fabric_laws.specs.Kinds.{IsHeldOnce}
-use Rattle.pool.proofs.Singles.{first_of, rest_of}
+use Rattle.ringapi.proofs.Singles.{first_of, rest_of}
 
 sum_less : {X : Type 0} (f g : X → ℕ) (xs : List X) → ((x : X) → f x ≤ g x) → sum_by f xs ≤ sum_by g xs
 sum_less f g [] less = omega arith
