@@ -6,6 +6,5 @@ pub mod one_ring;
 pub mod packets;
 pub mod reports;
 pub mod routes;
-pub mod runs;
 pub mod sent;
 pub mod windows;

@@ -2,9 +2,8 @@
 ghost use Rattle.pcapio.specs.Reader.{IsReading};
 ghost use Rattle.pcapio.specs.Writer.{IsWell};
 
-use crate::memory::taken;
 use mbuf::{Chain, make};
-use oom::refuses;
+use oom::{refuses, taken};
 use pcapio::{
     CapFault, Counted, Head, Reader, Writer, collect_records, copy_capture, copy_records,
 };

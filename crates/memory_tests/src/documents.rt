@@ -1,6 +1,6 @@
 //! Documents of settings (settings).
 
-use crate::memory::taken;
+use oom::taken;
 use settings::{Settings, SettingsFault};
 use std::alloc::Global;
 use std::test::Fail;

@@ -8,19 +8,13 @@ mod captures;
 #[cfg(test)]
 mod documents;
 #[cfg(test)]
-mod memory;
-#[cfg(test)]
 mod packets;
-#[cfg(test)]
-mod programs;
 #[cfg(test)]
 mod reports;
 #[cfg(test)]
 mod rings;
 #[cfg(test)]
 mod routes;
-#[cfg(test)]
-mod runs;
 #[cfg(test)]
 mod shared;
 #[cfg(test)]

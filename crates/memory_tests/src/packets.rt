@@ -5,10 +5,10 @@ ghost use Rattle.mbuf.specs.Buffer.{made};
 ghost use Rattle.mbuf.specs.Chain.{numbers_of};
 
 use crate::callers::packets::blank_front;
-use crate::memory::taken;
 use arrayvec::ArrayVec;
 use burst::{Burst, Tagged};
 use mbuf::{Chain, ChainFault, Deck, DeckFault, make};
+use oom::taken;
 use std::alloc::{AllocError, Global};
 use std::process::Abort;
 use std::test::Fail;

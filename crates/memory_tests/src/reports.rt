@@ -1,7 +1,7 @@
 //! Reports of counts (counters).
 
 use crate::callers::reports::two_verdicts;
-use crate::memory::taken;
+use oom::taken;
 use std::alloc::Global;
 use std::test::Fail;
 

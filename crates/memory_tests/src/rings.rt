@@ -1,7 +1,7 @@
 //! The ring for one thread (ringcore).
 
-use crate::memory::taken;
 use geom::{Geometry, How};
+use oom::taken;
 use ringcore::{Moved, OneRing};
 use std::alloc::{AllocError, Global};
 use std::collections::VecDeque;

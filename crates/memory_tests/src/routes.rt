@@ -1,8 +1,8 @@
 //! Route tables (lpm).
 
 use crate::callers::routes::read;
-use crate::memory::taken;
 use lpm::{NextHop, RouteFault, Table};
+use oom::taken;
 use std::process::Abort;
 use std::test::Fail;
 

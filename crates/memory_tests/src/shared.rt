@@ -9,11 +9,11 @@ mod spans;
 mod whole_calls;
 mod word_caches;
 
-use crate::memory::{Wrong, taken};
 use arrayvec::ArrayVec;
 use burst::{Burst, Tagged};
 use fabric::{Fabric, Hand, Opened};
 use geom::{Geometry, Mode, RingPlan};
+use oom::{Wrong, taken};
 use std::alloc::{AllocError, Global};
 use std::sync::Wait;
 use std::test::Fail;

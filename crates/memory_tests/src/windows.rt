@@ -1,6 +1,6 @@
 //! The window that puts packets in order (reorder).
 
-use crate::memory::taken;
+use oom::taken;
 use reorder::{InsertFault, Window};
 use std::process::Abort;
 use std::test::Fail;

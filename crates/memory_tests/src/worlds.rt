@@ -1,7 +1,7 @@
 //! The machine of shared rings (ringcore).
 
-use crate::memory::taken;
 use geom::{Geometry, How, Mode, RingPlan, Side, pack};
+use oom::taken;
 use ringcore::{World, WorldPlan};
 use ringcore_laws::{Item, Items, Numbers, Place, Reply, Step};
 use std::alloc::{AllocError, Global};

@@ -30,6 +30,21 @@ pub fn exhaust_memory(alloc: Global) -> Result<Option<Vec<Vec<u8>>>, AllocError>
     Ok(if refuses(alloc) { Some(held) } else { None })
 }
 
+/// What went wrong in a test.
+#[derive(Drop, Clone, Copy, Debug)]
+pub struct Wrong(pub &'static str);
+
+/// Takes all memory until the result is dropped. The stack is grown first, since it can't grow without memory.
+pub fn taken(alloc: Global) -> Result<Vec<Vec<u8>>, Wrong> {
+    if grow_stack() != 1 {
+        return Err(Wrong("the stack isn't written"));
+    }
+    match exhaust_memory(alloc) {
+        Ok(Some(held)) => Ok(held),
+        _ => Err(Wrong("memory can't be used up in this build")),
+    }
+}
+
 /// Takes pieces of one size until one is refused.
 fn take(alloc: Global, held: &mut Vec<Vec<u8>>, size: usize) {
     for _ in 0..PIECES {

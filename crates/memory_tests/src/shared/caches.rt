@@ -4,9 +4,9 @@ ghost use Rattle.fabric.specs.Hands.{IsHandOf, rings_of};
 ghost use Rattle.pool.specs.Locals.{IsLocalOf};
 
 use super::{MOST, POOL, Rings, Ticket};
-use crate::memory::Wrong;
 use burst::Burst;
 use fabric::Hand;
+use oom::Wrong;
 use pool::Local;
 use std::sync::Wait;
 

@@ -5,9 +5,9 @@ ghost use Rattle.std.specs.Prelude.{◌<◌};
 ghost use Rattle.fabric.specs.Hands.{IsHandOf};
 
 use super::{BUFFERS, Rings, Ticket, opened, split};
-use crate::memory::{Wrong, taken};
 use fabric::{Fabric, Hand, OpenFault, Opened, SplitFault};
 use geom::{Geometry, Mode, RingPlan};
+use oom::{Wrong, taken};
 use std::alloc::{AllocError, Global};
 use std::test::Fail;
 

@@ -3,10 +3,10 @@ ghost use Rattle.std.specs.Prelude.{◌≡◌, ◌<◌, length, IfOk};
 ghost use Rattle.fabric.specs.Hands.{IsHandOf, put_fabric, rings_of, take_fabric};
 
 use super::{FIRST, MOST, POOL, Rings, SECOND, Ticket};
-use crate::memory::Wrong;
 use burst::Burst;
 use fabric::Hand;
 use geom::{How, Mode, Side};
+use oom::Wrong;
 use ringapi::{PeekPut, PeekTake};
 
 /// Holds positions for six items.

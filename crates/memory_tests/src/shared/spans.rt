@@ -3,10 +3,10 @@ ghost use Rattle.std.specs.Prelude.{◌<◌, length, IfOk};
 ghost use Rattle.fabric.specs.Hands.{IsHandOf, rings_of};
 
 use super::{FIRST, POOL, Rings, SECOND, Ticket};
-use crate::memory::Wrong;
 use burst::Burst;
 use fabric::{Hand, StartFault};
 use geom::How;
+use oom::Wrong;
 
 /// Takes all items by a span with its own burst, and puts them on another ring by a span that is given them by value.
 fn move_by_value(

@@ -5,10 +5,10 @@ ghost use Rattle.ringapi.specs.Puts.{IsPutOf};
 ghost use Rattle.ringapi.specs.Takes.{IsTakeOf};
 
 use super::{FIRST, Items, MOST, POOL, Rings, SECOND, Ticket};
-use crate::memory::Wrong;
 use burst::Burst;
 use fabric::Hand;
 use geom::How;
+use oom::Wrong;
 use ringapi::{PutAnswer, Refusal, TakeAnswer};
 use std::mem;
 use std::sync::Wait;

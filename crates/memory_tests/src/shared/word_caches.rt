@@ -4,11 +4,11 @@ ghost use Rattle.fabric.specs.Hands.{IsHandOf, rings_of};
 ghost use Rattle.pool.specs.Words.{IsLocalOf};
 
 use super::{BUFFERS, MOST, POOL, planned};
-use crate::memory::{Wrong, taken};
 use arrayvec::ArrayVec;
 use burst::{Tagged, Word};
 use fabric::{Fabric, Hand, Opened};
 use geom::Mode;
+use oom::{Wrong, taken};
 use pool::{CacheFault, LocalWords};
 use slot::Slot;
 use std::alloc::Global;

@@ -1,9 +1,8 @@
 //! Runs over captures (stages).
 ghost use Rattle.std.specs.Prelude.{◌≤◌};
 
-use crate::callers::runs::forward;
-use crate::memory::taken;
-use oom::{exhaust_memory, grow_stack};
+use crate::callers::forward;
+use oom::{exhaust_memory, grow_stack, taken};
 use pcapio::Counted;
 use settings::Settings;
 use stages::{Open, RunFault, Summary};
