@@ -11,7 +11,7 @@ TRIED ?= out/pktkit
 BIN = $(DESTDIR)$(PREFIX)/bin
 SHARE = $(DESTDIR)$(PREFIX)/share
 
-.PHONY: help run try compare test build install uninstall bench
+.PHONY: help run try compare test build lib install uninstall install-lib uninstall-lib bench
 
 # The first of all targets is what `make` alone does.
 help:
@@ -19,7 +19,9 @@ help:
 	@echo 'make try        keeps a pktkit without proofs in $(TRIED), for pktkit ring and the other commands: the same'
 	@echo 'make compare    the same by one thread, and that each port has the same bytes; after make run: 1 to 2 minutes'
 	@echo 'make build      proves pktkit and what it stands on, and builds it: 35 to 75 minutes, then what has changed'
-	@echo 'make install    make build; the program, its man page and completions go below PREFIX ($(PREFIX)): seconds'
+	@echo 'make lib        proves the C library and what it stands on, and leaves it in out/c: 20 to 40 minutes'
+	@echo 'make install    make build and lib; program, library, man page, completions go below PREFIX ($(PREFIX)): seconds'
+	@echo 'make install-lib  the library alone: its header, its archives and hokhtura.pc'
 	@echo 'make uninstall  removes these again: at once'
 	@echo 'make test       the merge gate: every proof from nothing, must-fail edits, tests, programs, documents: some hours'
 	@echo 'make bench      measures one part beside its yardstick, NAME=$(NAME): minutes, on a quiet machine'
@@ -50,12 +52,14 @@ compare:
 	@echo "compare: by one thread the same bytes at each port"
 
 # The merge gate: the tests, built without proofs; every proof from nothing, the must-fail edits and the programs; then
-# that there is what refuses each wrong body of the table; and, with the program that was proved there, the cases of
-# tests/transcripts, runs that are refused memory, and the commands of the documents.
+# that there is what refuses each wrong body of the table; the C library over what was proved, and its tests from C, C++
+# and Rust; and, with the program that was proved there, the cases of tests/transcripts, runs that are refused memory,
+# and the commands of the documents.
 test:
 	tools/try-tests
-	rt ci
+	tools/build-capi rt ci
 	tools/try-bodies
+	ARCHIVE=$(CURDIR)/out/libcapi.a tools/try-capi
 	PKTKIT=$(CURDIR)/crates/pktkit/out/pktkit tools/try-transcripts
 	PKTKIT=$(CURDIR)/crates/pktkit/out/pktkit tools/try-memory
 	PKTKIT=$(CURDIR)/crates/pktkit/out/pktkit tools/try-docs
@@ -68,14 +72,26 @@ build:
 	  echo "make build: this toolchain's logic is $(LOGIC), and crates/cli/src/help.rt names another one" >&2
 	cd crates/pktkit && rt run < /dev/null > /dev/null
 
-install: build
+# Proves the crate capi and what it stands on, and leaves the C library over it in out/c: libhokhtura.a, libhokhtura.so.
+lib:
+	cd crates/capi && rt lib > /dev/null
+	@$(MAKE) --no-print-directory -C c OUT=$(CURDIR)/out/c
+
+# The library below PREFIX, with hokhtura.h and hokhtura.pc.
+install-lib: lib
+	@$(MAKE) --no-print-directory -C c install OUT=$(CURDIR)/out/c PREFIX=$(PREFIX) DESTDIR=$(DESTDIR)
+
+uninstall-lib:
+	@$(MAKE) --no-print-directory -C c uninstall PREFIX=$(PREFIX) DESTDIR=$(DESTDIR)
+
+install: build install-lib
 	install -D -m 755 crates/pktkit/out/pktkit $(BIN)/pktkit
 	install -D -m 644 man/pktkit.1 $(SHARE)/man/man1/pktkit.1
 	install -D -m 644 completions/pktkit.bash $(SHARE)/bash-completion/completions/pktkit
 	install -D -m 644 completions/_pktkit $(SHARE)/zsh/site-functions/_pktkit
 	install -D -m 644 completions/pktkit.fish $(SHARE)/fish/vendor_completions.d/pktkit.fish
 
-uninstall:
+uninstall: uninstall-lib
 	rm -f $(BIN)/pktkit $(SHARE)/man/man1/pktkit.1 $(SHARE)/bash-completion/completions/pktkit
 	rm -f $(SHARE)/zsh/site-functions/_pktkit $(SHARE)/fish/vendor_completions.d/pktkit.fish
 

@@ -33,8 +33,9 @@ PARTIES = {1: "1 producer, 1 consumer", 2: "2 producers, 2 consumers"}
 MODES = {"multi": ("multi", "rte_ring MP/MC"), "hts": ("HTS", "rte_ring HTS")}
 
 
-def together(ours, theirs, rounds, results=None):
-    """Measures threads on processors of their own, and adds the rows to the results if there are any to add them to."""
+def together(ours, theirs, rounds, results=None, pinned=False):
+    """Measures threads on processors of their own, and adds the rows to the results if there are any to add them to. Our
+    program is pinned from outside if it doesn't pin its threads itself."""
     print(f"{'threads, Mitem/s':<24} {'calls':>8} {'rte_ring':>9} {'ratio':>7}")
     for mode in ["multi", "hts"]:
         for pairs in [1, 2]:
@@ -44,7 +45,7 @@ def together(ours, theirs, rounds, results=None):
                 words = ["threads", mode, str(pairs), str(n), str(calls)]
                 runs = ([], [])
                 for _ in range(rounds):
-                    runs[0].append(rate([ours, *words], 2 * pairs))
+                    runs[0].append(rate([ours, *words], 0 if pinned else 2 * pairs))
                     runs[1].append(rate([theirs, *words]))
                 here, there = statistics.median(runs[0]), statistics.median(runs[1])
                 print(f"{f'{mode}, {pairs} and {pairs}, {n}':<24} {here:>8.4g} {there:>9.4g} {here / there:>7.2f}",

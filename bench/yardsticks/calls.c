@@ -33,7 +33,7 @@ static __attribute__((noinline)) void turns(struct rte_ring *ring, void **table,
 
 static void alone(void)
 {
-	static const unsigned sizes[] = { 1, 8, 32 };
+	static const unsigned sizes[] = { 1, 8, 32, 128 };
 	void *table[MOST];
 	for (unsigned i = 0; i < MOST; i++) table[i] = (void *)(uintptr_t)(i + 1);
 	for (int hts = 0; hts < 2; hts++)

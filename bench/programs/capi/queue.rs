@@ -1,0 +1,47 @@
+//! A ring of words through the Rust crate, beside crossbeam-queue's ArrayQueue: one thread, one word a call, and bursts
+//! of 32. Prints lines `name value unit`, and the rounds are the caller's.
+use crossbeam_queue::ArrayQueue;
+use hokhtura::Ring;
+use std::hint::black_box;
+use std::time::{Duration, Instant};
+
+const CAPACITY: usize = 1023;
+const CHUNK: usize = 20_000;
+
+/// Nanoseconds a word, of turns that move so many words each.
+fn timed(name: &str, words: usize, mut turn: impl FnMut()) {
+    let millis = std::env::var("BENCH_MS").ok().and_then(|text| text.parse().ok()).unwrap_or(100);
+    let limit = Duration::from_millis(millis);
+    for _ in 0..CHUNK {
+        turn();
+    }
+    let start = Instant::now();
+    let mut turns = 0;
+    while start.elapsed() < limit {
+        for _ in 0..CHUNK {
+            turn();
+        }
+        turns += CHUNK;
+    }
+    println!("{name} {:.4} ns/item", start.elapsed().as_nanos() as f64 / (turns * words) as f64);
+}
+
+fn main() -> Result<(), hokhtura::Error> {
+    let mut ring = Ring::new(CAPACITY)?;
+    let mut word = [0u64];
+    timed("one", 1, || {
+        assert_eq!(ring.try_put_bulk(&word), Ok(1));
+        assert_eq!(ring.try_take_bulk(&mut word), Ok(1));
+    });
+    let mut words = [0u64; 32];
+    timed("burst", 32, || {
+        assert_eq!(ring.try_put_burst(&words), Ok(32));
+        assert_eq!(ring.try_take_burst(&mut words), Ok(32));
+    });
+    let queue = ArrayQueue::new(CAPACITY);
+    timed("queue", 1, || {
+        assert!(queue.push(black_box(7u64)).is_ok());
+        assert!(queue.pop().is_some());
+    });
+    Ok(())
+}

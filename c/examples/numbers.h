@@ -1,0 +1,15 @@
+/* A number of a pool goes to another thread. */
+#include <hokhtura.h>
+#include <sched.h>
+
+static int64_t pass(hk_pool *pool, size_t ring) {
+    uint32_t number;
+    int64_t code = hk_pool_try_get_bulk(pool, &number, 1);
+    if (code < 0) return code;
+    while ((code = hk_pool_try_send_bulk(pool, ring, &number, 1)) == HK_E_AGAIN) sched_yield();
+    return code;
+}
+
+static int64_t take_over(hk_pool *pool, size_t ring, uint32_t *number) {
+    return hk_pool_try_receive_bulk(pool, ring, number, 1);
+}

@@ -1,0 +1,407 @@
+/* The calls of hokhtura.h over the proved exports hkx_*. Arrays and counts are checked here, and a step that failed
+ * because of another thread is tried again; everything else is done there.
+ *
+ * A handle is the address of a box of the proved side. An export takes a cell that holds this address: it empties the
+ * cell, works, and puts the same address back. So a cell lives for one call. */
+#include "hokhtura.h"
+
+#include <stdbool.h>
+
+struct hk_cell {
+    void *at;
+};
+
+extern int64_t hkx_free(struct hk_cell *);
+extern int64_t hkx_hand_open(struct hk_cell *, const hk_ring_plan *, size_t);
+extern int64_t hkx_hand_split(struct hk_cell *, struct hk_cell *);
+extern int64_t hkx_hand_span(struct hk_cell *);
+extern int64_t hkx_hand_left(struct hk_cell *);
+extern int64_t hkx_hand_close(struct hk_cell *);
+extern int64_t hkx_hand_drain(struct hk_cell *, size_t, uint64_t *, size_t);
+extern int64_t hkx_ring_put(struct hk_cell *, size_t, const uint64_t *, size_t, bool);
+extern int64_t hkx_ring_take(struct hk_cell *, size_t, uint64_t *, size_t, bool);
+extern int64_t hkx_ring_peek_put(struct hk_cell *, size_t, size_t, bool);
+extern int64_t hkx_ring_peek_take(struct hk_cell *, size_t, uint64_t *, size_t, bool);
+extern int64_t hkx_ring_finish_put(struct hk_cell *, const uint64_t *, size_t);
+extern int64_t hkx_ring_finish_take(struct hk_cell *, size_t);
+extern int64_t hkx_ring_room(struct hk_cell *, size_t, bool);
+extern int64_t hkx_pool_open(struct hk_cell *, uint32_t, uint32_t, uint32_t);
+extern int64_t hkx_pool_split(struct hk_cell *, struct hk_cell *);
+extern int64_t hkx_pool_get(struct hk_cell *, uint32_t *, size_t);
+extern int64_t hkx_pool_put(struct hk_cell *, const uint32_t *, size_t);
+extern int64_t hkx_pool_flush(struct hk_cell *);
+extern int64_t hkx_pool_cached(struct hk_cell *);
+extern int64_t hkx_pool_owns(struct hk_cell *, uint32_t);
+extern int64_t hkx_pool_send(struct hk_cell *, size_t, const uint32_t *, size_t);
+extern int64_t hkx_pool_receive(struct hk_cell *, size_t, uint32_t *, size_t);
+extern int64_t hkx_routes_open(struct hk_cell *, uint32_t, uint32_t);
+extern int64_t hkx_routes_share(struct hk_cell *, struct hk_cell *);
+extern int64_t hkx_routes_add(struct hk_cell *, uint32_t, uint32_t, uint32_t);
+extern int64_t hkx_routes_remove(struct hk_cell *, uint32_t, uint32_t);
+extern int64_t hkx_routes_lookup(struct hk_cell *, uint32_t);
+extern int64_t hkx_routes_lookup_bulk(struct hk_cell *, const uint32_t *, size_t, uint32_t *, size_t);
+extern int64_t hkx_reorder_open(struct hk_cell *, uint32_t);
+extern int64_t hkx_reorder_insert(struct hk_cell *, uint64_t, uint64_t);
+extern int64_t hkx_reorder_drain(struct hk_cell *, uint64_t *, size_t);
+extern int64_t hkx_reorder_next(struct hk_cell *, uint64_t *);
+extern int64_t hkx_reorder_skip(struct hk_cell *, uint64_t);
+
+/* An array of no words has an address, too. */
+static uint64_t no_words[1];
+
+/* Checks the array of a call on n words: 0 if the call may go on, else the code to return. */
+static inline int64_t refused(const void *words, size_t n) {
+    if (n > HK_MOST) return HK_E_COUNT;
+    return words || n == 0 ? HK_OK : HK_E_NULL;
+}
+
+/* ---- Rings ---- */
+
+int64_t hk_hand_open(hk_hand **out, const hk_ring_plan *plans, size_t count) {
+    if (!out || !plans) return HK_E_NULL;
+    if (count > HK_MOST_RINGS) return HK_E_PLAN;
+    struct hk_cell cell = {NULL};
+    int64_t code = hkx_hand_open(&cell, plans, count);
+    if (code >= 0) *out = cell.at;
+    return code;
+}
+
+int64_t hk_hand_split(hk_hand *hand, hk_hand **out) {
+    if (!out) return HK_E_NULL;
+    struct hk_cell first = {hand}, second = {NULL};
+    int64_t code = hkx_hand_split(&first, &second);
+    if (code >= 0) *out = second.at;
+    return code;
+}
+
+void hk_hand_free(hk_hand *hand) {
+    struct hk_cell cell = {hand};
+    (void)hkx_free(&cell);
+}
+
+/* An export tries each step once. If another thread came first, the calls below try again, this often at most. */
+enum { TURNS = 1024 };
+
+static inline void pause_a_moment(void) {
+#if defined(__x86_64__)
+    __builtin_ia32_pause();
+#endif
+}
+
+/* Tries to settle the put that the hand has open until it is settled. */
+static int64_t finish_put(struct hk_cell *cell, const uint64_t *words, size_t n) {
+    int64_t code = hkx_ring_finish_put(cell, words, n);
+    for (unsigned turn = 1; code == HK_E_PENDING && turn < TURNS; turn++) {
+        pause_a_moment();
+        code = hkx_ring_finish_put(cell, words, n);
+    }
+    return code;
+}
+
+static int64_t finish_take(struct hk_cell *cell, size_t n) {
+    int64_t code = hkx_ring_finish_take(cell, n);
+    for (unsigned turn = 1; code == HK_E_PENDING && turn < TURNS; turn++) {
+        pause_a_moment();
+        code = hkx_ring_finish_take(cell, n);
+    }
+    return code;
+}
+
+/* Goes on with a put whose first try returned a code. */
+static int64_t put_again(struct hk_cell *cell, size_t ring, const uint64_t *words, size_t n, bool bulk, int64_t code) {
+    for (unsigned turn = 1; code == HK_E_AGAIN && turn < TURNS; turn++) {
+        pause_a_moment();
+        code = hkx_ring_put(cell, ring, words, n, bulk);
+    }
+    return code == HK_E_PENDING ? finish_put(cell, words, n) : code;
+}
+
+static int64_t take_again(struct hk_cell *cell, size_t ring, uint64_t *words, size_t n, bool bulk, int64_t code) {
+    for (unsigned turn = 1; code == HK_E_AGAIN && turn < TURNS; turn++) {
+        pause_a_moment();
+        code = hkx_ring_take(cell, ring, words, n, bulk);
+    }
+    return code == HK_E_PENDING ? finish_take(cell, n) : code;
+}
+
+static inline int64_t put(hk_hand *hand, size_t ring, const uint64_t *words, size_t n, bool bulk) {
+    int64_t code = refused(words, n);
+    if (code < 0) return code;
+    struct hk_cell cell = {hand};
+    if (!words) words = no_words;
+    code = hkx_ring_put(&cell, ring, words, n, bulk);
+    return code >= 0 ? code : put_again(&cell, ring, words, n, bulk, code);
+}
+
+int64_t hk_ring_try_put_bulk(hk_hand *hand, size_t ring, const uint64_t *words, size_t n) {
+    return put(hand, ring, words, n, true);
+}
+
+int64_t hk_ring_try_put_burst(hk_hand *hand, size_t ring, const uint64_t *words, size_t n) {
+    return put(hand, ring, words, n, false);
+}
+
+static inline int64_t take(hk_hand *hand, size_t ring, uint64_t *words, size_t n, bool bulk) {
+    int64_t code = refused(words, n);
+    if (code < 0) return code;
+    struct hk_cell cell = {hand};
+    if (!words) words = no_words;
+    code = hkx_ring_take(&cell, ring, words, n, bulk);
+    return code >= 0 ? code : take_again(&cell, ring, words, n, bulk, code);
+}
+
+int64_t hk_ring_try_take_bulk(hk_hand *hand, size_t ring, uint64_t *words, size_t n) {
+    return take(hand, ring, words, n, true);
+}
+
+int64_t hk_ring_try_take_burst(hk_hand *hand, size_t ring, uint64_t *words, size_t n) {
+    return take(hand, ring, words, n, false);
+}
+
+static inline int64_t peek_put(hk_hand *hand, size_t ring, size_t n, bool bulk) {
+    struct hk_cell cell = {hand};
+    int64_t code = hkx_ring_peek_put(&cell, ring, n, bulk);
+    for (unsigned turn = 1; code == HK_E_AGAIN && turn < TURNS; turn++) {
+        pause_a_moment();
+        code = hkx_ring_peek_put(&cell, ring, n, bulk);
+    }
+    return code;
+}
+
+int64_t hk_ring_peek_put_bulk(hk_hand *hand, size_t ring, size_t n) {
+    return peek_put(hand, ring, n, true);
+}
+
+int64_t hk_ring_peek_put_burst(hk_hand *hand, size_t ring, size_t n) {
+    return peek_put(hand, ring, n, false);
+}
+
+static inline int64_t peek_take(hk_hand *hand, size_t ring, uint64_t *words, size_t n, bool bulk) {
+    int64_t code = refused(words, n);
+    if (code < 0) return code;
+    struct hk_cell cell = {hand};
+    if (!words) words = no_words;
+    code = hkx_ring_peek_take(&cell, ring, words, n, bulk);
+    for (unsigned turn = 1; code == HK_E_AGAIN && turn < TURNS; turn++) {
+        pause_a_moment();
+        code = hkx_ring_peek_take(&cell, ring, words, n, bulk);
+    }
+    return code;
+}
+
+int64_t hk_ring_peek_take_bulk(hk_hand *hand, size_t ring, uint64_t *words, size_t n) {
+    return peek_take(hand, ring, words, n, true);
+}
+
+int64_t hk_ring_peek_take_burst(hk_hand *hand, size_t ring, uint64_t *words, size_t n) {
+    return peek_take(hand, ring, words, n, false);
+}
+
+int64_t hk_ring_finish_put(hk_hand *hand, const uint64_t *words, size_t n) {
+    int64_t code = refused(words, n);
+    if (code < 0) return code;
+    struct hk_cell cell = {hand};
+    return finish_put(&cell, words ? words : no_words, n);
+}
+
+int64_t hk_ring_finish_take(hk_hand *hand, size_t n) {
+    struct hk_cell cell = {hand};
+    return finish_take(&cell, n);
+}
+
+int64_t hk_hand_span(hk_hand *hand) {
+    struct hk_cell cell = {hand};
+    return hkx_hand_span(&cell);
+}
+
+int64_t hk_hand_left(hk_hand *hand) {
+    struct hk_cell cell = {hand};
+    return hkx_hand_left(&cell);
+}
+
+int64_t hk_ring_count(hk_hand *hand, size_t ring) {
+    struct hk_cell cell = {hand};
+    return hkx_ring_room(&cell, ring, true);
+}
+
+int64_t hk_ring_room(hk_hand *hand, size_t ring) {
+    struct hk_cell cell = {hand};
+    return hkx_ring_room(&cell, ring, false);
+}
+
+int64_t hk_hand_close(hk_hand *hand) {
+    struct hk_cell cell = {hand};
+    return hkx_hand_close(&cell);
+}
+
+int64_t hk_hand_drain(hk_hand *hand, size_t ring, uint64_t *words, size_t n) {
+    int64_t code = refused(words, n);
+    if (code < 0) return code;
+    struct hk_cell cell = {hand};
+    return hkx_hand_drain(&cell, ring, words ? words : no_words, n);
+}
+
+/* ---- Pools ---- */
+
+/* An array of no numbers has an address, too. */
+static uint32_t no_numbers[1];
+
+static inline int64_t refused_numbers(const void *numbers, size_t n) {
+    if (n > HK_POOL_MOST) return HK_E_COUNT;
+    return numbers || n == 0 ? HK_OK : HK_E_NULL;
+}
+
+int64_t hk_pool_open(hk_pool **out, uint32_t n, uint32_t cache, uint32_t rings) {
+    if (!out) return HK_E_NULL;
+    struct hk_cell cell = {NULL};
+    int64_t code = hkx_pool_open(&cell, n, cache, rings);
+    if (code >= 0) *out = cell.at;
+    return code;
+}
+
+int64_t hk_pool_split(hk_pool *pool, hk_pool **out) {
+    if (!out) return HK_E_NULL;
+    struct hk_cell first = {pool}, second = {NULL};
+    int64_t code = hkx_pool_split(&first, &second);
+    if (code >= 0) *out = second.at;
+    return code;
+}
+
+void hk_pool_free(hk_pool *pool) {
+    struct hk_cell cell = {pool};
+    (void)hkx_free(&cell);
+}
+
+int64_t hk_pool_try_get_bulk(hk_pool *pool, uint32_t *numbers, size_t n) {
+    int64_t code = refused_numbers(numbers, n);
+    if (code < 0) return code;
+    struct hk_cell cell = {pool};
+    return hkx_pool_get(&cell, numbers ? numbers : no_numbers, n);
+}
+
+int64_t hk_pool_try_put_bulk(hk_pool *pool, const uint32_t *numbers, size_t n) {
+    int64_t code = refused_numbers(numbers, n);
+    if (code < 0) return code;
+    struct hk_cell cell = {pool};
+    return hkx_pool_put(&cell, numbers ? numbers : no_numbers, n);
+}
+
+int64_t hk_pool_try_flush(hk_pool *pool) {
+    struct hk_cell cell = {pool};
+    return hkx_pool_flush(&cell);
+}
+
+int64_t hk_pool_cached(hk_pool *pool) {
+    struct hk_cell cell = {pool};
+    return hkx_pool_cached(&cell);
+}
+
+int64_t hk_pool_owns(hk_pool *pool, uint32_t number) {
+    struct hk_cell cell = {pool};
+    return hkx_pool_owns(&cell, number);
+}
+
+int64_t hk_pool_try_send_bulk(hk_pool *pool, size_t ring, const uint32_t *numbers, size_t n) {
+    int64_t code = refused_numbers(numbers, n);
+    if (code < 0) return code;
+    struct hk_cell cell = {pool};
+    return hkx_pool_send(&cell, ring, numbers ? numbers : no_numbers, n);
+}
+
+int64_t hk_pool_try_receive_bulk(hk_pool *pool, size_t ring, uint32_t *numbers, size_t n) {
+    int64_t code = refused_numbers(numbers, n);
+    if (code < 0) return code;
+    struct hk_cell cell = {pool};
+    return hkx_pool_receive(&cell, ring, numbers ? numbers : no_numbers, n);
+}
+
+/* ---- Routes ---- */
+
+int64_t hk_routes_open(hk_routes **out, uint32_t bits, uint32_t groups) {
+    if (!out) return HK_E_NULL;
+    struct hk_cell cell = {NULL};
+    int64_t code = hkx_routes_open(&cell, bits, groups);
+    if (code >= 0) *out = cell.at;
+    return code;
+}
+
+int64_t hk_routes_share(hk_routes *routes, hk_routes **out) {
+    if (!out) return HK_E_NULL;
+    struct hk_cell first = {routes}, second = {NULL};
+    int64_t code = hkx_routes_share(&first, &second);
+    if (code >= 0) *out = second.at;
+    return code;
+}
+
+int64_t hk_routes_add(hk_routes *routes, uint32_t address, uint32_t depth, uint32_t hop) {
+    struct hk_cell cell = {routes};
+    return hkx_routes_add(&cell, address, depth, hop);
+}
+
+int64_t hk_routes_remove(hk_routes *routes, uint32_t address, uint32_t depth) {
+    struct hk_cell cell = {routes};
+    return hkx_routes_remove(&cell, address, depth);
+}
+
+int64_t hk_routes_lookup(hk_routes *routes, uint32_t address) {
+    struct hk_cell cell = {routes};
+    return hkx_routes_lookup(&cell, address);
+}
+
+int64_t hk_routes_lookup_bulk(hk_routes *routes, const uint32_t *addresses, uint32_t *hops, size_t n) {
+    static uint32_t none[1];
+    if (n > SIZE_MAX / 8) return HK_E_COUNT;
+    if (n > 0 && (!addresses || !hops)) return HK_E_NULL;
+    struct hk_cell cell = {routes};
+    return hkx_routes_lookup_bulk(&cell, addresses ? addresses : none, n, hops ? hops : none, n);
+}
+
+void hk_routes_free(hk_routes *routes) {
+    struct hk_cell cell = {routes};
+    (void)hkx_free(&cell);
+}
+
+/* ---- Reorder windows ---- */
+
+int64_t hk_reorder_open(hk_reorder **out, uint32_t size) {
+    if (!out) return HK_E_NULL;
+    struct hk_cell cell = {NULL};
+    int64_t code = hkx_reorder_open(&cell, size);
+    if (code >= 0) *out = cell.at;
+    return code;
+}
+
+int64_t hk_reorder_insert(hk_reorder *window, uint64_t number, uint64_t word) {
+    struct hk_cell cell = {window};
+    return hkx_reorder_insert(&cell, number, word);
+}
+
+int64_t hk_reorder_drain(hk_reorder *window, uint64_t *words, size_t n) {
+    int64_t code = refused(words, n);
+    if (code < 0) return code;
+    struct hk_cell cell = {window};
+    return hkx_reorder_drain(&cell, words ? words : no_words, n);
+}
+
+int64_t hk_reorder_pop(hk_reorder *window, uint64_t *word) {
+    if (!word) return HK_E_NULL;
+    int64_t count = hk_reorder_drain(window, word, 1);
+    if (count < 0) return count;
+    return count == 0 ? HK_E_NOTHING : HK_OK;
+}
+
+int64_t hk_reorder_next(hk_reorder *window, uint64_t *number) {
+    if (!number) return HK_E_NULL;
+    struct hk_cell cell = {window};
+    return hkx_reorder_next(&cell, number);
+}
+
+int64_t hk_reorder_skip(hk_reorder *window, uint64_t number) {
+    struct hk_cell cell = {window};
+    return hkx_reorder_skip(&cell, number);
+}
+
+void hk_reorder_free(hk_reorder *window) {
+    struct hk_cell cell = {window};
+    (void)hkx_free(&cell);
+}

@@ -1,0 +1,146 @@
+/* Each request for memory is refused once: the call says HK_E_MEMORY, and nothing is lost. Then every request after the
+ * openings is refused: the calls that take no memory go on. Linked with --wrap for malloc, realloc and free. */
+#include "tests.h"
+
+#include <stdlib.h>
+
+extern void *__real_malloc(size_t);
+extern void *__real_realloc(void *, size_t);
+extern void __real_free(void *);
+void *__wrap_malloc(size_t);
+void *__wrap_realloc(void *, size_t);
+void __wrap_free(void *);
+
+static long count, from, to, live;
+
+static int is_refused(void) {
+    count++;
+    return count >= from && count < to;
+}
+
+void *__wrap_malloc(size_t n) {
+    if (is_refused()) return NULL;
+    void *at = __real_malloc(n);
+    live += at != NULL;
+    return at;
+}
+
+void *__wrap_realloc(void *was, size_t n) {
+    if (is_refused()) return NULL;
+    void *at = __real_realloc(was, n);
+    live += at != NULL && was == NULL;
+    return at;
+}
+
+void __wrap_free(void *at) {
+    live -= at != NULL;
+    __real_free(at);
+}
+
+static int said, other;
+
+static void tell(int64_t code) {
+    if (code == HK_E_MEMORY) said++;
+    else if (code < 0) other++;
+}
+
+struct all {
+    hk_hand *hand, *second;
+    hk_routes *routes, *lookups;
+    hk_reorder *window;
+    hk_pool *pool, *further;
+};
+
+/* A split that is refused leaves the cache as it is. */
+static void split_pool(struct all *all) {
+    uint32_t number;
+    IS(hk_pool_try_get_bulk(all->pool, &number, 1), 1);
+    tell(hk_pool_split(all->pool, &all->further));
+    IS(hk_pool_cached(all->pool), 8), IS(hk_pool_owns(all->pool, number), 1);
+    IS(hk_pool_try_put_bulk(all->pool, &number, 1), 1);
+}
+
+static void open_all(struct all *all) {
+    hk_ring_plan plans[2] = {{8, 0, HK_MULTI, HK_MULTI}, {5, 1, HK_HTS, HK_HTS}};
+    *all = (struct all){NULL, NULL, NULL, NULL, NULL, NULL, NULL};
+    tell(hk_hand_open(&all->hand, plans, 2));
+    if (all->hand) tell(hk_hand_split(all->hand, &all->second));
+    tell(hk_routes_open(&all->routes, 16, 4));
+    if (all->routes) {
+        tell(hk_routes_add(all->routes, 0x0a000000, 8, 1));
+        tell(hk_routes_add(all->routes, 0x0a000000, 24, 2));
+        tell(hk_routes_add(all->routes, 0x0a010000, 25, 3));
+        tell(hk_routes_share(all->routes, &all->lookups));
+    }
+    tell(hk_reorder_open(&all->window, 16));
+    tell(hk_pool_open(&all->pool, 2000, 8, 2));
+    if (all->pool) split_pool(all);
+}
+
+static void free_all(struct all *all) {
+    hk_hand_free(all->hand);
+    hk_hand_free(all->second);
+    hk_routes_free(all->routes);
+    hk_routes_free(all->lookups);
+    hk_reorder_free(all->window);
+    hk_pool_free(all->pool);
+    hk_pool_free(all->further);
+}
+
+/* Calls that take no memory, each once. */
+static void call_all(struct all *all) {
+    uint64_t words[4] = {1, 2, 3, 4};
+    uint32_t addresses[2] = {0x0a000001, 0x0b000000}, hops[2], numbers[64];
+    IS(hk_ring_try_put_bulk(all->hand, 0, words, 4), 4);
+    IS(hk_ring_try_take_burst(all->second, 0, words, 4), 4);
+    IS(hk_ring_peek_put_bulk(all->hand, 1, 2), 2);
+    IS(hk_ring_finish_put(all->hand, words, 2), 2);
+    IS(hk_ring_peek_take_burst(all->hand, 1, words, 4), 2);
+    IS(hk_ring_finish_take(all->hand, 1), 1);
+    IS(hk_ring_count(all->hand, 1), 1);
+    IS(hk_routes_lookup(all->lookups, 0x0a000001), 2);
+    IS(hk_routes_lookup_bulk(all->lookups, addresses, hops, 2), HK_OK);
+    hk_routes_free(all->lookups);
+    all->lookups = NULL;
+    IS(hk_routes_remove(all->routes, 0x0a000000, 24), HK_OK);
+    IS(hk_reorder_insert(all->window, 0, 7), HK_OK);
+    IS(hk_reorder_drain(all->window, words, 4), 1);
+    IS(hk_pool_try_get_bulk(all->pool, numbers, 64), 64);
+    IS(hk_pool_try_put_bulk(all->pool, numbers, 40), 40);
+    IS(hk_pool_try_put_bulk(all->pool, numbers + 40, 2), 2);
+    IS(hk_pool_try_send_bulk(all->pool, 1, numbers + 42, 22), 22);
+    IS(hk_pool_try_receive_bulk(all->further, 1, numbers, 22), 22);
+    IS(hk_pool_owns(all->further, numbers[21]), 1);
+    IS(hk_pool_try_put_bulk(all->further, numbers, 10), 10);
+    IS(hk_pool_cached(all->further), 10);
+    IS(hk_pool_try_flush(all->further), 10);
+    hk_hand_free(all->second);
+    all->second = NULL;
+    IS(hk_hand_close(all->hand), HK_OK);
+    IS(hk_hand_drain(all->hand, 1, words, 4), 1);
+}
+
+int main(void) {
+    struct all all;
+    open_all(&all);
+    free_all(&all);
+    IS(said, 0), IS(other, 0), IS(live, 0);
+    long requests = count;
+    IS(requests > 10, 1);
+    for (from = 1; from <= requests; from++) {
+        to = from + 1;
+        count = said = other = 0;
+        open_all(&all);
+        free_all(&all);
+        IS(said, 1), IS(other, 0), IS(live, 0);
+    }
+    count = from = to = 0;
+    open_all(&all);
+    long before = count;
+    count = 0, from = 1, to = 1000000;
+    call_all(&all);
+    IS(count, 0), IS(before, requests);
+    free_all(&all);
+    IS(live, 0);
+    return hk_count_up("memory");
+}

@@ -1,0 +1,61 @@
+-- What calls on rings do to what a handle has
+use Rattle.std.specs.Prelude.{◌≡◌, Option, None, Some, Bool, true, false}
+use Rattle.geom.specs.declared.plan.How.{How}
+use Rattle.geom.specs.declared.plan.How.TheVariants.{Bulk, Burst}
+use Rattle.capi.specs.Codes.{Outcome}
+use Rattle.capi.specs.Handles.{IsEmpty, IsOther}
+use Rattle.capi.specs.declared.fault.Fault.{Fault}
+use Rattle.capi.specs.declared.fault.Fault.TheVariants as fault
+use Rattle.capi.specs.declared.member.Member.{Member}
+use Rattle.capi.specs.declared.closing.Rest.{Rest}
+use Rattle.capi.specs.declared.object.Object.{Object}
+use Rattle.capi.specs.declared.object.Object.TheVariants as object
+
+abbrev pub how_of : Bool → How
+how_of true = Bulk
+how_of false = Burst
+
+-- the handle has a hand, of which this holds
+abbrev pub HasHand : Option Object → (Member → Type 0) → Type 0
+HasHand None holds = ⊥
+HasHand (Some (object.Hand m)) holds = holds m
+HasHand (Some (object.Rest r)) holds = ⊥
+HasHand (Some (object.Pool p)) holds = ⊥
+HasHand (Some (object.Routes t)) holds = ⊥
+HasHand (Some (object.Reorder w)) holds = ⊥
+
+-- the handle has what is left of closed rings
+abbrev pub HasRest : Option Object → (Rest → Type 0) → Type 0
+HasRest None holds = ⊥
+HasRest (Some (object.Hand m)) holds = ⊥
+HasRest (Some (object.Rest r)) holds = holds r
+HasRest (Some (object.Routes t)) holds = ⊥
+HasRest (Some (object.Reorder w)) holds = ⊥
+HasRest (Some (object.Pool p)) holds = ⊥
+
+-- a call of a hand
+abbrev pub AtHand : Option Object → Option Object → Outcome → (Member → Member → Type 0) → Type 0
+AtHand None new outcome does = IsEmpty outcome new
+AtHand (Some (object.Hand m)) new outcome does = HasHand new (does m)
+AtHand (Some (object.Rest r)) new outcome does = IsOther outcome (object.Rest r) new
+AtHand (Some (object.Pool p)) new outcome does = IsOther outcome (object.Pool p) new
+AtHand (Some (object.Routes t)) new outcome does = IsOther outcome (object.Routes t) new
+AtHand (Some (object.Reorder w)) new outcome does = IsOther outcome (object.Reorder w) new
+
+-- a call on what is left of closed rings
+abbrev pub AtRest : Option Object → Option Object → Outcome → (Rest → Rest → Type 0) → Type 0
+AtRest None new outcome does = IsEmpty outcome new
+AtRest (Some (object.Rest r)) new outcome does = HasRest new (does r)
+AtRest (Some (object.Hand m)) new outcome does = IsOther outcome (object.Hand m) new
+AtRest (Some (object.Routes t)) new outcome does = IsOther outcome (object.Routes t) new
+AtRest (Some (object.Reorder w)) new outcome does = IsOther outcome (object.Reorder w) new
+AtRest (Some (object.Pool p)) new outcome does = IsOther outcome (object.Pool p) new
+
+-- why there is no hand
+abbrev pub HasNoHand : Option Object → Fault → Type 0
+HasNoHand None why = why ≡ fault.Empty
+HasNoHand (Some (object.Hand m)) why = ⊥
+HasNoHand (Some (object.Rest r)) why = why ≡ fault.Kind
+HasNoHand (Some (object.Pool p)) why = why ≡ fault.Kind
+HasNoHand (Some (object.Routes t)) why = why ≡ fault.Kind
+HasNoHand (Some (object.Reorder w)) why = why ≡ fault.Kind

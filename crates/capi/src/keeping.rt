@@ -1,0 +1,63 @@
+//! Taking an object out of a handle for a call, and putting it back.
+ghost use Rattle.std.specs.Prelude.{◌≡◌, MatchOption, None, Some, false};
+ghost use Rattle.capi.specs.Codes.{Answers};
+ghost use Rattle.capi.specs.Handles.{Frees, GivesOut};
+
+use crate::fault::{Fault, answer};
+use crate::handle::Handle;
+use crate::object::Object;
+use std::alloc::Global;
+
+/// Takes the box out of a handle, which then is null.
+pub(crate) fn borrow(alloc: Global, h: &mut Handle) -> Option<Box<Option<Object>>>
+    ensures out { MatchOption result (h.old.value ≡ None) (λ b. b.value ≡ h.old.value) }
+    ensures null { h.new.value ≡ None }
+{
+    std::mem::replace(h, Handle::none(alloc)).into_box()
+}
+
+/// Whether a handle isn't null.
+pub(crate) fn is_used(alloc: Global, h: &mut Handle) -> bool
+    ensures kept { h.new.value ≡ h.old.value }
+    ensures free { result ≡ false → h.old.value ≡ None }
+{
+    match borrow(alloc, h) {
+        Some(slot) => {
+            *h = Handle::of(slot);
+            true
+        }
+        None => false,
+    }
+}
+
+/// Puts an object into a null handle. Errors: `Memory`; then the object is dropped.
+pub(crate) fn give(alloc: Global, object: Object, h: &mut Handle) -> Result<u32, Fault>
+    requires empty { h.old.value ≡ None }
+    ensures { GivesOut result object h.new.value }
+{
+    match Box::new(alloc, Some(object)) {
+        Ok(slot) => {
+            *h = Handle::of(slot);
+            Ok(0)
+        }
+        Err(_) => Err(Fault::Memory),
+    }
+}
+
+/// Drops what a handle has. Then the handle is null.
+fn free(alloc: Global, h: &mut Handle) -> Result<u32, Fault>
+    ensures { Frees result h.old.value h.new.value }
+{
+    match borrow(alloc, h) {
+        Some(_) => Ok(0),
+        None => Err(Fault::Empty),
+    }
+}
+
+/// Frees what a handle has. Then the handle is null.
+#[unsafe(no_mangle)]
+pub extern "C" fn hkx_free(alloc: Global, h: &mut Handle) -> i64
+    ensures { Answers result (λ outcome. Frees outcome h.old.value h.new.value) }
+{
+    answer(free(alloc, h))
+}

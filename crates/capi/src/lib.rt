@@ -1,0 +1,43 @@
+//! The exports of the C library: rings of words, pools of numbers, routes and reorder windows, over handles that C
+//! keeps.
+#![tactic(auto)]
+
+mod closing;
+mod ending;
+mod fault;
+mod finishing;
+mod hand_exports;
+mod hand_looks;
+mod hand_slots;
+mod handle;
+mod keeping;
+mod loose;
+mod making;
+mod member;
+mod member_calls;
+mod object;
+mod opening;
+mod peeking;
+mod pool_exports;
+mod pool_gets;
+mod pool_handles;
+mod pool_member;
+mod pool_opening;
+mod pool_passing;
+mod pool_puts;
+mod pool_slots;
+mod pool_splits;
+mod pool_tries;
+mod put;
+mod reorder_exports;
+mod reorder_windows;
+mod ring_exports;
+mod route_exports;
+mod route_tables;
+mod settling;
+mod span_calls;
+mod span_exports;
+mod starting;
+mod take;
+mod whole_calls;
+mod word64;

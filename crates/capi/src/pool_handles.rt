@@ -1,0 +1,108 @@
+//! The exports that open and split pools.
+ghost use Rattle.std.specs.Prelude.{◌≡◌, IfErr, IfOk, None, Some};
+ghost use Rattle.capi.specs.Codes.{Answers};
+ghost use Rattle.capi.specs.PoolHandles.{HasNoPool, OpensPool, SplitsPool, SplitsPoolAt};
+ghost use Rattle.capi.specs.declared.object.Object.TheVariants as object;
+
+use crate::fault::{Fault, answer};
+use crate::handle::Handle;
+use crate::keeping::{borrow, give, is_used};
+use crate::object::Object;
+use crate::pool_member::PoolMember;
+use crate::pool_opening::open_pool;
+use crate::pool_splits::split_pool;
+use std::alloc::Global;
+
+/// Puts a new pool into a null handle.
+fn open_at(alloc: Global, h: &mut Handle, n: u32, size: u32, rings: u32) -> Result<u32, Fault>
+    ensures { OpensPool result n size rings h.old.value h.new.value }
+{
+    if is_used(alloc, h) {
+        return Err(Fault::Used);
+    }
+    match open_pool(alloc, n, size, rings) {
+        Ok(pool) => give(alloc, Object::Pool(pool), h),
+        Err(why) => Err(why),
+    }
+}
+
+/// Opens a pool of n numbers, with this size of cache for each handle, and as many rings to pass numbers on.
+#[unsafe(no_mangle)]
+pub extern "C" fn hkx_pool_open(alloc: Global, h: &mut Handle, n: u32, size: u32, rings: u32) -> i64
+    ensures { Answers result (λ outcome. OpensPool outcome n size rings h.old.value h.new.value) }
+{
+    answer(open_at(alloc, h, n, size, rings))
+}
+
+/// The pool of a handle. Errors: `Empty`; `Kind`. Nothing is changed then.
+fn take_pool(slot: &mut Option<Object>) -> Result<PoolMember, Fault>
+    ensures pool { IfOk result (λ p. (slot.old ≡ Some (object.Pool p)) × (slot.new ≡ None)) }
+    ensures none { IfErr result (λ why. HasNoPool slot.old why × (slot.new ≡ slot.old)) }
+{
+    match slot {
+        Some(Object::Pool(_)) => (),
+        Some(_) => return Err(Fault::Kind),
+        None => return Err(Fault::Empty),
+    }
+    match slot.take() {
+        Some(Object::Pool(pool)) => Ok(pool),
+        _ => unreachable!(),
+    }
+}
+
+/// Splits the pool of a handle; the second handle's goes into `room`.
+fn split_into(
+    alloc: Global,
+    slot: &mut Option<Object>,
+    room: &mut Option<Object>,
+) -> Result<u32, Fault>
+    requires empty { room.old ≡ None }
+    ensures { SplitsPool result slot.old slot.new room.new }
+{
+    match take_pool(slot) {
+        Ok(pool) => {
+            let (pool, made) = split_pool(alloc, pool);
+            *slot = Some(Object::Pool(pool));
+            match made {
+                Ok(other) => {
+                    *room = Some(Object::Pool(other));
+                    Ok(0)
+                }
+                Err(why) => Err(why),
+            }
+        }
+        Err(why) => Err(why),
+    }
+}
+
+fn split_at(alloc: Global, h: &mut Handle, second: &mut Handle) -> Result<u32, Fault>
+    ensures { SplitsPoolAt result h.old.value h.new.value second.old.value second.new.value }
+{
+    if is_used(alloc, second) {
+        return Err(Fault::Used);
+    }
+    let Ok(mut room) = Box::new(alloc, None) else {
+        return Err(Fault::Memory);
+    };
+    let Some(mut slot) = borrow(alloc, h) else {
+        return Err(Fault::Empty);
+    };
+    let outcome = split_into(alloc, &mut slot, &mut room);
+    *h = Handle::of(slot);
+    match outcome {
+        Ok(count) => {
+            *second = Handle::of(room);
+            Ok(count)
+        }
+        Err(why) => Err(why),
+    }
+}
+
+/// Gives the second handle, which is null, another cache on the same pool.
+#[unsafe(no_mangle)]
+pub extern "C" fn hkx_pool_split(alloc: Global, h: &mut Handle, second: &mut Handle) -> i64
+    ensures { Answers result
+        (λ outcome. SplitsPoolAt outcome h.old.value h.new.value second.old.value second.new.value) }
+{
+    answer(split_at(alloc, h, second))
+}

@@ -1,0 +1,178 @@
+//! Calls on a table of routes. Several handles may share one; it changes only while a single handle has it.
+ghost use Rattle.std.specs.Prelude.{◌≡◌, ◌⊎◌, IfErr, IfOk, length, map};
+ghost use Rattle.lpm.specs.Match.{lookup_in};
+ghost use Rattle.lpm.specs.Routes.{IsNew};
+ghost use Rattle.capi.specs.Handles.{AtRoutes};
+ghost use Rattle.capi.specs.Tables.{Adds, FindsTable, LooksUpAll, RefusesTable, Removes, fault_of, hop_found, hop_word};
+
+use crate::fault::Fault;
+use crate::object::Object;
+use lpm::{RouteFault, Table};
+use std::alloc::Global;
+use std::sync::Arc;
+
+/// What a lookup of many addresses writes where no route covers the address.
+const NO_HOP: u32 = 0xffff_ffff;
+
+/// The fault for one of the table's own.
+fn fault(why: RouteFault) -> Fault
+    ensures { result ≡ fault_of why }
+{
+    match why {
+        RouteFault::BadDepth => Fault::Depth,
+        RouteFault::BadHop => Fault::Hop,
+        RouteFault::NoGroup => Fault::Groups,
+        RouteFault::Memory => Fault::Memory,
+        RouteFault::NoRoute => Fault::NoRoute,
+    }
+}
+
+/// A table without routes. Errors: `Plan` unless `bits` is 16 or 24; `Memory`.
+pub(crate) fn made(alloc: Global, bits: u32, groups: u32) -> Result<Arc<Table>, Fault>
+    ensures made { IfOk result (λ t. ((bits ≡ 16) ⊎ (bits ≡ 24)) × IsNew t.value bits groups) }
+    ensures refused { IfErr result (λ why. RefusesTable bits why) }
+{
+    let first = match bits {
+        16 => 16,
+        24 => 24,
+        _ => return Err(Fault::Plan),
+    };
+    let Ok(table) = Table::new(alloc, first, groups) else {
+        return Err(Fault::Memory);
+    };
+    match Arc::new(alloc, table) {
+        Ok(shared) => Ok(shared),
+        Err(_) => Err(Fault::Memory),
+    }
+}
+
+/// The table of a handle, for a second handle.
+pub(crate) fn shared(slot: &Option<Object>) -> Result<Arc<Table>, Fault>
+    ensures { FindsTable result slot.now }
+{
+    match slot {
+        Some(Object::Routes(table)) => match Arc::try_clone(table) {
+            Ok(other) => Ok(other),
+            Err(_) => Err(Fault::Memory),
+        },
+        Some(_) => Err(Fault::Kind),
+        None => Err(Fault::Empty),
+    }
+}
+
+/// Adds a route to a table that no other handle shares.
+fn add_alone(table: &mut Table, address: u32, depth: u32, hop: u32) -> Result<u32, Fault>
+    ensures { Adds result address depth hop table.old table.new }
+{
+    let Ok(bits) = u8::try_from(depth) else {
+        return Err(Fault::Depth);
+    };
+    match table.add(address, bits, hop) {
+        Ok(()) => Ok(0),
+        Err(why) => Err(fault(why)),
+    }
+}
+
+/// Removes a route from a table that no other handle shares.
+fn remove_alone(table: &mut Table, address: u32, depth: u32) -> Result<u32, Fault>
+    ensures { Removes result address depth table.old table.new }
+{
+    let Ok(bits) = u8::try_from(depth) else {
+        return Err(Fault::Depth);
+    };
+    match table.remove(address, bits) {
+        Ok(()) => Ok(0),
+        Err(why) => Err(fault(why)),
+    }
+}
+
+/// Adds a route, or changes the next hop of its prefix.
+pub(crate) fn add(
+    slot: &mut Option<Object>,
+    address: u32,
+    depth: u32,
+    hop: u32,
+) -> Result<u32, Fault>
+    ensures { AtRoutes slot.old slot.new result (λ t u. Adds result address depth hop t u) }
+{
+    match slot {
+        Some(Object::Routes(table)) => match Arc::get_mut(table) {
+            Some(alone) => add_alone(alone, address, depth, hop),
+            None => Err(Fault::Shared),
+        },
+        Some(_) => Err(Fault::Kind),
+        None => Err(Fault::Empty),
+    }
+}
+
+/// Removes a route.
+pub(crate) fn remove(slot: &mut Option<Object>, address: u32, depth: u32) -> Result<u32, Fault>
+    ensures { AtRoutes slot.old slot.new result (λ t u. Removes result address depth t u) }
+{
+    match slot {
+        Some(Object::Routes(table)) => match Arc::get_mut(table) {
+            Some(alone) => remove_alone(alone, address, depth),
+            None => Err(Fault::Shared),
+        },
+        Some(_) => Err(Fault::Kind),
+        None => Err(Fault::Empty),
+    }
+}
+
+/// The next hop for an address.
+pub(crate) fn look_up(slot: &Option<Object>, address: u32) -> Result<u32, Fault>
+    ensures { AtRoutes slot.now slot.now result
+        (λ t u. (u ≡ t) × (result ≡ hop_found (lookup_in t.members address))) }
+{
+    match slot {
+        Some(Object::Routes(table)) => match table.lookup(address) {
+            Some(hop) => Ok(hop),
+            None => Err(Fault::NoRoute),
+        },
+        Some(_) => Err(Fault::Kind),
+        None => Err(Fault::Empty),
+    }
+}
+
+/// The next hop for an address as 32 bits, or `NO_HOP`.
+fn word_for(table: &Table, address: u32) -> u32
+    ensures { result ≡ hop_word (lookup_in table.now.members address) }
+{
+    match table.lookup(address) {
+        Some(hop) => hop,
+        None => NO_HOP,
+    }
+}
+
+/// The next hops for addresses, at the same places.
+fn write_hops(table: &Table, addresses: &[u32], hops: &mut [u32])
+    requires { length addresses.now ≡ length hops.old }
+    ensures { hops.new ≡ map (λ address. hop_word (lookup_in table.now.members address)) addresses.now }
+{
+    for i in 0..addresses.len() {
+        hops[i] = word_for(table, addresses[i]);
+    }
+}
+
+/// The next hops for addresses. Errors: `Count` if there are not as many places.
+pub(crate) fn look_up_all(
+    slot: &Option<Object>,
+    addresses: &[u32],
+    hops: &mut [u32],
+) -> Result<u32, Fault>
+    ensures all { AtRoutes slot.now slot.now result
+        (λ t u. (u ≡ t) × LooksUpAll result addresses.now hops.old hops.new t) }
+    ensures refused { IfErr result (λ _. hops.new ≡ hops.old) }
+{
+    match slot {
+        Some(Object::Routes(table)) => {
+            if addresses.len() != hops.len() {
+                return Err(Fault::Count);
+            }
+            write_hops(table, addresses, hops);
+            Ok(0)
+        }
+        Some(_) => Err(Fault::Kind),
+        None => Err(Fault::Empty),
+    }
+}

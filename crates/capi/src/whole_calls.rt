@@ -1,0 +1,75 @@
+//! Whole puts and takes of a member.
+ghost use Rattle.std.specs.Prelude.{◌≡◌};
+ghost use Rattle.capi.specs.Calls.{Puts, Takes};
+ghost use Rattle.capi.specs.HandCalls.{how_of};
+ghost use Rattle.capi.specs.RingCalls.{OnRings, SameMember, member_view};
+
+use crate::fault::Fault;
+use crate::member::{Member, State};
+use crate::put::put;
+use crate::take::take;
+use crate::word64::Word64;
+use geom::How;
+
+/// By bulk or by burst.
+pub(crate) fn how(bulk: bool) -> How
+    ensures { result ≡ how_of bulk }
+{
+    if bulk { How::Bulk } else { How::Burst }
+}
+
+/// Puts words on a ring. Errors: `Ring`, `Open`; those of a put.
+#[inline(always)]
+pub(crate) fn put_words(
+    member: &mut Member,
+    ring: usize,
+    words: &[Word64],
+    how: How,
+) -> Result<u32, Fault>
+    ensures { OnRings ring member.old result (SameMember member.old member.new)
+        (λ v. (member.new.fabric ≡ member.old.fabric)
+        × Puts member.old.fabric.value how ring v words.now member.new.left (member_view member.new) result) }
+{
+    if ring >= member.fabric.rings() {
+        return Err(Fault::Ring);
+    }
+    match member.state {
+        State::Idle(_) => (),
+        _ => return Err(Fault::Open),
+    }
+    let State::Idle(hand) = std::mem::replace(&mut member.state, State::InCall) else {
+        unreachable!()
+    };
+    let ended = put(&member.fabric, hand, ring, words, how);
+    member.state = ended.state;
+    member.left = ended.left;
+    ended.outcome
+}
+
+/// Takes words from a ring. Errors: `Ring`, `Open`; those of a take.
+#[inline(always)]
+pub(crate) fn take_words(
+    member: &mut Member,
+    ring: usize,
+    words: &mut [Word64],
+    how: How,
+) -> Result<u32, Fault>
+    ensures { OnRings ring member.old result (SameMember member.old member.new × (words.new ≡ words.old))
+        (λ v. (member.new.fabric ≡ member.old.fabric) × Takes member.old.fabric.value how ring v words.old words.new
+        member.new.left (member_view member.new) result) }
+{
+    if ring >= member.fabric.rings() {
+        return Err(Fault::Ring);
+    }
+    match member.state {
+        State::Idle(_) => (),
+        _ => return Err(Fault::Open),
+    }
+    let State::Idle(hand) = std::mem::replace(&mut member.state, State::InCall) else {
+        unreachable!()
+    };
+    let ended = take(&member.fabric, hand, ring, words, how, &mut member.shown);
+    member.state = ended.state;
+    member.left = ended.left;
+    ended.outcome
+}

@@ -1,0 +1,100 @@
+//! Why a call did nothing.
+use std::fmt;
+
+macro_rules! errors {
+    ($($(#[$doc:meta])* $name:ident = $number:literal, $text:literal;)*) => {
+        /// Why a call moved or changed nothing.
+        #[derive(Clone, Copy, Debug, PartialEq, Eq, Hash)]
+        #[non_exhaustive]
+        pub enum Error {
+            $($(#[$doc])* $name,)*
+            /// A code that this crate doesn't know.
+            Unknown(i64),
+        }
+
+        impl Error {
+            /// The number of the code in `hokhtura.h`, which is below 0.
+            pub fn code(self) -> i64 {
+                match self {
+                    $(Error::$name => -$number,)*
+                    Error::Unknown(code) => code,
+                }
+            }
+
+            fn of(code: i64) -> Error {
+                match -code {
+                    $($number => Error::$name,)*
+                    _ => Error::Unknown(code),
+                }
+            }
+        }
+
+        impl fmt::Display for Error {
+            fn fmt(&self, f: &mut fmt::Formatter<'_>) -> fmt::Result {
+                match self {
+                    $(Error::$name => f.write_str($text),)*
+                    Error::Unknown(code) => write!(f, "code {code}"),
+                }
+            }
+        }
+    };
+}
+
+errors! {
+    /// Too little room for a put, or too few words for a take.
+    NoRoom = 1, "too little room, or too few words";
+    /// Other threads came first, each time that the call tried: call again.
+    Again = 2, "other threads came first: call again";
+    /// The positions are reserved, and an earlier call of another thread isn't finished yet: finish.
+    Pending = 3, "reserved, and to be finished";
+    /// There is an open span: finish it first.
+    Open = 4, "there is an open span";
+    /// There is no open span of that side.
+    NotOpen = 5, "there is no open span of that side";
+    /// There is no ring of this number.
+    Ring = 6, "no ring of this number";
+    /// A count of 0, above the limit, or one that doesn't fit the open span.
+    Count = 7, "a count of 0, above the limit, or not that of the span";
+    /// The side is not head/tail-sync.
+    Mode = 8, "the side is not head/tail-sync";
+    /// A null pointer.
+    Null = 9, "a null pointer";
+    /// A handle of another kind.
+    Kind = 10, "a handle of another kind";
+    /// The handle has something already.
+    Used = 11, "the handle has something already";
+    /// Other handles share it.
+    Shared = 12, "other handles share it";
+    /// No memory.
+    Memory = 13, "no memory";
+    /// No such ring, pool, table or window can be.
+    Plan = 14, "no such ring, pool, table or window can be";
+    /// The positions of the ring are used up.
+    Worn = 15, "the positions of the ring are used up";
+    /// Too many splits lie between this handle and the first one.
+    Parts = 16, "too many splits";
+    /// A number that the pool's handle doesn't have, has in its cache, or that is given twice.
+    NotYours = 17, "a number that the handle doesn't have, or given twice";
+    /// A depth that is not 1 to 32.
+    Depth = 20, "a depth that is not 1 to 32";
+    /// A next hop of 2^24 or more.
+    Hop = 21, "a next hop of 2^24 or more";
+    /// The routes would need more groups than the table may have.
+    Groups = 22, "more groups than the table may have";
+    /// No such route.
+    NoRoute = 23, "no such route";
+    /// The number's turn has passed.
+    Late = 24, "the number's turn has passed";
+    /// The number is a whole window or more ahead.
+    Early = 25, "the number is a whole window or more ahead";
+    /// A word with this number is already waiting.
+    Double = 26, "a word with this number is already waiting";
+}
+
+impl std::error::Error for Error {}
+
+/// The count that a call returned, or its error.
+#[inline]
+pub(crate) fn answer(code: i64) -> Result<usize, Error> {
+    usize::try_from(code).map_err(|_| Error::of(code))
+}

@@ -1,0 +1,109 @@
+//! One thread's hand on a ring, of any type of word.
+use crate::error::{answer, Error};
+use crate::ffi;
+use crate::word::Word;
+use std::marker::PhantomData;
+use std::ptr::{null_mut, NonNull};
+
+/// How calls on one side of a ring share it.
+#[derive(Clone, Copy, Debug, PartialEq, Eq, Hash)]
+pub enum Mode {
+    /// Any number of threads.
+    Multi,
+    /// Head/tail-sync: one call at a time.
+    Hts,
+}
+
+impl Mode {
+    fn number(self) -> u32 {
+        match self {
+            Mode::Multi => 0,
+            Mode::Hts => 1,
+        }
+    }
+}
+
+/// A hand on a ring of words. The marker makes it neither `Send` nor `Sync` by itself.
+pub(crate) struct Hand<T>(NonNull<ffi::Hand>, PhantomData<(T, *mut u8)>);
+
+// A hand may go to another thread with the words that it may take. It isn't `Sync`: no two calls overlap.
+unsafe impl<T: Send> Send for Hand<T> {}
+
+fn made<H>(at: *mut H, code: i64) -> Result<NonNull<H>, Error> {
+    answer(code)?;
+    NonNull::new(at).ok_or(Error::Null)
+}
+
+impl<T: Word> Hand<T> {
+    pub(crate) fn open(capacity: usize, put: Mode, take: Mode) -> Result<Self, Error> {
+        let size = u32::try_from(capacity).map_err(|_| Error::Plan)?;
+        let plan = ffi::Plan { size, exact: 1, put: put.number(), take: take.number() };
+        let mut at = null_mut();
+        let code = unsafe { ffi::hk_hand_open(&mut at, &plan, 1) };
+        Ok(Hand(made(at, code)?, PhantomData))
+    }
+
+    pub(crate) fn split(&mut self) -> Result<Self, Error> {
+        let mut at = null_mut();
+        let code = unsafe { ffi::hk_hand_split(self.0.as_ptr(), &mut at) };
+        Ok(Hand(made(at, code)?, PhantomData))
+    }
+
+    pub(crate) fn put(&mut self, words: &[T], bulk: bool) -> Result<usize, Error> {
+        let (at, n) = (words.as_ptr().cast::<u64>(), words.len());
+        let hand = self.0.as_ptr();
+        answer(if bulk {
+            unsafe { ffi::hk_ring_try_put_bulk(hand, 0, at, n) }
+        } else {
+            unsafe { ffi::hk_ring_try_put_burst(hand, 0, at, n) }
+        })
+    }
+
+    pub(crate) fn take(&mut self, words: &mut [T], bulk: bool) -> Result<usize, Error> {
+        let (at, n) = (words.as_mut_ptr().cast::<u64>(), words.len());
+        let hand = self.0.as_ptr();
+        answer(if bulk {
+            unsafe { ffi::hk_ring_try_take_bulk(hand, 0, at, n) }
+        } else {
+            unsafe { ffi::hk_ring_try_take_burst(hand, 0, at, n) }
+        })
+    }
+
+    pub(crate) fn take_one(&mut self, word: &mut u64) -> Result<usize, Error> {
+        answer(unsafe { ffi::hk_ring_try_take_burst(self.0.as_ptr(), 0, word, 1) })
+    }
+
+    pub(crate) fn finish_put(&mut self, words: &[T]) -> Result<usize, Error> {
+        answer(unsafe { ffi::hk_ring_finish_put(self.0.as_ptr(), words.as_ptr().cast(), words.len()) })
+    }
+
+    pub(crate) fn finish_take(&mut self, n: usize) -> Result<usize, Error> {
+        answer(unsafe { ffi::hk_ring_finish_take(self.0.as_ptr(), n) })
+    }
+
+    pub(crate) fn left(&self) -> usize {
+        answer(unsafe { ffi::hk_hand_left(self.0.as_ptr()) }).unwrap_or(0)
+    }
+
+    pub(crate) fn count(&self) -> Result<usize, Error> {
+        answer(unsafe { ffi::hk_ring_count(self.0.as_ptr(), 0) })
+    }
+
+    pub(crate) fn room(&self) -> Result<usize, Error> {
+        answer(unsafe { ffi::hk_ring_room(self.0.as_ptr(), 0) })
+    }
+
+    pub(crate) fn close(&mut self) -> Result<usize, Error> {
+        answer(unsafe { ffi::hk_hand_close(self.0.as_ptr()) })
+    }
+
+    pub(crate) fn drain(&mut self, words: &mut [u64]) -> Result<usize, Error> {
+        answer(unsafe { ffi::hk_hand_drain(self.0.as_ptr(), 0, words.as_mut_ptr(), words.len()) })
+    }
+}
+
+impl<T> Drop for Hand<T> {
+    fn drop(&mut self) {
+        unsafe { ffi::hk_hand_free(self.0.as_ptr()) }
+    }
+}

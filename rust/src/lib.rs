@@ -1,0 +1,40 @@
+//! Rings, pools of numbers, routes and reorder windows of libhokhtura.
+//!
+//! Each handle is used by one thread at a time: it is `Send` and not `Sync`, so the compiler keeps the rule of
+//! `hokhtura.h`. What threads share, a ring, a pool or a table, is reached by a handle of each thread's own.
+//!
+//! ```
+//! use hokhtura::Ring;
+//!
+//! # fn main() -> Result<(), hokhtura::Error> {
+//! let (mut producer, mut consumer) = Ring::<u64>::new(1000)?.split()?;
+//! let sender = std::thread::spawn(move || producer.try_put_bulk(&[1, 2, 3]));
+//! assert_eq!(sender.join().unwrap(), Ok(3));
+//! let mut words = [0; 8];
+//! assert_eq!(consumer.try_take_burst(&mut words), Ok(3));
+//! assert_eq!(words[..3], [1, 2, 3]);
+//! # Ok(())
+//! # }
+//! ```
+#![deny(missing_docs)]
+#![warn(unsafe_op_in_unsafe_fn)]
+
+mod error;
+mod ffi;
+mod hand;
+mod pool;
+mod reorder;
+mod ring;
+mod routes;
+mod word;
+
+pub use error::Error;
+pub use hand::Mode;
+pub use pool::{Pool, POOL_MOST};
+pub use reorder::{InTurn, Reorder};
+pub use ring::{Consumer, Left, Producer, Ring, Taken};
+pub use routes::{FirstLevel, Routes};
+pub use word::Word;
+
+/// The most words of one call.
+pub const MOST: usize = 1024;

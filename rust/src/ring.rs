@@ -1,0 +1,231 @@
+//! A ring of words, and the two ends of it.
+use crate::error::Error;
+use crate::hand::{Hand, Mode};
+use crate::word::{of_bits, Word};
+use std::fmt;
+
+/// A ring of words, with this thread's hand on it. Other threads come by hands that are split off.
+pub struct Ring<T: Word> {
+    hand: Hand<T>,
+}
+
+/// A thread's way to put words on a ring.
+pub struct Producer<T: Word> {
+    hand: Hand<T>,
+}
+
+/// A thread's way to take words from a ring.
+pub struct Consumer<T: Word> {
+    hand: Hand<T>,
+}
+
+macro_rules! puts {
+    () => {
+        /// Puts all words, or none. Returns how many.
+        ///
+        /// # Errors
+        ///
+        /// `Count` if there are none or more than `MOST`; `NoRoom`; `Again`; `Worn`. `Pending`: the positions are
+        /// reserved, and `finish_put` with the same words puts them.
+        pub fn try_put_bulk(&mut self, words: &[T]) -> Result<usize, Error> {
+            self.hand.put(words, true)
+        }
+
+        /// Puts as many words as there is room for, from the front. Returns how many. Errors: those of `try_put_bulk`.
+        pub fn try_put_burst(&mut self, words: &[T]) -> Result<usize, Error> {
+            self.hand.put(words, false)
+        }
+
+        /// Finishes a put that returned `Pending`, with the same words. Returns how many were put.
+        ///
+        /// # Errors
+        ///
+        /// `Pending`: not yet. `NotOpen`: no put is open.
+        pub fn finish_put(&mut self, words: &[T]) -> Result<usize, Error> {
+            self.hand.finish_put(words)
+        }
+
+        /// How many more words there is room for. Others may have put or taken some since.
+        pub fn room(&self) -> Result<usize, Error> {
+            self.hand.room()
+        }
+    };
+}
+
+macro_rules! takes {
+    () => {
+        /// Takes as many words as there are places, or none. Returns how many.
+        ///
+        /// # Errors
+        ///
+        /// `Count` if there are no places or more than `MOST`; `NoRoom` if too few words are queued; `Again`; `Worn`.
+        /// `Pending`: the words are at the front of the slice already, and `finish_take` takes them off the ring.
+        pub fn try_take_bulk(&mut self, words: &mut [T]) -> Result<usize, Error> {
+            self.hand.take(words, true)
+        }
+
+        /// Takes as many words as are queued and have a place, the oldest first. Returns how many are at the front of
+        /// the slice. Errors: those of `try_take_bulk`.
+        pub fn try_take_burst(&mut self, words: &mut [T]) -> Result<usize, Error> {
+            self.hand.take(words, false)
+        }
+
+        /// Finishes a take that returned `Pending`, for a slice of `n` places. Returns how many words were taken.
+        ///
+        /// # Errors
+        ///
+        /// `Pending`: not yet. `NotOpen`: no take is open.
+        pub fn finish_take(&mut self, n: usize) -> Result<usize, Error> {
+            self.hand.finish_take(n)
+        }
+
+        /// How many words are queued. Others may have put or taken some since.
+        pub fn count(&self) -> Result<usize, Error> {
+            self.hand.count()
+        }
+
+        /// The words that are queued, one after the other, until none is left or other threads come first. Each is
+        /// taken as it is returned. It waits for a thread that is at work on the same side.
+        pub fn taken(&mut self) -> Taken<'_, T> {
+            Taken { hand: &mut self.hand }
+        }
+    };
+}
+
+impl<T: Word> Ring<T> {
+    /// A ring that takes `capacity` words, 1 to 2^20 - 1, with both sides for any number of threads.
+    ///
+    /// # Errors
+    ///
+    /// `Plan`, `Memory`.
+    pub fn new(capacity: usize) -> Result<Self, Error> {
+        Ring::with_modes(capacity, Mode::Multi, Mode::Multi)
+    }
+
+    /// The same with a mode for each side.
+    pub fn with_modes(capacity: usize, put: Mode, take: Mode) -> Result<Self, Error> {
+        Ok(Ring { hand: Hand::open(capacity, put, take)? })
+    }
+
+    /// The two ends of the ring, for two threads.
+    ///
+    /// # Errors
+    ///
+    /// `Memory`.
+    ///
+    /// ```
+    /// # fn main() -> Result<(), hokhtura::Error> {
+    /// let (mut producer, mut consumer) = hokhtura::Ring::new(7)?.split()?;
+    /// producer.try_put_bulk(&[1.5, 2.5])?;
+    /// assert_eq!(consumer.taken().collect::<Vec<f64>>(), [1.5, 2.5]);
+    /// # Ok(())
+    /// # }
+    /// ```
+    pub fn split(mut self) -> Result<(Producer<T>, Consumer<T>), Error> {
+        let other = self.hand.split()?;
+        Ok((Producer { hand: self.hand }, Consumer { hand: other }))
+    }
+
+    /// Another hand on the same ring, for another thread.
+    ///
+    /// # Errors
+    ///
+    /// `Memory`, `Parts`, `Open`.
+    pub fn try_clone(&mut self) -> Result<Self, Error> {
+        Ok(Ring { hand: self.hand.split()? })
+    }
+
+    puts!();
+    takes!();
+
+    /// What the last call found beside what it did: how much more room there was, or how many more words.
+    pub fn left(&self) -> usize {
+        self.hand.left()
+    }
+
+    /// Closes the ring, by its only hand, and returns the words that are left.
+    ///
+    /// # Errors
+    ///
+    /// `Shared` while there are other hands; `Open`. The ring comes back.
+    pub fn close(mut self) -> Result<Left<T>, (Self, Error)> {
+        match self.hand.close() {
+            Ok(_) => Ok(Left { hand: self.hand }),
+            Err(error) => Err((self, error)),
+        }
+    }
+}
+
+impl<T: Word> Producer<T> {
+    puts!();
+
+    /// A producer for another thread.
+    ///
+    /// # Errors
+    ///
+    /// `Memory`, `Parts`, `Open`.
+    pub fn try_clone(&mut self) -> Result<Self, Error> {
+        Ok(Producer { hand: self.hand.split()? })
+    }
+}
+
+impl<T: Word> Consumer<T> {
+    takes!();
+
+    /// A consumer for another thread.
+    ///
+    /// # Errors
+    ///
+    /// `Memory`, `Parts`, `Open`.
+    pub fn try_clone(&mut self) -> Result<Self, Error> {
+        Ok(Consumer { hand: self.hand.split()? })
+    }
+}
+
+/// The words of a ring, as they are taken one by one.
+pub struct Taken<'r, T: Word> {
+    hand: &'r mut Hand<T>,
+}
+
+impl<T: Word> Iterator for Taken<'_, T> {
+    type Item = T;
+
+    fn next(&mut self) -> Option<T> {
+        let mut word = 0;
+        let mut taken = self.hand.take_one(&mut word);
+        while taken == Err(Error::Pending) {
+            std::thread::yield_now();
+            taken = self.hand.finish_take(1);
+        }
+        // A word that was taken was put as a `T`.
+        (taken == Ok(1)).then(|| unsafe { of_bits(word) })
+    }
+}
+
+/// The words that were left on a ring when it was closed, the oldest first.
+pub struct Left<T: Word> {
+    hand: Hand<T>,
+}
+
+impl<T: Word> Iterator for Left<T> {
+    type Item = T;
+
+    fn next(&mut self) -> Option<T> {
+        let mut word = [0];
+        let count = self.hand.drain(&mut word).ok()?;
+        // A word that is left was put as a `T`.
+        (count == 1).then(|| unsafe { of_bits(word[0]) })
+    }
+}
+
+macro_rules! debugs {
+    ($($name:ident),*) => {
+        $(impl<T: Word> fmt::Debug for $name<T> {
+            fn fmt(&self, f: &mut fmt::Formatter<'_>) -> fmt::Result {
+                f.debug_struct(stringify!($name)).finish_non_exhaustive()
+            }
+        })*
+    };
+}
+
+debugs!(Ring, Producer, Consumer, Left);

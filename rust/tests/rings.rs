@@ -1,0 +1,107 @@
+//! Rings by their two ends, in one thread and in several.
+use hokhtura::{Error, Mode, Ring, MOST};
+use std::thread;
+
+const MODES: [Mode; 2] = [Mode::Multi, Mode::Hts];
+
+#[test]
+fn bulk_moves_all_or_none_and_burst_what_there_is() -> Result<(), Error> {
+    for put in MODES {
+        for take in MODES {
+            let mut ring = Ring::<u64>::with_modes(6, put, take)?;
+            let mut words = [0; 8];
+            assert_eq!(ring.try_take_bulk(&mut words[..1]), Err(Error::NoRoom));
+            assert_eq!(ring.try_put_bulk(&[1; 7]), Err(Error::NoRoom));
+            assert_eq!(ring.left(), 6);
+            assert_eq!(ring.try_put_bulk(&[1, 2, 3, 4]), Ok(4));
+            assert_eq!(ring.try_put_burst(&[5, 6, 7]), Ok(2));
+            assert_eq!((ring.count(), ring.room()), (Ok(6), Ok(0)));
+            assert_eq!(ring.try_take_bulk(&mut words[..7]), Err(Error::NoRoom));
+            assert_eq!(ring.try_take_burst(&mut words), Ok(6));
+            assert_eq!(words, [1, 2, 3, 4, 5, 6, 0, 0]);
+        }
+    }
+    Ok(())
+}
+
+#[test]
+fn counts_and_plans_are_refused() -> Result<(), Error> {
+    assert_eq!(Ring::<u64>::new(0).err(), Some(Error::Plan));
+    assert_eq!(Ring::<u64>::new(1 << 20).err(), Some(Error::Plan));
+    assert_eq!(Ring::<u64>::new(usize::MAX).err(), Some(Error::Plan));
+    let mut ring = Ring::<u64>::new(2000)?;
+    assert_eq!(ring.try_put_bulk(&[]), Err(Error::Count));
+    assert_eq!(ring.try_put_bulk(&[0; MOST + 1]), Err(Error::Count));
+    assert_eq!(ring.try_put_bulk(&[0; MOST]), Ok(MOST));
+    assert_eq!(ring.finish_put(&[0]), Err(Error::NotOpen));
+    assert_eq!(ring.finish_take(1), Err(Error::NotOpen));
+    Ok(())
+}
+
+#[test]
+fn words_keep_their_bits() -> Result<(), Error> {
+    let mut numbers = Ring::<f64>::new(4)?;
+    numbers.try_put_bulk(&[-0.0, f64::INFINITY])?;
+    assert_eq!(numbers.taken().map(f64::to_bits).collect::<Vec<_>>(), [(-0.0f64).to_bits(), f64::INFINITY.to_bits()]);
+    let places = [10u8, 20, 30];
+    let mut pointers = Ring::<*const u8>::new(4)?;
+    pointers.try_put_bulk(&[&places[2], &places[0]])?;
+    let read: Vec<u8> = pointers.taken().map(|at| unsafe { *at }).collect();
+    assert_eq!(read, [30, 10]);
+    Ok(())
+}
+
+#[test]
+fn what_is_left_comes_out_of_a_closed_ring() -> Result<(), Error> {
+    let mut ring = Ring::<i64>::new(7)?;
+    ring.try_put_bulk(&[-1, -2, -3])?;
+    let other = ring.try_clone()?;
+    let (ring, error) = ring.close().expect_err("another hand is there");
+    assert_eq!(error, Error::Shared);
+    drop(other);
+    let left = ring.close().map_err(|refused| refused.1)?;
+    assert_eq!(left.collect::<Vec<_>>(), [-1, -2, -3]);
+    Ok(())
+}
+
+/// Sends the words from `from` on, so many, each as soon as there is room.
+fn send(producer: &mut hokhtura::Producer<u64>, from: u64, many: u64) {
+    let words: Vec<u64> = (from..from + many).collect();
+    let mut sent = 0;
+    while sent < words.len() {
+        let next = &words[sent..words.len().min(sent + 32)];
+        let mut count = producer.try_put_burst(next);
+        while count == Err(Error::Pending) {
+            thread::yield_now();
+            count = producer.finish_put(next);
+        }
+        match count {
+            Ok(count) => sent += count,
+            Err(Error::NoRoom | Error::Again) => thread::yield_now(),
+            Err(error) => panic!("{error}"),
+        }
+    }
+}
+
+#[test]
+fn each_word_crosses_once_and_in_order() -> Result<(), Error> {
+    const EACH: u64 = 100_000;
+    for mode in MODES {
+        let (mut one, mut consumer) = Ring::with_modes(100, mode, mode)?.split()?;
+        let mut two = one.try_clone()?;
+        thread::scope(|scope| {
+            scope.spawn(move || send(&mut one, 0, EACH));
+            scope.spawn(move || send(&mut two, EACH, EACH));
+            let mut next = [0, EACH];
+            while next != [EACH, 2 * EACH] {
+                for word in consumer.taken() {
+                    let sender = usize::from(word >= EACH);
+                    assert_eq!(word, next[sender]);
+                    next[sender] += 1;
+                }
+                thread::yield_now();
+            }
+        });
+    }
+    Ok(())
+}
