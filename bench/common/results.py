@@ -144,8 +144,8 @@ def machine():
 
 
 def of_area(area):
-    """The rows of an area: those of its benchmarks, and those that were measured by hand (NAME.hand.tsv)."""
-    return [row for name in area.names for file in (name, f"{name}.hand") for row in read(file)]
+    """The rows of an area."""
+    return [row for name in area.names for row in read(name)]
 
 
 class Results:
