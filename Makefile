@@ -19,7 +19,7 @@ help:
 	@echo 'make try        keeps a pktkit without proofs in $(TRIED), for pktkit ring and the other commands: the same'
 	@echo 'make compare    the same by one thread, and that each port has the same bytes; after make run: 1 to 2 minutes'
 	@echo 'make build      proves pktkit and what it stands on, and builds it: 35 to 75 minutes, then what has changed'
-	@echo 'make lib        proves the C library and what it stands on, and leaves it in out/c: 20 to 40 minutes'
+	@echo 'make lib        proves the C library and what it stands on, and leaves it in out/c: 20 to 50 minutes'
 	@echo 'make install    make build and lib; program, library, man page, completions go below PREFIX ($(PREFIX)): seconds'
 	@echo 'make install-lib  the library alone: its header, its archives and hokhtura.pc'
 	@echo 'make uninstall  removes these again: at once'

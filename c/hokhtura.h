@@ -7,8 +7,8 @@
  * a lock, or a sequentially consistent atomic.
  *
  * RETURN VALUES. A call returns a count of 0 or more (HK_OK is 0), or a code below 0, `enum hk_code`. Unless a call
- * says otherwise, a code means that nothing was changed: no handle, no array, no ring. No call ends the process, blocks,
- * sleeps or loops without a limit.
+ * says otherwise, a code means that nothing was changed: no handle, no array, no ring. No call ends the process,
+ * blocks, sleeps or loops without a limit.
  *
  * MEMORY. Only calls marked [memory] take memory, by malloc and realloc of the C library. If they return HK_E_MEMORY,
  * nothing was changed. Freeing a handle frees its memory, and with the last handle what the handles share.
@@ -196,8 +196,8 @@ HK_API int64_t hk_pool_cached(hk_pool *pool);
 /* 1 if the handle has this number, cached or not, and otherwise 0. HK_E_NULL, HK_E_KIND. */
 HK_API int64_t hk_pool_owns(hk_pool *pool, uint32_t number);
 /* Puts n numbers, 1 to HK_POOL_MOST, on a ring of the pool, 0 to rings - 1, all or none. Then the handle doesn't have
- * them any more; whoever takes them from the ring has them. Returns n. HK_E_NULL, HK_E_KIND, HK_E_RING, HK_E_COUNT,
- * HK_E_NOTYOURS, HK_E_WORN, HK_E_AGAIN. */
+ * them any more; the handle that takes them from the ring has them. Returns n. HK_E_NULL, HK_E_KIND, HK_E_RING,
+ * HK_E_COUNT, HK_E_NOTYOURS, HK_E_WORN, HK_E_AGAIN. */
 HK_API HK_CHECKED int64_t hk_pool_try_send_bulk(hk_pool *pool, size_t ring, const uint32_t *numbers, size_t n);
 /* Takes n numbers, 1 to HK_POOL_MOST, from a ring of the pool, the oldest first, all or none: the handle has them
  * then, and they aren't cached. Returns n. HK_E_NULL, HK_E_KIND, HK_E_RING, HK_E_COUNT, HK_E_NOROOM if fewer are
@@ -209,8 +209,8 @@ HK_API HK_CHECKED int64_t hk_pool_try_receive_bulk(hk_pool *pool, size_t ring, u
 /* A handle on a table of routes to IPv4 prefixes. Addresses are numbers, 10.0.0.1 is 0x0a000001. */
 typedef struct hk_routes hk_routes;
 
-/* [memory] Makes a table without routes: its first level has 2^bits entries, bits 16 or 24, and it may have so many
- * groups of 2^(32 - bits) entries. HK_E_NULL, HK_E_PLAN, HK_E_MEMORY. */
+/* [memory] Makes a table without routes: its first level has 2^bits entries, bits 16 or 24, and it has at most
+ * `groups` groups of 2^(32 - bits) entries. HK_E_NULL, HK_E_PLAN, HK_E_MEMORY. */
 HK_API HK_CHECKED int64_t hk_routes_open(hk_routes **out, uint32_t bits, uint32_t groups);
 /* Makes another handle on the same table, for another thread's lookups. [memory] HK_E_NULL, HK_E_KIND, HK_E_MEMORY. */
 HK_API HK_CHECKED int64_t hk_routes_share(hk_routes *routes, hk_routes **out);

@@ -1,5 +1,5 @@
 /* Four threads get numbers of one pool, pass some on to their neighbours and put all back. Each number has one owner at
- * a time: whoever has it writes its own name into an array and finds it there. In the end all numbers are free.
+ * a time: the thread that has it writes its own name into an array and finds it there. In the end all numbers are free.
  * The names are relaxed atomics, as ThreadSanitizer doesn't see the steps of the proved side that order them. With a
  * number as its argument the four make that many rounds together; without one each makes 500,000. */
 #include "tests.h"

@@ -10,8 +10,8 @@ pub const POOL_MOST: usize = 512;
 
 /// One thread's way to a pool of the numbers 0 to `n - 1`: its own cache in front of the free ring that all share.
 ///
-/// A number is free, on a ring of the pool, or with one `Pool`; only that one can put it back or send it on. If a `Pool`
-/// is dropped, its numbers are lost to the others: put them back and [`try_flush`](Pool::try_flush) first.
+/// A number is free, on a ring of the pool, or with one `Pool`; only that one can put it back or send it on. If a
+/// `Pool` is dropped, its numbers are lost to the others: put them back and [`try_flush`](Pool::try_flush) first.
 pub struct Pool(NonNull<ffi::Pool>, PhantomData<*mut u8>);
 
 // A cache may go to another thread with its numbers. It isn't `Sync`: no two calls overlap.
@@ -93,7 +93,7 @@ impl Pool {
         unsafe { ffi::hk_pool_owns(self.0.as_ptr(), number) == 1 }
     }
 
-    /// Puts all these numbers on a ring of the pool, or none. They belong to whoever takes them from there.
+    /// Puts all these numbers on a ring of the pool, or none. Then they belong to the one that takes them from there.
     ///
     /// # Errors
     ///

@@ -36,7 +36,7 @@ static __attribute__((noinline)) void turns(hk_hand *hand, uint64_t *words, size
 			exit(1);
 }
 
-/* One name if it is given, and then so many turns and no clock. */
+/* All names, each timed; or only one name, for `count` turns without a clock. */
 static void alone(const char *only, unsigned long count)
 {
 	static const size_t sizes[] = { 1, 8, 32, 128 };

@@ -8,7 +8,7 @@ use std::time::{Duration, Instant};
 const CAPACITY: usize = 1023;
 const CHUNK: usize = 20_000;
 
-/// Nanoseconds a word, of turns that move so many words each.
+/// Prints the nanoseconds a word, of turns that move `words` words each.
 fn timed(name: &str, words: usize, mut turn: impl FnMut()) {
     let millis = std::env::var("BENCH_MS").ok().and_then(|text| text.parse().ok()).unwrap_or(100);
     let limit = Duration::from_millis(millis);
