@@ -11,4 +11,3 @@ pub mod Reserving
 pub mod Settled
 pub mod Slots
 pub mod Values
-pub mod WrittenBack

@@ -25,8 +25,8 @@ module _ {G : Ghosts Number} {H : StoredGhosts (Option Number) Number} (f : Numb
   drawn n long asked moved taken got all filled same then given cached own = record {
     taken = taken;
     moved = moved;
-    told = subst (λ (a : ℕ). Received f 0 a l m (Ok moved) taken) all
-        (received_same f 0 long l k m (Ok moved) taken (same_view k m then.1) filled.told);
+    reply = subst (λ (a : ℕ). Received f 0 a l m (Ok moved) taken) all
+        (received_same f 0 long l k m (Ok moved) taken (same_view k m then.1) filled.reply);
     given = given ∙ ap (λ (c : List Number). taken_by_get n c taken) same.1;
     cached = cached ∙ ap (λ (c : List Number). cached_after_get n c taken) same.1;
     own = own;
@@ -47,7 +47,7 @@ module _ {G : Ghosts Number} {H : StoredGhosts (Option Number) Number} (f : Numb
     taken = is.taken;
     given = is.given ∙ (λ i. taken_by_get (all i) (first.cache i) is.taken);
     cached = is.cached ∙ (λ i. cached_after_get (all i) (first.cache i) is.taken);
-    from = inr (short, asked, inr missing, is.moved, received_later f 0 l k m asked (Ok is.moved) is.taken first.kept is.told);
+    from = inr (short, asked, inr missing, is.moved, received_later f 0 l k m asked (Ok is.moved) is.taken first.kept is.reply);
     own = is.own;
     ring = (is.ring.0 ∙ first.ring.0, is.ring.1 ∙ first.ring.1);
   }

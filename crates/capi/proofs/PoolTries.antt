@@ -122,7 +122,7 @@ module _ {G : Ghosts Number} {H : StoredGhosts (Option Number) Number} where
         subst (λ (xs : List Number). Sent f ring xs items l m answer) same (record {
           seen = is.seen;
           kept = then_kept (view_of l) (view_of k) (view_in is.seen) kept is.kept;
-          told = is.told;
+          reply = is.reply;
         })
 
     pub received_later : (n : ℕ) (answer : Result Moved StartFault) (shown : List Number) → IsKept (view_of l) (view_of k)
@@ -130,14 +130,14 @@ module _ {G : Ghosts Number} {H : StoredGhosts (Option Number) Number} where
     received_later n answer shown kept is = record {
       seen = is.seen;
       kept = then_kept (view_of l) (view_of k) (view_in is.seen) kept is.kept;
-      told = is.told;
+      reply = is.reply;
     }
 
     pub filled_later : (n : ℕ) (after : List Number) (moved : Moved) → IsKept (view_of l) (view_of k)
         → Filled f ring n after k m moved → Filled f ring n after l m moved
     filled_later n after moved kept is = record {
       long = is.long;
-      told = received_later n (Ok moved) after kept is.told;
+      reply = received_later n (Ok moved) after kept is.reply;
       own = is.own;
     }
 
@@ -160,8 +160,8 @@ module _ {G : Ghosts Number} {H : StoredGhosts (Option Number) Number} where
   sent_same f ring l k m cache items answer same is = record {
     seen = is.seen;
     kept = is.kept;
-    told = λ plan there. sends_same ring plan is.seen (hand_of k) (hand_of m) cache items (unsent_of answer items) answer same
-        (is.told plan there);
+    reply = λ plan there. sends_same ring plan is.seen (hand_of k) (hand_of m) cache items (unsent_of answer items) answer same
+        (is.reply plan there);
   }
 
   pub received_same : (f : NumberRings) (ring n : ℕ) (l k m : LocalWords Number 1024 (Option Number) G H)
@@ -170,7 +170,7 @@ module _ {G : Ghosts Number} {H : StoredGhosts (Option Number) Number} where
   received_same f ring n l k m answer shown same is = record {
     seen = is.seen;
     kept = is.kept;
-    told = λ plan there. receives_same ring n plan is.seen (hand_of k) (hand_of m) answer shown same (is.told plan there);
+    reply = λ plan there. receives_same ring n plan is.seen (hand_of k) (hand_of m) answer shown same (is.reply plan there);
   }
 
   -- the same hand has the same view

@@ -1,22 +1,19 @@
 -- Spans that a start reserved, and starts that were refused
-use Rattle.std.proofs.Common.{◌≡◌, ◌<◌, arith, ℕ, List, refl, ap, ◌∙◌, length}
+use Rattle.std.proofs.Common.{◌≡◌, ◌<◌, arith, ℕ, List, length}
 use Rattle.std.proofs.lemmas.Bool.Decides.{nat_tests}
 use Rattle.geom.specs.declared.plan.How.{How}
 use Rattle.geom.specs.declared.plan.How.TheVariants.{Bulk, Burst}
 use Rattle.geom.specs.declared.plan.Side.{Side}
 use Rattle.geom.specs.Plan.{granted, mode_of}
-use Rattle.ringcore_laws.specs.declared.party.Party.{Party}
 use Rattle.ringcore_laws.specs.declared.protocol.Span.{Span}
 use Rattle.ringcore_laws.specs.History.{position_of, room_by_look}
 use Rattle.ringcore_laws.specs.Party.{with_open}
 use Rattle.fabric_laws.specs.declared.view.View.{View}
-use Rattle.fabric.specs.declared.hand.StartFault.{StartFault}
 use Rattle.fabric.specs.Hands.{OnRing, rings_of}
 use Rattle.fabric.specs.Starts.{MayAsk, Starts}
-use Rattle.fabric.specs.Views.{IsKept}
 use Rattle.fabric.proofs.Told.{granted_few, ring_at}
 use Rattle.capi.specs.Members.{Rings}
-use Rattle.capi.specs.Spans.{HasReserved, IsAsked, WasRefused, tags}
+use Rattle.capi.specs.Spans.{HasReserved, IsAsked, tags}
 use Rattle.capi.specs.declared.word64.Word64.{Word64}
 
 asked_of : (how : How) (n room count : ℕ) → count ≡ granted how n room → 0 < count → IsAsked how n count

@@ -1,24 +1,30 @@
--- Settles of open spans
-use Rattle.std.proofs.Common.{◌≡◌, ◌<◌, arith, ℕ, List, [], ◌∷◌, Option, Bool, true, false, inl, inr, refl, ap, sym, ◌∙◌, slice_get}
+-- Settles of open spans, and whole calls
+use Rattle.std.proofs.Common.{◌≡◌, ◌<◌, ◌≤◌, arith, ℕ, List, [], ◌∷◌, Bool, true, false, inl, inr, length, refl, ap, subst, sym, ◌∙◌}
+use Rattle.std.specs.Prelude.{slice_get}
+use Rattle.geom.specs.declared.plan.How.{How}
 use Rattle.geom.specs.declared.plan.Mode.{Mode}
+use Rattle.geom.specs.declared.plan.Mode.TheVariants.{Hts, Multi}
 use Rattle.geom.specs.declared.plan.RingPlan.{RingPlan}
-use Rattle.ringcore_laws.proofs.Laws.{same_plan}
+use Rattle.geom.specs.declared.plan.Side.{Side}
+use Rattle.geom.specs.Plan.{mode_of}
 use Rattle.ringcore_laws.specs.declared.protocol.Span.{Span}
-use Rattle.ringcore_laws.specs.Party.{with_settled}
 use Rattle.ringcore_laws.specs.Sound.{occurrences_in}
-use Rattle.burst.specs.declared.tagged.Tagged.{Ghosts}
-use Rattle.fabric.specs.declared.stored.Stored.{Ghosts as StoredGhosts}
 use Rattle.fabric_laws.specs.declared.view.View.{View}
 use Rattle.fabric_laws.specs.Changes.{settled}
-use Rattle.fabric.specs.declared.hand.PutOpen.{PutOpen}
-use Rattle.fabric.specs.declared.hand.TakeOpenLent.{TakeOpenLent}
 use Rattle.fabric.specs.declared.hand.SettleFault.{SettleFault}
 use Rattle.fabric.specs.declared.hand.SettleFault.TheVariants.{BadCount, NotYet, NotYours}
-use Rattle.fabric.specs.Hands.{SamePut, SameTake, rings_of}
+use Rattle.fabric.specs.declared.hand.in_place.Reserved.{Reserved}
+use Rattle.fabric.specs.Hands.{OnRing, rings_of}
+use Rattle.fabric.specs.Held.{span_at}
 use Rattle.fabric.specs.Settles.{AreNotYours, IsCount, RefusesSettle}
 use Rattle.fabric.specs.Views.{IsKept}
-use Rattle.capi.specs.Spans.{HasSettled, IsEarly, tags}
+use Rattle.fabric.specs.WholeCalls.{HasMoved, HasOpen, StaysOpen}
+use Rattle.fabric.proofs.Told.{ring_at}
+use Rattle.capi.specs.Calls.{Moves, Waits}
+use Rattle.capi.specs.Members.{ArePlain, Rings}
+use Rattle.capi.specs.Spans.{HasReserved, HasSettled, IsEarly, tags}
 use Rattle.capi.specs.declared.word64.Word64.{Word64}
+use Rattle.capi.proofs.Reserving.{reserved_of}
 
 -- words carry no buffer
 none_carried : (b : ℕ) (words : List Word64) → occurrences_in tags b words ≡ 0
@@ -36,29 +42,32 @@ yours : (plan : RingPlan) (v : View Word64) (words : List Word64) → plan.free 
 yours plan v words plain (inl x) = not_none _ _ x.1 (none_carried x.0 words)
 yours plan v words plain (inr x) = true_false plan.free x.0 plain
 
-module _ (mode : Mode) (plan : RingPlan) (k count start : ℕ) (words : List Word64) (v w : View Word64) where
-  -- a settle of as many words as may be is refused for one reason
-  pub only_early : (e : SettleFault) → IsCount mode k count → RefusesSettle tags mode plan k count start words v w e
-      → plan.free ≡ false → ((x : ℕ) → e ≡ NotYet x → ⊥) → ⊥
-  only_early BadCount all is plain early = is.0 all
-  only_early NotYours all is plain early = yours plan v words plain is.1
-  only_early (NotYet x) all is plain early = early x refl
+pub all_fit : (mode : Mode) (k count : ℕ) → k ≡ count → IsCount mode k count
+all_fit Multi k count all = all
+all_fit Hts k count all = omega (arith, all)
 
-  pub only_early_take : (e : SettleFault) → IsCount mode k count → RefusesSettle tags mode plan k count start words v w e
-      → (e ≡ NotYours → ⊥) → ((x : ℕ) → e ≡ NotYet x → ⊥) → ⊥
-  only_early_take BadCount all is named early = is.0 all
-  only_early_take NotYours all is named early = named refl
-  only_early_take (NotYet x) all is named early = early x refl
-
-  pub early_of : (x : ℕ) (span : Span) → span.start ≡ start → RefusesSettle tags mode plan k count start words v w (NotYet x)
-      → IsKept v w → IsEarly mode span v w
-  early_of x span at is kept = record {
-    multi = is.0;
-    tail = x;
-    below = omega (arith, at, is.2);
-    lost = ap (λ (u : View Word64). u.lost) is.3;
-    kept = kept;
-  }
+-- a settle of as many words as may be is refused for one reason: an earlier span of the side isn't settled
+module _ (f : Rings) (ring k : ℕ) (side : Side) (r : Reserved) (words : List Word64) (v w : View Word64) (at : r.ring ≡ ring)
+    (there : ring < length (rings_of f)) (plain : ArePlain (rings_of f)) (fits : OnRing f ring (λ plan. IsCount (mode_of plan side) k r.range.count)) where
+  pub early_of : (e : SettleFault)
+      → OnRing f ring (λ plan. RefusesSettle tags (mode_of plan side) plan k r.range.count r.range.start words v w e)
+      → IsKept v w → IsEarly f (span_at side r) v w
+  early_of BadCount refused kept =
+      let p = ring_at (rings_of f) ring there in
+      absurd ((refused p.0 p.1).0 (fits p.0 p.1))
+  early_of NotYours refused kept =
+      let p = ring_at (rings_of f) ring there in
+      absurd (yours p.0 v words (plain ring p.0 p.1) (refused p.0 p.1).1)
+  early_of (NotYet x) refused kept =
+      let p = ring_at (rings_of f) ring there in
+      let is = refused p.0 p.1 in
+      record {
+        multi = λ plan on. (refused plan (sym (ap (slice_get (rings_of f)) at) ∙ on)).0;
+        tail = x;
+        below = is.2;
+        lost = ap (λ (u : View Word64). u.lost) is.3;
+        kept = kept;
+      }
 
 pub settled_of : (span : Span) (words : List Word64) (v w : View Word64) → w ≡ settled span words v → HasSettled span words v w
 settled_of span words v w is = record {
@@ -68,11 +77,34 @@ settled_of span words v w is = record {
   parts = ap (λ (u : View Word64). u.parts) is;
 }
 
-module _ {G : Ghosts Word64} {H : StoredGhosts (Option Word64) Word64} where
-  pub same_put_plan : (o q : PutOpen Word64 1024 (Option Word64) G H) → SamePut o q → q.ring.shape.plan ≡ o.ring.shape.plan
-  same_put_plan o q same =
-      same_plan (sym q.ring.in_plan.0 ∙ ((λ i. slice_get (rings_of (same.0 i)) ((same.1 i).ring)) ∙ o.ring.in_plan.0))
+module _ (f : Rings) (how : How) (n ring : ℕ) (v : View Word64) (side : Side) (r : Reserved) (there : ring < length (rings_of f)) where
+  reserved_in : (w : View Word64) → HasOpen tags f how n ring v side r w
+      → HasReserved f how n ring side v (span_at side r) r.range.left w.shown w
+  reserved_in w h =
+      reserved_of f how n ring side v (span_at side r) r.range.left w.shown w there h.at refl h.starts h.may h.party
 
-  pub same_take_plan : (o q : TakeOpenLent Word64 1024 (Option Word64) G H) → SameTake o q → q.ring.shape.plan ≡ o.ring.shape.plan
-  same_take_plan o q same =
-      same_plan (sym q.ring.in_plan.0 ∙ ((λ i. slice_get (rings_of (same.0 i)) ((same.1 i).ring)) ∙ o.ring.in_plan.0))
+  pub few_in : (w : View Word64) → HasOpen tags f how n ring v side r w → (r.range.count ≤ n) × (n ≤ 1024)
+  few_in w h = let is = reserved_in w h in (is.few, is.most)
+
+  -- a whole call that was made, and one whose span stays open
+  pub moved_of : (shown words : List Word64) (u : View Word64) → HasMoved tags f how n ring v side r shown words u
+      → Moves f how n ring side v r.range.count r.range.left shown words u
+  moved_of shown words u m = record {
+    span = span_at side r;
+    opened = m.opened;
+    reserved = subst (λ (l : List Word64). HasReserved f how n ring side v (span_at side r) r.range.left l m.opened) m.shows
+        (reserved_in m.opened m.start);
+    many = refl;
+    settled = settled_of (span_at side r) words m.opened u m.settle;
+  }
+
+  pub waits_of : (k : ℕ) (shown words : List Word64) (u : View Word64) (e : SettleFault) → ArePlain (rings_of f)
+      → ((mode : Mode) → IsCount mode k r.range.count) → StaysOpen tags f how n ring v side r k shown words u e
+      → Waits f how n ring side v r.range.left shown u
+  waits_of k shown words u e plain all s = record {
+    span = span_at side r;
+    opened = s.opened;
+    reserved = subst (λ (l : List Word64). HasReserved f how n ring side v (span_at side r) r.range.left l s.opened) s.shows.0
+        (reserved_in s.opened s.start);
+    early = early_of f ring k side r words s.opened u s.start.at there plain (λ plan _. all (mode_of plan side)) e s.refused s.kept;
+  }

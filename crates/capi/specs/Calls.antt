@@ -1,7 +1,6 @@
 -- What calls on rings leave of a hand that has no open span
 use Rattle.std.specs.Prelude.{◌≡◌, ℕ, ◌⊎◌, ◌++◌, List, [], length, take, drop, Ok, Err}
 use Rattle.geom.specs.declared.plan.How.{How}
-use Rattle.geom.specs.declared.plan.Mode.TheVariants.{Multi}
 use Rattle.geom.specs.declared.plan.Side.{Side}
 use Rattle.geom.specs.declared.plan.Side.TheVariants.{Put, Take}
 use Rattle.ringcore_laws.specs.declared.protocol.Span.{Span}
@@ -28,7 +27,7 @@ module _ (f : Rings) (how : How) (n ring : ℕ) (side : Side) (v : View Word64) 
     pub span : Span
     pub opened : View Word64
     pub reserved : HasReserved f how n ring side v span left shown opened
-    pub early : IsEarly Multi span opened w
+    pub early : IsEarly f span opened w
 
   -- nothing was reserved, for this reason
   pub record Refuses (why : Fault) (left : ℕ) (w : View Word64) : Type 0 where

@@ -26,7 +26,7 @@ module _ (f : Rings) (span : Span) (v : View Word64) where
   abbrev pub StaysOpen : Side → ℕ → View Word64 → Fault → Type 0
   StaysOpen side n w why =
       ((why ≡ fault.Count) × (w ≡ v) × OnRing f span.ring (λ plan. DoesNotFit (mode_of plan side) n span.count))
-      ⊎ ((why ≡ fault.Pending) × IsEarly Multi span v w)
+      ⊎ ((why ≡ fault.Pending) × IsEarly f span v w)
 
   -- the first of these words were published at the first positions of the span
   abbrev pub FinishesPut : List Word64 → View Word64 → Outcome → Type 0

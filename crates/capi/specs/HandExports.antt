@@ -1,13 +1,13 @@
 -- What opening, splitting and looking at hands does to handles
 use Rattle.std.specs.Prelude.{◌≡◌, ℕ, ◌-◌, ◌^◌, ◌⊎◌, List, Option, None, Ok, Err, min}
+use Rattle.fabric.specs.declared.hand.in_place.OpenSpan.{OpenSpan}
+use Rattle.fabric.specs.declared.hand.in_place.OpenSpan.TheVariants.{Idle, Put, Take}
 use Rattle.capi.specs.Codes.{Outcome}
 use Rattle.capi.specs.HandCalls.{HasHand, HasNoHand}
 use Rattle.capi.specs.Openings.{IsNewHand, RefusesRings}
 use Rattle.capi.specs.RingCalls.{LikeMember, RefusesSplit, Splits}
 use Rattle.capi.specs.declared.fault.Fault.TheVariants as fault
 use Rattle.capi.specs.declared.member.Member.{Member}
-use Rattle.capi.specs.declared.member.State.{State}
-use Rattle.capi.specs.declared.member.State.TheVariants.{Idle, InCall, Putting, Taking}
 use Rattle.capi.specs.declared.object.Object.{Object}
 use Rattle.capi.specs.declared.opening.Asked.{Asked}
 
@@ -21,11 +21,10 @@ abbrev pub TellsLeft : Outcome → Member → Type 0
 TellsLeft outcome m = outcome ≡ Ok (min m.left (2 ^ 32 - 1))
 
 -- 0 with no open span, 1 with one of a put, 2 with one of a take
-abbrev pub span_kind : State → ℕ
-span_kind (Idle h) = 0
-span_kind (Putting p) = 1
-span_kind (Taking p) = 2
-span_kind InCall = 0
+abbrev pub span_kind : OpenSpan → ℕ
+span_kind Idle = 0
+span_kind (Put r) = 1
+span_kind (Take r) = 2
 
 -- the hand of the first handle was split, and the second half is in the second
 abbrev pub SplitsHand : Outcome → Option Object → Option Object → Option Object → Type 0

@@ -62,7 +62,7 @@ module _ {G : Ghosts Number} {H : StoredGhosts (Option Number) Number} (f : Numb
   pub record HasDrawn (n asked : ℕ) (got : List Number) : Type 0 where
     pub taken : List Number
     pub moved : Moved
-    pub told : Received f 0 asked l m (Ok moved) taken
+    pub reply : Received f 0 asked l m (Ok moved) taken
     pub given : got ≡ taken_by_get n (cache_of l) taken
     pub cached : cache_of m ≡ cached_after_get n (cache_of l) taken
     pub own : AreOwnBuffers numbers_of (view_of m) (got ++ cache_of m)

@@ -39,7 +39,7 @@ module _ {G : Ghosts Number} {H : StoredGhosts (Option Number) Number} where
       (l m : LocalWords Number 1024 (Option Number) G H) (answer : Result Moved Refusal) : Type 0 where
     pub seen : Option (CacheHand Number (Option Number) G H)
     pub kept : IsKept (view_of l) (view_in seen)
-    pub told : OnRing f ring (λ plan. Sends numbers_of by_bulk 1024 ring plan seen (hand_of m) cache items answer
+    pub reply : OnRing f ring (λ plan. Sends numbers_of by_bulk 1024 ring plan seen (hand_of m) cache items answer
         (unsent_of answer items))
 
   -- The last of some tries took n numbers from a ring, these, or was refused, and the tries before it changed nothing
@@ -47,11 +47,11 @@ module _ {G : Ghosts Number} {H : StoredGhosts (Option Number) Number} where
       (answer : Result Moved StartFault) (shown : List Number) : Type 0 where
     pub seen : Option (CacheHand Number (Option Number) G H)
     pub kept : IsKept (view_of l) (view_in seen)
-    pub told : OnRing f ring (λ plan. Receives numbers_of by_bulk 1024 ring plan seen (hand_of m) n answer shown)
+    pub reply : OnRing f ring (λ plan. Receives numbers_of by_bulk 1024 ring plan seen (hand_of m) n answer shown)
 
   -- numbers of a ring filled an array of n places, and are the handle's own
   pub record Filled (f : NumberRings) (ring n : ℕ) (after : List Number)
       (l m : LocalWords Number 1024 (Option Number) G H) (moved : Moved) : Type 0 where
     pub long : length after ≡ n
-    pub told : Received f ring n l m (Ok moved) after
+    pub reply : Received f ring n l m (Ok moved) after
     pub own : AreOwnBuffers numbers_of (view_of m) (after ++ cache_of m)

@@ -6,56 +6,61 @@ use Rattle.geom.specs.declared.plan.Side.TheVariants.{Put, Take}
 use Rattle.geom.specs.Plan.{mode_of}
 use Rattle.ringcore_laws.specs.declared.protocol.Span.{Span}
 use Rattle.fabric_laws.specs.Changes.{kept, split_off}
-use Rattle.fabric.specs.Detached.{detached_put_span, detached_put_view, detached_take_span, detached_take_view}
+use Rattle.fabric.specs.Held.{span_at}
+use Rattle.fabric.specs.InPlace.{placed_view}
 use Rattle.fabric.specs.Starts.{FindsRoom}
 use Rattle.fabric.specs.Views.{IsKept}
 use Rattle.fabric_laws.specs.declared.view.View.{View}
-use Rattle.fabric.specs.Hands.{OnRing, rings_of, view}
+use Rattle.fabric.specs.Hands.{OnRing, rings_of}
+use Rattle.fabric.specs.declared.hand.in_place.OpenSpan.{OpenSpan}
+use Rattle.fabric.specs.declared.hand.in_place.OpenSpan.TheVariants as open_span
+use Rattle.fabric.specs.declared.hand.in_place.OpenSpan.TheVariants.{Idle}
 use Rattle.capi.specs.Codes.{Outcome}
-use Rattle.capi.specs.Members.{Rings, state_view}
+use Rattle.capi.specs.Members.{Rings}
 use Rattle.capi.specs.Spans.{tags}
 use Rattle.capi.specs.declared.fault.Fault.{Fault}
 use Rattle.capi.specs.declared.fault.Fault.TheVariants as fault
 use Rattle.capi.specs.declared.member.Member.{Member}
-use Rattle.capi.specs.declared.member.State.{State}
-use Rattle.capi.specs.declared.member.State.TheVariants.{Idle, InCall, Putting, Taking}
 use Rattle.capi.specs.declared.word64.Word64.{Word64}
 
 -- the member is as it was
 pub record SameMember (m u : Member) : Type 0 where
   pub fabric : u.fabric ≡ m.fabric
-  pub state : u.state ≡ m.state
+  pub hand : u.hand ≡ m.hand
   pub shown : u.shown.value ≡ m.shown.value
   pub left : u.left ≡ m.left
 
 abbrev pub member_view : Member → View Word64
-member_view m = state_view m.state
+member_view m = placed_view m.hand
 
 -- a call of a hand without an open span; with one it is refused, and `same` says what is as it was
-abbrev pub OnIdle : State → Outcome → Type 0 → (View Word64 → Type 0) → Type 0
-OnIdle (Idle h) outcome same does = does (view h)
-OnIdle (Putting p) outcome same does = (outcome ≡ Err fault.Open) × same
-OnIdle (Taking p) outcome same does = (outcome ≡ Err fault.Open) × same
-OnIdle InCall outcome same does = ⊥
+abbrev pub OnIdle : OpenSpan → Outcome → Type 0 → Type 0 → Type 0
+OnIdle Idle outcome same does = does
+OnIdle (open_span.Put r) outcome same does = (outcome ≡ Err fault.Open) × same
+OnIdle (open_span.Take r) outcome same does = (outcome ≡ Err fault.Open) × same
 
 -- a call on a ring: there is none of this number, or a span is open, or it does what it says
 abbrev pub OnRings : ℕ → Member → Outcome → Type 0 → (View Word64 → Type 0) → Type 0
 OnRings ring m outcome same does =
     ((length (rings_of m.fabric.value) ≤ ring) × (outcome ≡ Err fault.Ring) × same)
-    ⊎ ((ring < length (rings_of m.fabric.value)) × OnIdle m.state outcome same does)
+    ⊎ ((ring < length (rings_of m.fabric.value)) × OnIdle m.hand.span outcome same (does (member_view m)))
 
 -- a call of a hand with an open put, or an open take
-abbrev pub OnPutting : State → Outcome → Type 0 → (Span → View Word64 → Type 0) → Type 0
-OnPutting (Idle h) outcome same does = (outcome ≡ Err fault.NotOpen) × same
-OnPutting (Putting p) outcome same does = does (detached_put_span p) (detached_put_view p)
-OnPutting (Taking p) outcome same does = (outcome ≡ Err fault.NotOpen) × same
-OnPutting InCall outcome same does = ⊥
+abbrev pub OnPut : OpenSpan → Outcome → Type 0 → (Span → Type 0) → Type 0
+OnPut Idle outcome same does = (outcome ≡ Err fault.NotOpen) × same
+OnPut (open_span.Put r) outcome same does = does (span_at Put r)
+OnPut (open_span.Take r) outcome same does = (outcome ≡ Err fault.NotOpen) × same
 
-abbrev pub OnTaking : State → Outcome → Type 0 → (Span → View Word64 → Type 0) → Type 0
-OnTaking (Idle h) outcome same does = (outcome ≡ Err fault.NotOpen) × same
-OnTaking (Putting p) outcome same does = (outcome ≡ Err fault.NotOpen) × same
-OnTaking (Taking p) outcome same does = does (detached_take_span p) (detached_take_view p)
-OnTaking InCall outcome same does = ⊥
+abbrev pub OnTake : OpenSpan → Outcome → Type 0 → (Span → Type 0) → Type 0
+OnTake Idle outcome same does = (outcome ≡ Err fault.NotOpen) × same
+OnTake (open_span.Put r) outcome same does = (outcome ≡ Err fault.NotOpen) × same
+OnTake (open_span.Take r) outcome same does = does (span_at Take r)
+
+abbrev pub OnPutting : Member → Outcome → Type 0 → (Span → View Word64 → Type 0) → Type 0
+OnPutting m outcome same does = OnPut m.hand.span outcome same (λ span. does span (member_view m))
+
+abbrev pub OnTaking : Member → Outcome → Type 0 → (Span → View Word64 → Type 0) → Type 0
+OnTaking m outcome same does = OnTake m.hand.span outcome same (λ span. does span (member_view m))
 
 -- a call on a head/tail-sync side of a ring
 abbrev pub OnHts : ℕ → Side → Member → Outcome → Type 0 → (View Word64 → Type 0) → Type 0
@@ -63,7 +68,7 @@ OnHts ring side m outcome same does =
     ((length (rings_of m.fabric.value) ≤ ring) × (outcome ≡ Err fault.Ring) × same)
     ⊎ (((ring < length (rings_of m.fabric.value)) × (outcome ≡ Err fault.Mode) × same
     × OnRing m.fabric.value ring (λ plan. mode_of plan side ≡ Multi))
-    ⊎ ((ring < length (rings_of m.fabric.value)) × OnIdle m.state outcome same does))
+    ⊎ ((ring < length (rings_of m.fabric.value)) × OnIdle m.hand.span outcome same (does (member_view m))))
 
 -- what a member has of a set of rings is as it was
 pub record LikeMember (m u : Member) : Type 0 where

@@ -1,20 +1,16 @@
 -- What calls on rings do to a hand, by its view
-use Rattle.std.specs.Prelude.{◌≡◌, ℕ, ◌<◌, ◌≤◌, List, [], Option, Some}
+use Rattle.std.specs.Prelude.{◌≡◌, ℕ, ◌<◌, ◌≤◌, List, [], Some}
 use Rattle.geom.specs.declared.plan.How.{How}
 use Rattle.geom.specs.declared.plan.How.TheVariants.{Bulk, Burst}
-use Rattle.geom.specs.declared.plan.Mode.{Mode}
 use Rattle.geom.specs.declared.plan.Mode.TheVariants.{Multi}
 use Rattle.geom.specs.declared.plan.Side.{Side}
+use Rattle.geom.specs.Plan.{mode_of}
 use Rattle.ringcore_laws.specs.declared.protocol.Span.{Span}
 use Rattle.ringcore_laws.specs.Party.{with_open, with_settled}
 use Rattle.fabric_laws.specs.declared.view.View.{View}
 use Rattle.fabric.specs.declared.hand.StartFault.{StartFault}
 use Rattle.fabric.specs.declared.hand.StartFault.TheVariants.{Busy, Contended, NoRoom, Worn, BadCount}
-use Rattle.burst.specs.declared.tagged.Tagged.{Ghosts}
-use Rattle.fabric.specs.declared.stored.Stored.{Ghosts as StoredGhosts}
-use Rattle.fabric.specs.declared.hand.PutOpen.{PutOpen}
-use Rattle.fabric.specs.declared.hand.TakeOpenLent.{TakeOpenLent}
-use Rattle.fabric.specs.Hands.{OnRing, SamePut, SameTake, put_span, put_view, take_span, take_view}
+use Rattle.fabric.specs.Hands.{OnRing}
 use Rattle.fabric.specs.Starts.{RefusesStart, Starts}
 use Rattle.fabric.specs.Views.{IsKept}
 use Rattle.capi.specs.Members.{Rings}
@@ -70,21 +66,10 @@ pub record HasSettled (span : Span) (words : List Word64) (v w : View Word64) : 
   pub pool : w.pool ≡ v.pool
   pub parts : w.parts ≡ v.parts
 
--- the span is open as before, and the settle found an earlier span of the side that isn't settled
-pub record IsEarly (mode : Mode) (span : Span) (v w : View Word64) : Type 0 where
-  pub multi : mode ≡ Multi
+-- the span is open as before, and the settle found an earlier span of the side, a multi one, that isn't settled
+pub record IsEarly (f : Rings) (span : Span) (v w : View Word64) : Type 0 where
+  pub multi : OnRing f span.ring (λ plan. mode_of plan span.side ≡ Multi)
   pub tail : ℕ
   pub below : tail < span.start
   pub lost : w.lost ≡ Some tail
   pub kept : IsKept v w
-
-module _ {G : Ghosts Word64} {H : StoredGhosts (Option Word64) Word64} where
-  pub record IsEarlyPut (o q : PutOpen Word64 1024 (Option Word64) G H) : Type 0 where
-    pub same : SamePut o q
-    pub plan : q.ring.shape.plan ≡ o.ring.shape.plan
-    pub early : IsEarly o.ring.shape.plan.put (put_span o) (put_view o) (put_view q)
-
-  pub record IsEarlyTake (o q : TakeOpenLent Word64 1024 (Option Word64) G H) : Type 0 where
-    pub same : SameTake o q
-    pub plan : q.ring.shape.plan ≡ o.ring.shape.plan
-    pub early : IsEarly o.ring.shape.plan.take (take_span o) (take_view o) (take_view q)

@@ -83,9 +83,13 @@ abbrev pub hop_word : Option ℕ → ℕ
 hop_word None = 2 ^ 32 - 1
 hop_word (Some hop) = hop
 
+-- these numbers for a list of addresses
+abbrev pub hop_words : Routes → List ℕ → List ℕ
+hop_words t addresses = map (λ address. hop_word (lookup_in t.members address)) addresses
+
 -- each place of `hops` has what a lookup of the address at that place returns, or the counts differ and nothing changed
 abbrev pub LooksUpAll : Outcome → List ℕ → List ℕ → List ℕ → Routes → Type 0
 LooksUpAll (Ok count) addresses hops words t =
-    (count ≡ 0) × (words ≡ map (λ address. hop_word (lookup_in t.members address)) addresses)
+    (count ≡ 0) × (words ≡ hop_words t addresses)
 LooksUpAll (Err why) addresses hops words t =
     (why ≡ fault.Count) × (length addresses ≢ length hops) × (words ≡ hops)

@@ -6,8 +6,9 @@ ghost use Rattle.capi.specs.RingCalls.{SameMember};
 
 use crate::closing::Rest;
 use crate::fault::Fault;
-use crate::member::{MOST, Member, State};
+use crate::member::{MOST, Member};
 use crate::word64::Word64;
+use fabric::OpenSpan;
 use std::sync::Arc;
 
 /// Closes the rings of a member that has no open span, and that no other shares. Errors: `Open`; `Shared`; the member
@@ -18,38 +19,37 @@ pub(crate) fn close(member: Member) -> Result<Rest, (Member, Fault)>
 {
     let Member {
         fabric,
-        state,
+        hand,
         shown,
         left,
     } = member;
-    match state {
-        State::Idle(hand) => {
-            let rings = fabric.rings();
-            match Arc::try_unwrap(fabric) {
-                Ok(whole) => Ok(Rest {
-                    closed: whole.close(hand),
-                    rings,
-                }),
-                Err(fabric) => Err((
-                    Member {
-                        fabric,
-                        state: State::Idle(hand),
-                        shown,
-                        left,
-                    },
-                    Fault::Shared,
-                )),
-            }
-        }
-        state => Err((
-            Member {
+    match hand.span() {
+        OpenSpan::Idle => (),
+        _ => {
+            let member = Member {
                 fabric,
-                state,
+                hand,
                 shown,
                 left,
-            },
-            Fault::Open,
-        )),
+            };
+            return Err((member, Fault::Open));
+        }
+    }
+    let rings = fabric.rings();
+    match Arc::try_unwrap(fabric) {
+        Ok(whole) => Ok(Rest {
+            closed: whole.close(hand.into_hand()),
+            rings,
+        }),
+        Err(fabric) => {
+            let member = Member {
+                fabric,
+                hand,
+                shown,
+                left,
+            };
+            Err((member, Fault::Shared))
+        }
     }
 }
 

@@ -1,21 +1,21 @@
 //! Finishing a span that a hand has open: after a call that returned `Pending`, or of a peek.
 ghost use Rattle.std.specs.Prelude.{◌≡◌, ◌≤◌, IfNone, IfSome, List, length, take};
-ghost use Rattle.fabric.specs.Detached.{IsDetachedPutOf, IsDetachedTakeOf};
-ghost use Rattle.fabric.specs.Detached.{detached_put_span, detached_put_view};
-ghost use Rattle.fabric.specs.Detached.{detached_take_span, detached_take_view};
+ghost use Rattle.geom.specs.declared.plan.Side.TheVariants.{Put, Take};
 ghost use Rattle.fabric.specs.Hands.{rings_of};
+ghost use Rattle.fabric.specs.Held.{span_at};
+ghost use Rattle.fabric.specs.InPlace.{IsPlacedOf, placed_view};
 ghost use Rattle.fabric.specs.Settles.{IsCount};
+ghost use Rattle.fabric.specs.declared.hand.in_place.OpenSpan.TheVariants as open_span;
 ghost use Rattle.capi.specs.Finishes.{DoesNotFit, FinishesPut, FinishesTake};
-ghost use Rattle.capi.specs.Members.{ArePlain, IsBetweenCalls, Suits, state_view};
+ghost use Rattle.capi.specs.Members.{ArePlain, AreShown};
 ghost use Rattle.capi.specs.declared.word64.Word64.{Word64 as Words};
 
 use crate::fault::Fault;
-use crate::member::State;
+use crate::member::{Rings, WordHand};
 use crate::settling::{publish, withdraw};
 use crate::word64::Word64;
-use fabric::{DetachedPut, DetachedTake, Fabric};
+use fabric::Reserved;
 use geom::{Mode, Side};
-use slot::Slot;
 
 /// How many of a span's positions are settled for a count of `n`: on a multi side all, and `n` is at least as many; on
 /// an HTS side `n`, and the span has at least as many. `None` if `n` doesn't fit.
@@ -29,50 +29,54 @@ fn settled_count(mode: Mode, n: usize, count: usize) -> Option<usize>
     }
 }
 
-/// Finishes a put with these words.
+/// Finishes the open put with these words.
 pub(crate) fn finish_put(
-    f: &Fabric<Word64, 1024, Slot<Word64>>,
-    detached: DetachedPut<Word64, 1024, Slot<Word64>>,
+    f: &Rings,
+    hand: &mut WordHand,
+    reserved: Reserved,
     words: &[Word64],
-) -> (State, Result<u32, Fault>)
-    requires of { IsDetachedPutOf f.now detached }
+) -> Result<u32, Fault>
+    requires of { IsPlacedOf f.now hand.old }
+    requires open { hand.old.span ≡ open_span.Put reserved }
     requires plain { ArePlain (rings_of f.now) }
-    ensures suits { (shown : List Words) → Suits f.now result.0 shown }
-    ensures between { IsBetweenCalls result.0 }
-    ensures finish { FinishesPut f.now (detached_put_span detached) (detached_put_view detached) words.now
-        (state_view result.0) result.1 }
+    ensures of { IsPlacedOf f.now hand.new }
+    ensures shows { (shown : List Words) → AreShown hand.new shown }
+    ensures finish { FinishesPut f.now (span_at Put reserved) (placed_view hand.old) words.now
+        (placed_view hand.new) result }
 {
-    let mode = f.mode(detached.ring(), Side::Put);
-    let Some(k) = settled_count(mode, words.len(), detached.count()) else {
-        return (State::Putting(detached), Err(Fault::Count));
+    let mode = f.mode(reserved.ring(), Side::Put);
+    let Some(k) = settled_count(mode, words.len(), reserved.count()) else {
+        return Err(Fault::Count);
     };
-    match publish(detached.attach(f), &words[..k]) {
-        Ok(hand) => (State::Idle(hand), Ok(k as u32)),
-        Err(span) => (State::Putting(span.detach()), Err(Fault::Pending)),
+    match publish(f, hand, reserved, &words[..k]) {
+        Ok(()) => Ok(k as u32),
+        Err(why) => Err(why),
     }
 }
 
-/// Finishes a take: the first `n` of the words that it showed.
+/// Finishes the open take: the first `n` of the words that it showed.
 pub(crate) fn finish_take(
-    f: &Fabric<Word64, 1024, Slot<Word64>>,
-    detached: DetachedTake<Word64, 1024, Slot<Word64>>,
+    f: &Rings,
+    hand: &mut WordHand,
+    reserved: Reserved,
     n: usize,
     shown: &[Word64; 1024],
-) -> (State, Result<u32, Fault>)
-    requires of { IsDetachedTakeOf f.now detached }
-    requires shows { take (detached_take_span detached).count shown.now ≡ (detached_take_view detached).shown }
-    ensures suits { Suits f.now result.0 shown.now }
-    ensures between { IsBetweenCalls result.0 }
-    ensures finish { FinishesTake f.now (detached_take_span detached) (detached_take_view detached) n
-        (state_view result.0) result.1 }
+) -> Result<u32, Fault>
+    requires of { IsPlacedOf f.now hand.old }
+    requires open { hand.old.span ≡ open_span.Take reserved }
+    requires plain { ArePlain (rings_of f.now) }
+    requires shows { take reserved.range.count shown.now ≡ (placed_view hand.old).shown }
+    ensures of { IsPlacedOf f.now hand.new }
+    ensures shows { AreShown hand.new shown.now }
+    ensures finish { FinishesTake f.now (span_at Take reserved) (placed_view hand.old) n (placed_view hand.new) result }
 {
-    let mode = f.mode(detached.ring(), Side::Take);
-    let count = detached.count();
+    let mode = f.mode(reserved.ring(), Side::Take);
+    let count = reserved.count();
     let Some(k) = settled_count(mode, n, count) else {
-        return (State::Taking(detached), Err(Fault::Count));
+        return Err(Fault::Count);
     };
-    match withdraw(detached.attach(f), k, &shown[..count]) {
-        Ok(hand) => (State::Idle(hand), Ok(k as u32)),
-        Err(span) => (State::Taking(span.detach()), Err(Fault::Pending)),
+    match withdraw(f, hand, reserved, k, &shown[..count]) {
+        Ok(()) => Ok(k as u32),
+        Err(why) => Err(why),
     }
 }

@@ -7,33 +7,33 @@ ghost use Rattle.capi.specs.HandExports.{TellsLeft, span_kind};
 use crate::fault::{Fault, answer};
 use crate::handle::Handle;
 use crate::keeping::borrow;
-use crate::member::State;
 use crate::object::Object;
+use fabric::OpenSpan;
 use std::alloc::Global;
 
 /// What a member has open.
-fn kind(state: &State) -> u32
-    ensures { result ≡ span_kind state.now }
+fn kind(span: OpenSpan) -> u32
+    ensures { result ≡ span_kind span }
 {
-    match state {
-        State::Idle(_) | State::InCall => 0,
-        State::Putting(_) => 1,
-        State::Taking(_) => 2,
+    match span {
+        OpenSpan::Idle => 0,
+        OpenSpan::Put(_) => 1,
+        OpenSpan::Take(_) => 2,
     }
 }
 
 fn span_in(slot: &Option<Object>) -> Result<u32, Fault>
-    ensures { AtHand slot.now slot.now result (λ m u. (u ≡ m) × (result ≡ Ok (span_kind m.state))) }
+    ensures { AtHand slot.now slot.now result (λ m u. (u ≡ m) × (result ≡ Ok (span_kind m.hand.span))) }
 {
     match slot {
-        Some(Object::Hand(member)) => Ok(kind(&member.state)),
+        Some(Object::Hand(member)) => Ok(kind(member.hand.span())),
         Some(_) => Err(Fault::Kind),
         None => Err(Fault::Empty),
     }
 }
 
 fn span_at(alloc: Global, h: &mut Handle) -> Result<u32, Fault>
-    ensures { AtHand h.old.value h.new.value result (λ m u. (u ≡ m) × (result ≡ Ok (span_kind m.state))) }
+    ensures { AtHand h.old.value h.new.value result (λ m u. (u ≡ m) × (result ≡ Ok (span_kind m.hand.span))) }
 {
     let Some(slot) = borrow(alloc, h) else {
         return Err(Fault::Empty);
@@ -47,7 +47,7 @@ fn span_at(alloc: Global, h: &mut Handle) -> Result<u32, Fault>
 #[unsafe(no_mangle)]
 pub extern "C" fn hkx_hand_span(alloc: Global, h: &mut Handle) -> i64
     ensures { Answers result (λ outcome. AtHand h.old.value h.new.value outcome
-        (λ m u. (u ≡ m) × (outcome ≡ Ok (span_kind m.state)))) }
+        (λ m u. (u ≡ m) × (outcome ≡ Ok (span_kind m.hand.span)))) }
 {
     answer(span_at(alloc, h))
 }

@@ -107,7 +107,7 @@ pub(crate) fn peek_take(
 
 /// Finishes the put that the hand has open.
 pub(crate) fn finish_put(slot: &mut Option<Object>, words: &[Word64]) -> Result<u32, Fault>
-    ensures { AtHand slot.old slot.new result (λ m u. OnPutting m.state result (SameMember m u)
+    ensures { AtHand slot.old slot.new result (λ m u. OnPutting m result (SameMember m u)
         (λ span v. (u.fabric ≡ m.fabric)
         × FinishesPut m.fabric.value span v words.now (member_view u) result)) }
 {
@@ -120,7 +120,7 @@ pub(crate) fn finish_put(slot: &mut Option<Object>, words: &[Word64]) -> Result<
 
 /// Finishes the take that the hand has open.
 pub(crate) fn finish_take(slot: &mut Option<Object>, n: usize) -> Result<u32, Fault>
-    ensures { AtHand slot.old slot.new result (λ m u. OnTaking m.state result (SameMember m u)
+    ensures { AtHand slot.old slot.new result (λ m u. OnTaking m result (SameMember m u)
         (λ span v. (u.fabric ≡ m.fabric)
         × FinishesTake m.fabric.value span v n (member_view u) result)) }
 {

@@ -8,10 +8,10 @@ ghost use Rattle.capi.specs.Openings.{IsNewHand, RefusesRings};
 ghost use Rattle.capi.specs.declared.fault.Fault.TheVariants as fault;
 
 use crate::fault::Fault;
-use crate::member::{Member, State};
+use crate::member::Member;
 use crate::opening::{Asked, plans};
 use crate::word64::Word64;
-use fabric::{Fabric, OpenFault, Opened};
+use fabric::{Fabric, HandInPlace, OpenFault, Opened};
 use geom::RingPlan;
 use slot::Slot;
 use std::alloc::Global;
@@ -52,7 +52,7 @@ pub(crate) fn open(alloc: Global, asked: &[Asked]) -> Result<Member, Fault>
         Ok(opened) => match Arc::new(alloc, opened.fabric) {
             Ok(fabric) => Ok(Member {
                 fabric,
-                state: State::Idle(opened.hand),
+                hand: HandInPlace::of(opened.hand),
                 shown,
                 left: 0,
             }),

@@ -1,34 +1,31 @@
 //! Looks at rings by a member, and splitting a member in two.
 ghost use Rattle.std.specs.Prelude.{◌≡◌, ◌<◌, IfErr, IfOk, length};
-ghost use Rattle.fabric.specs.Hands.{IsHandOf, rings_of, view};
+ghost use Rattle.fabric.specs.Hands.{rings_of};
+ghost use Rattle.fabric.specs.InPlace.{IsPlacedOf, placed_view};
+ghost use Rattle.fabric.specs.declared.hand.in_place.OpenSpan.TheVariants as open_span;
 ghost use Rattle.capi.specs.RingCalls.{LikeMember, Looks, OnRings, RefusesSplit, SameMember};
 ghost use Rattle.capi.specs.RingCalls.{Splits, member_view, room_side};
 
 use crate::fault::Fault;
-use crate::member::{Member, State};
+use crate::member::{Member, Rings, WordHand};
 use crate::word64::Word64;
-use fabric::{Fabric, Hand, SplitFault};
+use fabric::{HandInPlace, OpenSpan, SplitFault};
 use geom::Side;
-use slot::Slot;
 use std::alloc::Global;
 use std::sync::Arc;
 
 /// One look at a side: how many words are queued, or how many more there is room for. Errors: `Again`.
-fn look_at(
-    f: &Fabric<Word64, 1024, Slot<Word64>>,
-    hand: Hand<Word64, Slot<Word64>>,
-    ring: usize,
-    side: Side,
-) -> (Hand<Word64, Slot<Word64>>, Result<u32, Fault>)
-    requires hand { IsHandOf f.now hand }
+fn look_at(f: &Rings, hand: &mut WordHand, ring: usize, side: Side) -> Result<u32, Fault>
+    requires of { IsPlacedOf f.now hand.old }
+    requires idle { hand.old.span ≡ open_span.Idle }
     requires ring { ring < length (rings_of f.now) }
-    ensures hand { IsHandOf f.now result.0 }
-    ensures found { Looks f.now ring side (view hand) (view result.0) result.1 }
+    ensures of { IsPlacedOf f.now hand.new }
+    ensures idle { hand.new.span ≡ open_span.Idle }
+    ensures found { Looks f.now ring side (placed_view hand.old) (placed_view hand.new) result }
 {
-    let (hand, found) = f.room(hand, ring, side);
-    match found {
-        Ok(room) => (hand, Ok(room.min(0xffff_ffff) as u32)),
-        Err(_word) => (hand, Err(Fault::Again)),
+    match hand.room(f, ring, side) {
+        Ok(room) => Ok(room.min(0xffff_ffff) as u32),
+        Err(_word) => Err(Fault::Again),
     }
 }
 
@@ -48,16 +45,9 @@ pub(crate) fn look(member: &mut Member, ring: usize, queued: bool) -> Result<u32
     if ring >= member.fabric.rings() {
         return Err(Fault::Ring);
     }
-    match std::mem::replace(&mut member.state, State::InCall) {
-        State::Idle(hand) => {
-            let (hand, found) = look_at(&member.fabric, hand, ring, side_of(queued));
-            member.state = State::Idle(hand);
-            found
-        }
-        state => {
-            member.state = state;
-            Err(Fault::Open)
-        }
+    match member.hand.span() {
+        OpenSpan::Idle => look_at(&member.fabric, &mut member.hand, ring, side_of(queued)),
+        _ => Err(Fault::Open),
     }
 }
 
@@ -66,6 +56,10 @@ pub(crate) fn split(alloc: Global, member: Member) -> (Member, Result<Member, Fa
     ensures split { IfOk result.1 (λ other. Splits member result.0 other) }
     ensures refused { IfErr result.1 (λ why. LikeMember member result.0 × RefusesSplit member why) }
 {
+    match member.hand.span() {
+        OpenSpan::Idle => (),
+        _ => return (member, Err(Fault::Open)),
+    }
     let Ok(second) = Box::new(alloc, [Word64 { bits: 0 }; 1024]) else {
         return (member, Err(Fault::Memory));
     };
@@ -74,47 +68,31 @@ pub(crate) fn split(alloc: Global, member: Member) -> (Member, Result<Member, Fa
     };
     let Member {
         fabric,
-        state,
+        hand,
         shown,
         left,
     } = member;
-    match state {
-        State::Idle(hand) => match hand.split(alloc, &fabric) {
-            Ok((first, other)) => (
-                Member {
-                    fabric,
-                    state: State::Idle(first),
-                    shown,
-                    left,
-                },
-                Ok(Member {
-                    fabric: rings,
-                    state: State::Idle(other),
-                    shown: second,
-                    left: 0,
-                }),
-            ),
-            Err((hand, why)) => {
-                let member = Member {
-                    fabric,
-                    state: State::Idle(hand),
-                    shown,
-                    left,
-                };
-                match why {
-                    SplitFault::Memory => (member, Err(Fault::Memory)),
-                    SplitFault::TooMany => (member, Err(Fault::Parts)),
-                }
-            }
-        },
-        state => (
-            Member {
-                fabric,
-                state,
-                shown,
-                left,
-            },
-            Err(Fault::Open),
+    let (hand, other) = match hand.into_hand().split(alloc, &fabric) {
+        Ok((hand, other)) => (hand, Ok(other)),
+        Err((hand, SplitFault::Memory)) => (hand, Err(Fault::Memory)),
+        Err((hand, SplitFault::TooMany)) => (hand, Err(Fault::Parts)),
+    };
+    let member = Member {
+        fabric,
+        hand: HandInPlace::of(hand),
+        shown,
+        left,
+    };
+    match other {
+        Ok(other) => (
+            member,
+            Ok(Member {
+                fabric: rings,
+                hand: HandInPlace::of(other),
+                shown: second,
+                left: 0,
+            }),
         ),
+        Err(why) => (member, Err(why)),
     }
 }

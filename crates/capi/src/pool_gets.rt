@@ -40,7 +40,7 @@ fn deal(local: &mut LocalWords<Number, 1024, Slot<Number>>, taken: &[Number], in
     }
 }
 
-/// Gets numbers with so many of the free ring.
+/// Gets numbers, with `asked` of them from the free ring.
 #[inline(never)]
 fn draw(
     f: &Fabric<Number, 1024, Slot<Number>>,

@@ -14,7 +14,7 @@ use std::sync::Arc;
 /// The most numbers of one call. A get asks the free ring for these and a whole cache, 1,024 at most.
 pub(crate) const MOST_NUMBERS: usize = 512;
 
-/// A number of a pool. Whoever has it owns what it stands for.
+/// A number of a pool. The thread that has it owns what it stands for.
 #[repr(C)]
 #[derive(Drop, Clone, Copy, Debug)]
 pub struct Number {

@@ -74,7 +74,7 @@ fn slide_at(alloc: Global, h: &mut Handle, number: u64) -> Result<u32, Fault>
     outcome
 }
 
-/// Opens a window of so many numbers, 1 to 65,536, that waits for number 0.
+/// Opens a window of `size` numbers, 1 to 65,536, that waits for number 0.
 #[unsafe(no_mangle)]
 pub extern "C" fn hkx_reorder_open(alloc: Global, h: &mut Handle, size: u32) -> i64
     ensures { Answers result (λ outcome. OpensWindow outcome size h.old.value h.new.value) }

@@ -1,18 +1,22 @@
 //! Calls on a table of routes. Several handles may share one; it changes only while a single handle has it.
-ghost use Rattle.std.specs.Prelude.{◌≡◌, ◌⊎◌, IfErr, IfOk, length, map};
+ghost use Rattle.std.specs.Prelude.{◌≡◌, ◌<◌, ◌≤◌, ◌⊎◌, IfErr, IfOk, length, take};
 ghost use Rattle.lpm.specs.Match.{lookup_in};
 ghost use Rattle.lpm.specs.Routes.{IsNew};
 ghost use Rattle.capi.specs.Handles.{AtRoutes};
-ghost use Rattle.capi.specs.Tables.{Adds, FindsTable, LooksUpAll, RefusesTable, Removes, fault_of, hop_found, hop_word};
+ghost use Rattle.capi.specs.Tables.{Adds, FindsTable, LooksUpAll, RefusesTable, Removes, fault_of, hop_found};
+ghost use Rattle.capi.specs.Tables.{hop_word, hop_words};
 
 use crate::fault::Fault;
 use crate::object::Object;
-use lpm::{RouteFault, Table};
+use lpm::{NextHop, RouteFault, Table};
 use std::alloc::Global;
 use std::sync::Arc;
 
 /// What a lookup of many addresses writes where no route covers the address.
 const NO_HOP: u32 = 0xffff_ffff;
+
+/// How many addresses are looked up together.
+const BLOCK: usize = 32;
 
 /// The fault for one of the table's own.
 fn fault(why: RouteFault) -> Fault
@@ -134,23 +138,45 @@ pub(crate) fn look_up(slot: &Option<Object>, address: u32) -> Result<u32, Fault>
     }
 }
 
-/// The next hop for an address as 32 bits, or `NO_HOP`.
-fn word_for(table: &Table, address: u32) -> u32
-    ensures { result ≡ hop_word (lookup_in table.now.members address) }
+/// What a lookup found as 32 bits, or `NO_HOP`.
+#[inline]
+fn word_of(found: NextHop) -> u32
+    ensures { result ≡ hop_word found }
 {
-    match table.lookup(address) {
+    match found.hop() {
         Some(hop) => hop,
         None => NO_HOP,
     }
 }
 
+/// The next hops for at most `BLOCK` addresses from one place on, at the same places. It returns the place after them.
+fn write_block(table: &Table, addresses: &[u32], hops: &mut [u32], at: usize) -> usize
+    requires long { length addresses.now ≡ length hops.old }
+    requires below { at < length addresses.now }
+    requires before { take at hops.old ≡ take at (hop_words table.now addresses.now) }
+    ensures long { length hops.new ≡ length hops.old }
+    ensures further { at < result }
+    ensures fits { result ≤ length addresses.now }
+    ensures written { take result hops.new ≡ take result (hop_words table.now addresses.now) }
+{
+    let count = (addresses.len() - at).min(BLOCK);
+    let mut places = [NextHop::none(); BLOCK];
+    let found = &mut places[..count];
+    table.lookup_bulk(&addresses[at..at + count], found);
+    for i in 0..count {
+        hops[at + i] = word_of(found[i]);
+    }
+    at + count
+}
+
 /// The next hops for addresses, at the same places.
 fn write_hops(table: &Table, addresses: &[u32], hops: &mut [u32])
     requires { length addresses.now ≡ length hops.old }
-    ensures { hops.new ≡ map (λ address. hop_word (lookup_in table.now.members address)) addresses.now }
+    ensures { hops.new ≡ hop_words table.now addresses.now }
 {
-    for i in 0..addresses.len() {
-        hops[i] = word_for(table, addresses[i]);
+    let mut at = 0;
+    while at < addresses.len() {
+        at = write_block(table, addresses, hops, at);
     }
 }
 

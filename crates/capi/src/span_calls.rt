@@ -7,9 +7,10 @@ ghost use Rattle.capi.specs.RingCalls.{OnHts, OnPutting, OnTaking, SameMember, m
 
 use crate::fault::Fault;
 use crate::finishing::{finish_put, finish_take};
-use crate::member::{Member, State};
+use crate::member::Member;
 use crate::peeking::{peek_put, peek_take};
 use crate::word64::Word64;
+use fabric::OpenSpan;
 use geom::{How, Mode, Side};
 
 /// Reserves positions of a put side. Errors: `Ring`, `Mode`, `Open`; those of a start.
@@ -30,17 +31,13 @@ pub(crate) fn peek_put_of(
         Mode::Hts => (),
         Mode::Multi => return Err(Fault::Mode),
     }
-    match std::mem::replace(&mut member.state, State::InCall) {
-        State::Idle(hand) => {
-            let ended = peek_put(&member.fabric, hand, ring, n, how);
-            member.state = ended.state;
-            member.left = ended.left;
-            ended.outcome
+    match member.hand.span() {
+        OpenSpan::Idle => {
+            let (left, outcome) = peek_put(&member.fabric, &mut member.hand, ring, n, how);
+            member.left = left;
+            outcome
         }
-        state => {
-            member.state = state;
-            Err(Fault::Open)
-        }
+        _ => Err(Fault::Open),
     }
 }
 
@@ -62,54 +59,45 @@ pub(crate) fn peek_take_of(
         Mode::Hts => (),
         Mode::Multi => return Err(Fault::Mode),
     }
-    match std::mem::replace(&mut member.state, State::InCall) {
-        State::Idle(hand) => {
-            let ended = peek_take(&member.fabric, hand, ring, words, how, &mut member.shown);
-            member.state = ended.state;
-            member.left = ended.left;
-            ended.outcome
+    match member.hand.span() {
+        OpenSpan::Idle => {
+            let (left, outcome) = peek_take(
+                &member.fabric,
+                &mut member.hand,
+                ring,
+                words,
+                how,
+                &mut member.shown,
+            );
+            member.left = left;
+            outcome
         }
-        state => {
-            member.state = state;
-            Err(Fault::Open)
-        }
+        _ => Err(Fault::Open),
     }
 }
 
 /// Finishes the put that the member has open. Errors: `NotOpen`; `Count`; `Pending`.
 pub(crate) fn finish_put_of(member: &mut Member, words: &[Word64]) -> Result<u32, Fault>
-    ensures { OnPutting member.old.state result (SameMember member.old member.new)
+    ensures { OnPutting member.old result (SameMember member.old member.new)
         (λ span v. (member.new.fabric ≡ member.old.fabric)
         × FinishesPut member.old.fabric.value span v words.now (member_view member.new) result) }
 {
-    match std::mem::replace(&mut member.state, State::InCall) {
-        State::Putting(detached) => {
-            let (state, outcome) = finish_put(&member.fabric, detached, words);
-            member.state = state;
-            outcome
-        }
-        state => {
-            member.state = state;
-            Err(Fault::NotOpen)
-        }
+    match member.hand.span() {
+        OpenSpan::Put(reserved) => finish_put(&member.fabric, &mut member.hand, reserved, words),
+        _ => Err(Fault::NotOpen),
     }
 }
 
 /// Finishes the take that the member has open. Errors: `NotOpen`; `Count`; `Pending`.
 pub(crate) fn finish_take_of(member: &mut Member, n: usize) -> Result<u32, Fault>
-    ensures { OnTaking member.old.state result (SameMember member.old member.new)
+    ensures { OnTaking member.old result (SameMember member.old member.new)
         (λ span v. (member.new.fabric ≡ member.old.fabric)
         × FinishesTake member.old.fabric.value span v n (member_view member.new) result) }
 {
-    match std::mem::replace(&mut member.state, State::InCall) {
-        State::Taking(detached) => {
-            let (state, outcome) = finish_take(&member.fabric, detached, n, &member.shown);
-            member.state = state;
-            outcome
+    match member.hand.span() {
+        OpenSpan::Take(reserved) => {
+            finish_take(&member.fabric, &mut member.hand, reserved, n, &member.shown)
         }
-        state => {
-            member.state = state;
-            Err(Fault::NotOpen)
-        }
+        _ => Err(Fault::NotOpen),
     }
 }

@@ -87,7 +87,7 @@ pub extern "C" fn hkx_ring_peek_take(
 }
 
 fn finish_put_at(alloc: Global, h: &mut Handle, words: &[Word64]) -> Result<u32, Fault>
-    ensures { AtHand h.old.value h.new.value result (λ m u. OnPutting m.state result (SameMember m u)
+    ensures { AtHand h.old.value h.new.value result (λ m u. OnPutting m result (SameMember m u)
         (λ span v. (u.fabric ≡ m.fabric)
         × FinishesPut m.fabric.value span v words.now (member_view u) result)) }
 {
@@ -103,7 +103,7 @@ fn finish_put_at(alloc: Global, h: &mut Handle, words: &[Word64]) -> Result<u32,
 #[unsafe(no_mangle)]
 pub extern "C" fn hkx_ring_finish_put(alloc: Global, h: &mut Handle, words: &[Word64]) -> i64
     ensures { Answers result (λ outcome. AtHand h.old.value h.new.value outcome
-        (λ m u. OnPutting m.state outcome (SameMember m u)
+        (λ m u. OnPutting m outcome (SameMember m u)
         (λ span v. (u.fabric ≡ m.fabric)
         × FinishesPut m.fabric.value span v words.now (member_view u) outcome))) }
 {
@@ -111,7 +111,7 @@ pub extern "C" fn hkx_ring_finish_put(alloc: Global, h: &mut Handle, words: &[Wo
 }
 
 fn finish_take_at(alloc: Global, h: &mut Handle, n: usize) -> Result<u32, Fault>
-    ensures { AtHand h.old.value h.new.value result (λ m u. OnTaking m.state result (SameMember m u)
+    ensures { AtHand h.old.value h.new.value result (λ m u. OnTaking m result (SameMember m u)
         (λ span v. (u.fabric ≡ m.fabric)
         × FinishesTake m.fabric.value span v n (member_view u) result)) }
 {
@@ -127,7 +127,7 @@ fn finish_take_at(alloc: Global, h: &mut Handle, n: usize) -> Result<u32, Fault>
 #[unsafe(no_mangle)]
 pub extern "C" fn hkx_ring_finish_take(alloc: Global, h: &mut Handle, n: usize) -> i64
     ensures { Answers result (λ outcome. AtHand h.old.value h.new.value outcome
-        (λ m u. OnTaking m.state outcome (SameMember m u)
+        (λ m u. OnTaking m outcome (SameMember m u)
         (λ span v. (u.fabric ≡ m.fabric)
         × FinishesTake m.fabric.value span v n (member_view u) outcome))) }
 {

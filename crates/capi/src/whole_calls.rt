@@ -5,10 +5,11 @@ ghost use Rattle.capi.specs.HandCalls.{how_of};
 ghost use Rattle.capi.specs.RingCalls.{OnRings, SameMember, member_view};
 
 use crate::fault::Fault;
-use crate::member::{Member, State};
+use crate::member::Member;
 use crate::put::put;
 use crate::take::take;
 use crate::word64::Word64;
+use fabric::OpenSpan;
 use geom::How;
 
 /// By bulk or by burst.
@@ -33,17 +34,14 @@ pub(crate) fn put_words(
     if ring >= member.fabric.rings() {
         return Err(Fault::Ring);
     }
-    match member.state {
-        State::Idle(_) => (),
-        _ => return Err(Fault::Open),
+    match member.hand.span() {
+        OpenSpan::Idle => {
+            let (left, outcome) = put(&member.fabric, &mut member.hand, ring, words, how);
+            member.left = left;
+            outcome
+        }
+        _ => Err(Fault::Open),
     }
-    let State::Idle(hand) = std::mem::replace(&mut member.state, State::InCall) else {
-        unreachable!()
-    };
-    let ended = put(&member.fabric, hand, ring, words, how);
-    member.state = ended.state;
-    member.left = ended.left;
-    ended.outcome
 }
 
 /// Takes words from a ring. Errors: `Ring`, `Open`; those of a take.
@@ -61,15 +59,19 @@ pub(crate) fn take_words(
     if ring >= member.fabric.rings() {
         return Err(Fault::Ring);
     }
-    match member.state {
-        State::Idle(_) => (),
-        _ => return Err(Fault::Open),
+    match member.hand.span() {
+        OpenSpan::Idle => {
+            let (left, outcome) = take(
+                &member.fabric,
+                &mut member.hand,
+                ring,
+                words,
+                how,
+                &mut member.shown,
+            );
+            member.left = left;
+            outcome
+        }
+        _ => Err(Fault::Open),
     }
-    let State::Idle(hand) = std::mem::replace(&mut member.state, State::InCall) else {
-        unreachable!()
-    };
-    let ended = take(&member.fabric, hand, ring, words, how, &mut member.shown);
-    member.state = ended.state;
-    member.left = ended.left;
-    ended.outcome
 }

@@ -72,7 +72,7 @@ Examples:
 Workers:
   N workers are N + 2 threads, each of which wants a processor of its own.
   On four processors 1 and 2 workers are the fastest, with the settings of examples/fast.toml.
-  On one or two processors 0 is the fastest.
+  On two processors 0 is the fastest.
 
 Exit status:
   0  the report is on standard output and the files of the ports are complete, or help was requested

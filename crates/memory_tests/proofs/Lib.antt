@@ -1,3 +1,2 @@
 pub mod Sole
 pub mod Joined
-mod Sent

@@ -6,5 +6,4 @@ pub mod one_ring;
 pub mod packets;
 pub mod reports;
 pub mod routes;
-pub mod sent;
 pub mod windows;

@@ -16,8 +16,6 @@ mod rings;
 #[cfg(test)]
 mod routes;
 #[cfg(test)]
-mod shared;
-#[cfg(test)]
 mod windows;
 #[cfg(test)]
 mod worlds;

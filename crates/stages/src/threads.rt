@@ -239,9 +239,8 @@ fn run_stages<
                 let sink = call_off(rt, f, mine, sink, workers, settings);
                 return (sink, ReaderOutcome::lost());
             };
-            let mut ring_port = RingPort::new(f, mine);
-            let burst = settings.burst as usize;
-            let drained = drain(rt, &mut ring_port, &mut sink, workers, burst);
+            let mut port = RingPort::new(f, mine);
+            let drained = drain(rt, &mut port, &mut sink, workers, settings.burst as usize);
             (sink, thread.join(rt).with(drained))
         },
     )

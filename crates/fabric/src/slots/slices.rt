@@ -62,7 +62,7 @@ impl<T: Word, const N: usize, S: Stored<T>> Ring<'_, T, N, S> {
 
     /// Copies words into as many slots from the position `start` on, which are empty and the first of the row. They are
     /// its last ones afterwards.
-    #[inline]
+    #[inline(always)]
     pub(crate) fn fill_slice(&self, seat: &mut Seat<Cell<T, S>, View<T>>, start: u64, items: &[T])
         requires table { seat.old.table_id ≡ self.now.fabric.now.table.shared.table_id }
         requires low { start + length items.now < 2 ^ 63 }
@@ -126,7 +126,7 @@ impl<T: Word, const N: usize, S: Stored<T>> Ring<'_, T, N, S> {
 
     /// Copies the words out of as many slots from the position `start` on. The slots are all of the row, and are empty
     /// afterwards.
-    #[inline]
+    #[inline(always)]
     pub(crate) fn drain_slice(
         &self,
         seat: &mut Seat<Cell<T, S>, View<T>>,

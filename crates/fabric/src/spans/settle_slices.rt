@@ -25,7 +25,7 @@ use geom::{Mode, Side};
 
 impl<T: Word, const N: usize, S: Stored<T>> Ring<'_, T, N, S> {
     /// Copies words into the first slots of a put span.
-    #[inline]
+    #[inline(always)]
     fn offer_slice(&self, seat: &mut Seat<Cell<T, S>, View<T>>, range: Positions, items: &[T])
         requires table { seat.old.table_id ≡ self.now.fabric.now.table.shared.table_id }
         requires fits { length items.now ≤ range.count }

@@ -14,12 +14,10 @@ ghost use Rattle.fabric.specs.declared.hand.SettleFault.TheVariants.{NotYours};
 ghost use Rattle.fabric.specs.declared.hand.StartFault.TheVariants.{Worn};
 
 use crate::fabric::Fabric;
-use crate::hand::{Hand, PutOpen, SettleFault, Share, StartFault, TakeOpenLent};
-use crate::ring::Ring;
-use crate::spans::settle::is_count;
+use crate::hand::{Hand, PutOpen, SettleFault, StartFault, TakeOpenLent};
 use crate::stored::Stored;
 use burst::Word;
-use geom::{How, Side};
+use geom::How;
 
 impl<T: Word, const N: usize, S: Stored<T>> Fabric<T, N, S> {
     /// Tries once to reserve a span of positions for a take: by bulk `n` of them, by burst at most `n`. Its words are
@@ -55,26 +53,16 @@ impl<T: Word, const N: usize, S: Stored<T>> Fabric<T, N, S> {
         ensures true_refusal { IfErr result (λ e. OnRing self.now ring
             (λ plan. IsTrueRefusal T.numbers ring Take plan (view hand) (view e.0) e.1)) }
     {
-        let target = Ring {
-            fabric: self,
-            index: ring,
-            shape: self.shapes[ring],
-        };
-        let (share, range) = match target.start(hand, Side::Take, n, how) {
-            Ok(started) => started,
-            Err(refused) => return Err(refused),
-        };
-        let Share {
-            mut seat,
-            owned,
-            parts,
-        } = share;
-        target.withdraw_slice(&mut seat, range, &mut into[..range.count]);
-        Ok(TakeOpenLent {
-            ring: target,
-            share: Share { seat, owned, parts },
-            range,
-        })
+        let target = self.ring(ring);
+        let Hand { mut share } = hand;
+        match target.open_take_slice(&mut share, n, how, into) {
+            Ok(range) => Ok(TakeOpenLent {
+                ring: target,
+                share,
+                range,
+            }),
+            Err(fault) => Err((Hand { share }, fault)),
+        }
     }
 }
 
@@ -97,27 +85,15 @@ impl<'f, T: Word, const N: usize, S: Stored<T>> PutOpen<'f, T, N, S> {
             (λ e. IsTrueTooEarly T.numbers (put_span self.entry) (put_view self.entry) e.1) }
         ensures owned { IfOk result (λ h. HoldsLess T.numbers (put_view self.entry) items.now (view h)) }
     {
-        if !is_count(self.ring.shape.plan.put, items.len(), self.range.count) {
-            return Err((self, SettleFault::BadCount));
+        let PutOpen {
+            ring,
+            mut share,
+            range,
+        } = self;
+        match ring.settle_put_slice(&mut share, range, items) {
+            Ok(()) => Ok(Hand { share }),
+            Err(fault) => Err((PutOpen { ring, share, range }, fault)),
         }
-        let PutOpen { ring, share, range } = self;
-        let Share {
-            mut seat,
-            mut owned,
-            parts,
-        } = share;
-        if !owned.disown_slice(ring.shape.plan.free, items) {
-            let share = Share { seat, owned, parts };
-            return Err((PutOpen { ring, share, range }, SettleFault::NotYours));
-        }
-        let Some(tail) = ring.publish_slice(&mut seat, range, items) else {
-            return Ok(Hand {
-                share: Share { seat, owned, parts },
-            });
-        };
-        owned.own_slice(items);
-        let share = Share { seat, owned, parts };
-        Err((PutOpen { ring, share, range }, SettleFault::NotYet(tail)))
     }
 }
 
@@ -144,25 +120,14 @@ impl<'f, T: Word, const N: usize, S: Stored<T>> TakeOpenLent<'f, T, N, S> {
         ensures owned { IfOk result
             (λ h. HoldsMore T.numbers (take_view self.entry) (take k items.now) (view h)) }
     {
-        if !is_count(self.ring.shape.plan.take, k, self.range.count) {
-            return Err((self, SettleFault::BadCount));
+        let TakeOpenLent {
+            ring,
+            mut share,
+            range,
+        } = self;
+        match ring.settle_take_slice(&mut share, range, k, items) {
+            Ok(()) => Ok(Hand { share }),
+            Err(fault) => Err((TakeOpenLent { ring, share, range }, fault)),
         }
-        let TakeOpenLent { ring, share, range } = self;
-        let Share {
-            mut seat,
-            mut owned,
-            parts,
-        } = share;
-        let Some(tail) = ring.dequeue_slice(&mut seat, range, k, items) else {
-            owned.own_slice(&items[..k]);
-            return Ok(Hand {
-                share: Share { seat, owned, parts },
-            });
-        };
-        let share = Share { seat, owned, parts };
-        Err((
-            TakeOpenLent { ring, share, range },
-            SettleFault::NotYet(tail),
-        ))
     }
 }

@@ -18,18 +18,18 @@ returns-in-Ok-clause-filled c =
     let m = c.try_receive_bulk_into_slice.new.self in
     let before = c.args.into.now in
     let after = c.try_receive_bulk_into_slice.new.into in
-    let told = c.in-Ok.ensures.exact in
+    let reply = c.in-Ok.ensures.exact in
     let fits : (b : ℕ) → occurrences_in numbers_of b (cache_of l) ≤ holds numbers_of b (view_of l).party = λ b. omega (arith, l.kept b) in
-    let own = received_own c.args.ring (length before) known.0 (hand_of l) (hand_of m) c.in-Ok.moved told.0 (cache_of l)
-    (held_once l.hand l.here) fits (told.2 known.0 known.1) in
-    let whole : after ≡ told.0 = whole_shown told.0 before after told.1 own.0 in
+    let own = received_own c.args.ring (length before) known.0 (hand_of l) (hand_of m) c.in-Ok.moved reply.0 (cache_of l)
+    (held_once l.hand l.here) fits (reply.2 known.0 known.1) in
+    let whole : after ≡ reply.0 = whole_shown reply.0 before after reply.1 own.0 in
     record {
       long = ap length whole ∙ own.0;
-      told = record {
+      reply = record {
         seen = hand_of l;
         kept = view_kept (view_of l) (view_of l) refl;
-        told = λ plan there. subst (λ xs. Receives numbers_of by_bulk 1024 c.args.ring plan (hand_of l) (hand_of m) (length before)
-            (Ok c.in-Ok.moved) xs) (sym whole) (told.2 plan there);
+        reply = λ plan there. subst (λ xs. Receives numbers_of by_bulk 1024 c.args.ring plan (hand_of l) (hand_of m) (length before)
+            (Ok c.in-Ok.moved) xs) (sym whole) (reply.2 plan there);
       };
       own = subst (λ xs. AreOwnBuffers numbers_of (view_of m) xs) (λ i. sym whole i ++ sym c.in-Ok.ensures.same.1 i) own.1;
     }
@@ -39,27 +39,27 @@ returns-in-Err-clause-refused c =
     let known = ring_at (rings_of c.args.f.now) c.args.ring c.requires.ring in
     let l = c.args.local.now in
     let m = c.try_receive_bulk_into_slice.new.self in
-    let told = c.in-Err.ensures.exact in
+    let reply = c.in-Err.ensures.exact in
     let n = length c.args.into.now in
-    let none = (unreceived_keeps c.args.ring n known.0 (hand_of l) (hand_of m) told.0 c.in-Err.why (told.2 known.0 known.1)).0 in
+    let none = (unreceived_keeps c.args.ring n known.0 (hand_of l) (hand_of m) reply.0 c.in-Err.why (reply.2 known.0 known.1)).0 in
     record {
       seen = hand_of l;
       kept = view_kept (view_of l) (view_of l) refl;
-      told = λ plan there. subst (λ xs. Receives numbers_of by_bulk 1024 c.args.ring plan (hand_of l) (hand_of m) n (Err c.in-Err.why) xs)
-          none (told.2 plan there);
+      reply = λ plan there. subst (λ xs. Receives numbers_of by_bulk 1024 c.args.ring plan (hand_of l) (hand_of m) n (Err c.in-Err.why) xs)
+          none (reply.2 plan there);
     }
 
 pub returns-in-Err-clause-kept : goal.returns-in-Err-clause-kept
 returns-in-Err-clause-kept c =
     let known = ring_at (rings_of c.args.f.now) c.args.ring c.requires.ring in
-    let told = c.in-Err.ensures.exact in
+    let reply = c.in-Err.ensures.exact in
     (unreceived_keeps c.args.ring (length c.args.into.now) known.0 (hand_of c.args.local.now) (hand_of c.try_receive_bulk_into_slice.new.self)
-    told.0 c.in-Err.why (told.2 known.0 known.1)).1
+    reply.0 c.in-Err.why (reply.2 known.0 known.1)).1
 
 pub returns-in-Err-clause-back : goal.returns-in-Err-clause-back
 returns-in-Err-clause-back c =
     let known = ring_at (rings_of c.args.f.now) c.args.ring c.requires.ring in
-    let told = c.in-Err.ensures.exact in
-    none_shown told.0 c.args.into.now c.try_receive_bulk_into_slice.new.into told.1
+    let reply = c.in-Err.ensures.exact in
+    none_shown reply.0 c.args.into.now c.try_receive_bulk_into_slice.new.into reply.1
     (unreceived_keeps c.args.ring (length c.args.into.now) known.0 (hand_of c.args.local.now) (hand_of c.try_receive_bulk_into_slice.new.self)
-    told.0 c.in-Err.why (told.2 known.0 known.1)).0
+    reply.0 c.in-Err.why (reply.2 known.0 known.1)).0

@@ -1,31 +1,18 @@
-use Rattle.std.proofs.Common.{[], refl, subst, take}
-use Rattle.fabric.specs.Hands.{RefusesTake, take_span, take_view, view}
-use Rattle.capi.specs.Spans.{tags}
-use Rattle.capi.proofs.Settled.{early_of, only_early_take, same_take_plan, settled_of}
+use Rattle.std.proofs.Common.{[], ap, arith, length, refl, ◌<◌}
+use Rattle.geom.specs.declared.plan.Side.TheVariants.{Take}
+use Rattle.fabric.specs.Hands.{rings_of}
+use Rattle.fabric.specs.InPlace.{placed_view}
+use Rattle.capi.proofs.Settled.{early_of}
 use Rattle.capi.proofs.settling.withdraw.Goals as goal
 
-pub returns-in-Ok-clause-done : goal.returns-in-Ok-clause-done
-returns-in-Ok-clause-done c =
-    let o = c.args.span in
-    let done = c.in-Ok.ensures.done in
-    (done.0, settled_of (take_span o) (take c.args.k c.args.words.now) (take_view o) (view c.in-Ok.hand) done.2)
-
-pub unreachable-requires : goal.unreachable-requires
-unreachable-requires c =
-    let o = c.args.span in
-    let plan = o.ring.shape.plan in
-    only_early_take plan.take plan c.args.k (take_span o).count (take_span o).start [] (take_view o) (take_view c.in-Err.same)
-    c.in-Err.fault c.requires.count (c.in-Err.ensures.refused).1 c.in-Err.ensures.named c.in_default.not-NotYet
-
-pub returns-in-NotYet-clause-early : goal.returns-in-NotYet-clause-early
-returns-in-NotYet-clause-early c =
-    let o = c.args.span in
-    let plan = o.ring.shape.plan in
-    let r = c.in-Err.ensures.refused in
-    let found = subst (RefusesTake tags o c.args.k c.in-Err.same) c.in-NotYet.is r.1 in
-    record {
-      same = r.0;
-      plan = same_take_plan o c.in-Err.same r.0;
-      early = early_of plan.take plan c.args.k (take_span o).count (take_span o).start [] (take_view o)
-          (take_view c.in-Err.same) c.in-NotYet._tail (take_span o) refl found c.in-Err.ensures.kept;
-    }
+pub returns-in-Err-clause-early : goal.returns-in-Err-clause-early
+returns-in-Err-clause-early c =
+    let r = c.args.reserved in
+    let there : r.ring < length (rings_of c.args.f.now) = omega (arith, (c.args.hand.now.take r c.requires.open).there, ap length c.requires.of.1) in
+    let found = c.in-Err.ensures in (
+      refl,
+      found.refused.0,
+      found.refused.1,
+      early_of c.args.f.now r.ring c.args.k Take r [] (placed_view c.args.hand.now)
+          (placed_view c.try_settle_take.new.self) refl there c.requires.plain c.requires.count c.in-Err._fault found.refused.2 found.kept,
+    )

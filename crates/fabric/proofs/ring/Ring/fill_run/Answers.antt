@@ -1,4 +1,4 @@
-use Rattle.std.proofs.Common.{◌≡◌, ◌+◌, ◌-◌, ◌*◌, ◌/◌, ◌≤◌, ap, arith, drop, length, map, refl, replicate, rules, sym, None, Option, Some, ◌∙◌}
+use Rattle.std.proofs.Common.{◌≡◌, ◌+◌, ◌-◌, ◌*◌, ◌/◌, ◌≤◌, ap, arith, drop, length, map, refl, replicate, rules, None, Option, Some, ◌∙◌}
 use Rattle.fabric_laws.proofs.Cells.{length-cells, length-many}
 use Rattle.fabric.proofs.Blocks.{fill_part_asks, fill_part_next, part_is_long}
 use Rattle.fabric.proofs.Turns.{half, half_first, half_last}

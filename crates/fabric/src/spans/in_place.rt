@@ -1,0 +1,216 @@
+//! Starts and settles of words by a hand that stays where it is.
+ghost use Rattle.std.specs.Prelude.{◌≡◌, ◌≤◌, ◌<◌, ◌++◌, [], drop, length, take, IfOk, IfErr};
+ghost use Rattle.geom.specs.declared.plan.Side.TheVariants.{Put, Take};
+ghost use Rattle.ringcore_laws.specs.Party.{with_open};
+ghost use Rattle.fabric_laws.specs.Changes.{settled};
+ghost use Rattle.fabric.specs.Hands.{OnRing, rings_of};
+ghost use Rattle.fabric.specs.Held.{span_at};
+ghost use Rattle.fabric.specs.InPlace.{IsPlacedOf, placed_view};
+ghost use Rattle.fabric.specs.Settles.{HoldsLess, HoldsMore, IsCount, RefusesSettle};
+ghost use Rattle.fabric.specs.Starts.{FindsRoom, MayAsk, RefusesCount, RefusesStart, Starts};
+ghost use Rattle.fabric.specs.Truths.{IsTrueRefusal, IsTrueTooEarly};
+ghost use Rattle.fabric.specs.Views.{IsKept, IsWornAt};
+ghost use Rattle.fabric.specs.declared.hand.in_place.OpenSpan.TheVariants as open_span;
+ghost use Rattle.fabric.specs.declared.hand.SettleFault.TheVariants.{NotYours};
+ghost use Rattle.fabric.specs.declared.hand.StartFault.TheVariants.{Worn};
+
+use crate::fabric::Fabric;
+use crate::hand::in_place::{HandInPlace, OpenSpan, Reserved};
+use crate::hand::{SettleFault, StartFault};
+use crate::stored::Stored;
+use burst::{Tagged, Word};
+use geom::{How, Side};
+
+impl<T: Tagged, const N: usize, S: Stored<T>> HandInPlace<T, N, S> {
+    /// How many positions of a put side are free, or how many items of a take side are queued. Two steps on words;
+    /// nothing is reserved, and others may have reserved or settled since. Requires: the hand has no open span.
+    ///
+    /// Errors: the word found, if a span of a head/tail-sync side is open. One step then.
+    pub fn room(&mut self, fabric: &Fabric<T, N, S>, ring: usize, side: Side) -> Result<u64, u64>
+        requires of { IsPlacedOf fabric.now self.old }
+        requires idle { self.old.span ≡ open_span.Idle }
+        requires ring { ring < length (rings_of fabric.now) }
+        ensures of { IsPlacedOf fabric.now self.new }
+        ensures idle { self.new.span ≡ open_span.Idle }
+        ensures kept { IsKept (placed_view self.old) (placed_view self.new) }
+        ensures found { OnRing fabric.now ring
+            (λ plan. FindsRoom T.numbers ring side plan (placed_view self.old) (placed_view self.new) result) }
+    {
+        fabric.ring(ring).room(&mut self.share.seat, side)
+    }
+}
+
+impl<T: Word, const N: usize, S: Stored<T>> HandInPlace<T, N, S> {
+    /// Tries once to reserve a span of positions for a put: by bulk `n` of them, by burst at most `n`. At most three
+    /// steps on words. Requires: the hand has no open span.
+    ///
+    /// Errors, in the order of the tests: `BadCount` if `n` is 0 or above `N`, or above the number of the hand's
+    /// buffers on a free ring, before any step; `Busy`; `NoRoom`, never on a free ring; `Worn`; `Contended`. No span is
+    /// open then.
+    #[inline(always)]
+    pub fn try_start_put(
+        &mut self,
+        fabric: &Fabric<T, N, S>,
+        ring: usize,
+        n: usize,
+        how: How,
+    ) -> Result<Reserved, StartFault>
+        requires of { IsPlacedOf fabric.now self.old }
+        requires idle { self.old.span ≡ open_span.Idle }
+        requires ring { ring < length (rings_of fabric.now) }
+        ensures of { IsPlacedOf fabric.now self.new }
+        ensures started { IfOk result (λ r. (self.new.span ≡ open_span.Put r) × (r.ring ≡ ring)
+            × OnRing fabric.now ring (λ plan. Starts T.numbers how n ring Put plan (placed_view self.old)
+            r.range.start r.range.count r.range.left [] (placed_view self.new))) }
+        ensures refused { IfErr result (λ e. (self.new.span ≡ open_span.Idle) × OnRing fabric.now ring (λ plan.
+            RefusesStart T.numbers N how n ring Put plan (placed_view self.old) (placed_view self.new) e)) }
+        ensures asked { OnRing fabric.now ring
+            (λ plan. IfOk result (λ _. MayAsk T.numbers N n Put plan (placed_view self.old))
+            × IfErr result (λ e. RefusesCount T.numbers N n Put plan (placed_view self.old) e)) }
+        ensures opened { IfOk result
+            (λ r. (placed_view self.new).party ≡ with_open (placed_view self.old).party (span_at Put r)) }
+        ensures kept { IfErr result (λ e. IsKept (placed_view self.old) (placed_view self.new)) }
+        ensures worn { IfErr result (λ e. e ≡ Worn → IsWornAt N (placed_view self.new)) }
+        ensures true_refusal { IfErr result (λ e. OnRing fabric.now ring
+            (λ plan. IsTrueRefusal T.numbers ring Put plan (placed_view self.old) (placed_view self.new) e)) }
+    {
+        let range = match fabric
+            .ring(ring)
+            .open_span(&mut self.share, Side::Put, n, how)
+        {
+            Ok(range) => range,
+            Err(fault) => return Err(fault),
+        };
+        let reserved = Reserved { ring, range };
+        self.span = OpenSpan::Put(reserved);
+        Ok(reserved)
+    }
+
+    /// Tries once to reserve a span of positions for a take: by bulk `n` of them, by burst at most `n`. Its words are
+    /// copied to the front of the slice at once; they stay queued until the span is settled. At most three steps on
+    /// words. Requires: the slice has `n` places, and the hand has no open span.
+    ///
+    /// Errors, in the order of the tests: `BadCount` if `n` is 0 or above `N`, before any step; `Busy`; `NoRoom`;
+    /// `Worn`; `Contended`. No span is open then, and the slice is unchanged.
+    #[inline(always)]
+    pub fn try_start_take(
+        &mut self,
+        fabric: &Fabric<T, N, S>,
+        ring: usize,
+        n: usize,
+        how: How,
+        into: &mut [T],
+    ) -> Result<Reserved, StartFault>
+        requires of { IsPlacedOf fabric.now self.old }
+        requires idle { self.old.span ≡ open_span.Idle }
+        requires ring { ring < length (rings_of fabric.now) }
+        requires fits { n ≤ length into.old }
+        ensures of { IsPlacedOf fabric.now self.new }
+        ensures started { IfOk result (λ r. (self.new.span ≡ open_span.Take r) × (r.ring ≡ ring)
+            × OnRing fabric.now ring (λ plan. Starts T.numbers how n ring Take plan (placed_view self.old)
+            r.range.start r.range.count r.range.left (placed_view self.new).shown (placed_view self.new))) }
+        ensures copied { IfOk result (λ _. into.new
+            ≡ (placed_view self.new).shown ++ drop (length (placed_view self.new).shown) into.old) }
+        ensures refused { IfErr result (λ e. (self.new.span ≡ open_span.Idle) × (into.new ≡ into.old)
+            × OnRing fabric.now ring (λ plan.
+            RefusesStart T.numbers N how n ring Take plan (placed_view self.old) (placed_view self.new) e)) }
+        ensures asked { OnRing fabric.now ring
+            (λ plan. IfOk result (λ _. MayAsk T.numbers N n Take plan (placed_view self.old))
+            × IfErr result (λ e. RefusesCount T.numbers N n Take plan (placed_view self.old) e)) }
+        ensures opened { IfOk result
+            (λ r. (placed_view self.new).party ≡ with_open (placed_view self.old).party (span_at Take r)) }
+        ensures kept { IfErr result (λ e. IsKept (placed_view self.old) (placed_view self.new)) }
+        ensures worn { IfErr result (λ e. e ≡ Worn → IsWornAt N (placed_view self.new)) }
+        ensures true_refusal { IfErr result (λ e. OnRing fabric.now ring
+            (λ plan. IsTrueRefusal T.numbers ring Take plan (placed_view self.old) (placed_view self.new) e)) }
+    {
+        let range = match fabric
+            .ring(ring)
+            .open_take_slice(&mut self.share, n, how, into)
+        {
+            Ok(range) => range,
+            Err(fault) => return Err(fault),
+        };
+        let reserved = Reserved { ring, range };
+        self.span = OpenSpan::Take(reserved);
+        Ok(reserved)
+    }
+
+    /// Tries once to publish words at the positions of the open span: on a multi side as many as it has, on an HTS side
+    /// at most as many, and the other positions are given up. One step on a word at most. At a refusal the span stays
+    /// open.
+    ///
+    /// Errors, in the order of the tests: `BadCount`, `NotYours`, before any step; `NotYet`.
+    #[inline(always)]
+    pub fn try_settle_put(
+        &mut self,
+        fabric: &Fabric<T, N, S>,
+        reserved: Reserved,
+        items: &[T],
+    ) -> Result<(), SettleFault>
+        requires of { IsPlacedOf fabric.now self.old }
+        requires open { self.old.span ≡ open_span.Put reserved }
+        ensures of { IsPlacedOf fabric.now self.new }
+        ensures done { IfOk result (λ _. (self.new.span ≡ open_span.Idle)
+            × OnRing fabric.now reserved.ring (λ plan. IsCount plan.put (length items.now) reserved.range.count)
+            × (placed_view self.new ≡ settled (span_at Put reserved) items.now (placed_view self.old))) }
+        ensures refused { IfErr result (λ e. (self.new.span ≡ self.old.span) × OnRing fabric.now reserved.ring
+            (λ plan. RefusesSettle T.numbers plan.put plan (length items.now) reserved.range.count
+            reserved.range.start items.now (placed_view self.old) (placed_view self.new) e)) }
+        ensures kept { IfErr result (λ e. IsKept (placed_view self.old) (placed_view self.new)) }
+        ensures true_refusal { IfErr result
+            (λ e. IsTrueTooEarly T.numbers (span_at Put reserved) (placed_view self.old) e) }
+        ensures owned { IfOk result
+            (λ _. HoldsLess T.numbers (placed_view self.old) items.now (placed_view self.new)) }
+    {
+        let target = fabric.ring(reserved.ring);
+        match target.settle_put_slice(&mut self.share, reserved.range, items) {
+            Ok(()) => {
+                self.span = OpenSpan::Idle;
+                Ok(())
+            }
+            Err(fault) => Err(fault),
+        }
+    }
+
+    /// Tries once to take the words at the first `k` positions of the open span: on a multi side all, on an HTS side
+    /// any number, and the others are queued again. One step on a word at most. At a refusal the span stays open.
+    /// Requires: these are the words that the start copied.
+    ///
+    /// Errors, in the order of the tests: `BadCount`, before any step; `NotYet`.
+    #[inline(always)]
+    pub fn try_settle_take(
+        &mut self,
+        fabric: &Fabric<T, N, S>,
+        reserved: Reserved,
+        k: usize,
+        items: &[T],
+    ) -> Result<(), SettleFault>
+        requires of { IsPlacedOf fabric.now self.old }
+        requires open { self.old.span ≡ open_span.Take reserved }
+        requires shows { items.now ≡ (placed_view self.old).shown }
+        ensures of { IsPlacedOf fabric.now self.new }
+        ensures done { IfOk result (λ _. (self.new.span ≡ open_span.Idle)
+            × OnRing fabric.now reserved.ring (λ plan. IsCount plan.take k reserved.range.count)
+            × (placed_view self.new ≡ settled (span_at Take reserved) (take k items.now) (placed_view self.old))) }
+        ensures refused { IfErr result (λ e. (self.new.span ≡ self.old.span)
+            × ((placed_view self.new).shown ≡ (placed_view self.old).shown) × OnRing fabric.now reserved.ring
+            (λ plan. RefusesSettle T.numbers plan.take plan k reserved.range.count
+            reserved.range.start [] (placed_view self.old) (placed_view self.new) e)) }
+        ensures kept { IfErr result (λ e. IsKept (placed_view self.old) (placed_view self.new)) }
+        ensures named { IfErr result (λ e. e ≡ NotYours → ⊥) }
+        ensures true_refusal { IfErr result
+            (λ e. IsTrueTooEarly T.numbers (span_at Take reserved) (placed_view self.old) e) }
+        ensures owned { IfOk result
+            (λ _. HoldsMore T.numbers (placed_view self.old) (take k items.now) (placed_view self.new)) }
+    {
+        let target = fabric.ring(reserved.ring);
+        match target.settle_take_slice(&mut self.share, reserved.range, k, items) {
+            Ok(()) => {
+                self.span = OpenSpan::Idle;
+                Ok(())
+            }
+            Err(fault) => Err(fault),
+        }
+    }
+}
