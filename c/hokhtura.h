@@ -3,15 +3,15 @@
  * HANDLES. `hk_hand`, `hk_pool`, `hk_routes` and `hk_reorder` are handles. Each handle is used by one thread at a time:
  * no two calls on one handle overlap. Different handles may be used at the same time, without a lock. Threads reach
  * what they share, a set of rings, a pool or a table of routes, through a handle for each thread: `hk_hand_split`,
- * `hk_pool_split`, `hk_routes_share`. To pass a handle to another thread, order it by the start or the end of a thread,
- * a lock, or a sequentially consistent atomic.
+ * `hk_pool_split`, `hk_routes_share`. To pass a handle to another thread, order the two threads' calls on it by the
+ * start or the end of a thread, a lock, or a sequentially consistent atomic.
  *
  * RETURN VALUES. A call returns a count of 0 or more (HK_OK is 0), or a code below 0, `enum hk_code`. Unless a call
  * says otherwise, a code means that nothing was changed: no handle, no array, no ring. No call ends the process,
  * blocks, sleeps or loops without a limit.
  *
- * MEMORY. Only calls marked [memory] take memory, by malloc and realloc of the C library. If they return HK_E_MEMORY,
- * nothing was changed. Freeing a handle frees its memory, and with the last handle what the handles share.
+ * MEMORY. Only calls marked [memory] allocate memory, with malloc and realloc of the C library. If they return
+ * HK_E_MEMORY, nothing was changed. Freeing a handle frees its memory; freeing the last one also frees what they share.
  *
  * WHAT A CALL CAN'T SEE, and the caller must avoid: a handle that was freed; one handle in two calls at once; an array
  * with fewer places than the count that is given, or that overlaps another argument; a call from a signal handler, or
@@ -37,17 +37,17 @@ extern "C" {
 #define HK_CHECKED
 #endif
 
-/* The most words of one call. */
+/* The largest number of words in one call. */
 #define HK_MOST 1024
-/* The most rings of one set. */
+/* The largest number of rings in one set. */
 #define HK_MOST_RINGS 64
-/* The most numbers of one call on a pool. */
+/* The largest count of numbers in one call on a pool. */
 #define HK_POOL_MOST 512
 
 enum hk_code {
     HK_OK = 0,
     HK_E_NOROOM = -1,   /* too little room for a put, or too few words for a take */
-    HK_E_AGAIN = -2,    /* other threads came first on this side of the ring at each try of this call: call again */
+    HK_E_AGAIN = -2,    /* other threads came first on this side of the ring each time this call tried: call again */
     HK_E_PENDING = -3,  /* the positions are reserved, an earlier call of another thread isn't finished yet: finish */
     HK_E_OPEN = -4,     /* the hand has an open span: finish it first */
     HK_E_NOTOPEN = -5,  /* the hand has no open span of that side */
@@ -58,8 +58,8 @@ enum hk_code {
     HK_E_KIND = -10,    /* a handle of another kind, or a hand whose rings were closed */
     HK_E_USED = -11,    /* not returned by any call of this header */
     HK_E_SHARED = -12,  /* other handles share it */
-    HK_E_MEMORY = -13,  /* no memory */
-    HK_E_PLAN = -14,    /* no such rings, pool, table or window can be */
+    HK_E_MEMORY = -13,  /* out of memory */
+    HK_E_PLAN = -14,    /* no such rings, pool, table or window can be made */
     HK_E_WORN = -15,    /* the ring's positions, 2^44 of them, are used up */
     HK_E_PARTS = -16,   /* too many splits lie between this hand and the first one (63 at most) */
     HK_E_NOTYOURS = -17, /* a number that this handle of the pool doesn't have, has cached, or that is given twice */
@@ -84,8 +84,8 @@ enum hk_mode {
     HK_HTS = 1    /* head/tail-sync: one call of the side at a time, as RTE_RING_SYNC_MT_HTS; it allows peeks */
 };
 
-/* One ring of a set. exact = 1: it takes `size` words, 1 to 2^20 - 1, as with RING_F_EXACT_SZ. exact = 0: it has `size`
- * slots, a power of two from 2 to 2^20, and takes size - 1 words. `put` and `take` are the modes of its two sides. */
+/* One ring of a set. exact = 1: it holds `size` words, 1 to 2^20 - 1, as with RING_F_EXACT_SZ. exact = 0: it has `size`
+ * slots, a power of two from 2 to 2^20, and holds size - 1 words. `put` and `take` are the modes of its two sides. */
 typedef struct hk_ring_plan {
     uint32_t size;
     uint32_t exact;
@@ -128,13 +128,13 @@ HK_API HK_CHECKED int64_t hk_ring_peek_put_burst(hk_hand *hand, size_t ring, siz
 HK_API HK_CHECKED int64_t hk_ring_peek_take_bulk(hk_hand *hand, size_t ring, uint64_t *words, size_t n);
 HK_API HK_CHECKED int64_t hk_ring_peek_take_burst(hk_hand *hand, size_t ring, uint64_t *words, size_t n);
 
-/* Finishes the put that the hand has open. After HK_E_PENDING: give the words and the n of the first call. Of a peek: n
- * is at most its count, the other positions are given up, and 0 gives up all. Returns how many words were put.
+/* Finishes the put that the hand has open. After HK_E_PENDING: give the words and the n of the first call. After a
+ * peek: n is at most its count, the other positions are given up, and 0 gives up all. Returns how many words were put.
  * HK_E_NULL, HK_E_KIND, HK_E_NOTOPEN; HK_E_COUNT: n doesn't fit the open span; HK_E_PENDING: still open. */
 HK_API HK_CHECKED int64_t hk_ring_finish_put(hk_hand *hand, const uint64_t *words, size_t n);
-/* Finishes the take that the hand has open. After HK_E_PENDING: give the n of the first call. Of a peek: takes the
- * first n of the words that it showed; the others stay on the ring, and 0 takes none. Returns how many were taken: the
- * first of those that are in the array already. Codes as above. */
+/* Finishes the take that the hand has open. After HK_E_PENDING: give the n of the first call. After a peek: takes
+ * the first n of the words that it showed; the others stay on the ring, and 0 takes none. Returns how many were taken:
+ * the first of those that are in the array already. Codes as above. */
 HK_API HK_CHECKED int64_t hk_ring_finish_take(hk_hand *hand, size_t n);
 
 /* 0 if the hand has no open span, 1 if it has one of a put, 2 of a take. HK_E_NULL, HK_E_KIND. */
@@ -142,8 +142,8 @@ HK_API int64_t hk_hand_span(hk_hand *hand);
 /* What the last put, take or peek left: how many more words there was room for, or how many more were queued; after
  * HK_E_NOROOM, how many in all. HK_E_NULL, HK_E_KIND. */
 HK_API int64_t hk_hand_left(hk_hand *hand);
-/* How many words are queued on a ring, and how many more there is room for, as one look found. Others may have put or
- * taken since. HK_E_AGAIN: another thread's span of a head/tail-sync side is open. HK_E_NULL, HK_E_KIND, HK_E_RING,
+/* How many words are queued on a ring, and how many more there is room for, as found by one look. Others may have put
+ * or taken since. HK_E_AGAIN: another thread's span of a head/tail-sync side is open. HK_E_NULL, HK_E_KIND, HK_E_RING,
  * HK_E_OPEN. */
 HK_API int64_t hk_ring_count(hk_hand *hand, size_t ring);
 HK_API int64_t hk_ring_room(hk_hand *hand, size_t ring);
@@ -171,7 +171,7 @@ typedef struct hk_pool hk_pool;
  * cache of this size, 0 to 512; `rings` rings, 0 to 63, pass numbers from one handle to another, and each has room for
  * all of them. HK_E_NULL, HK_E_PLAN, HK_E_MEMORY. */
 HK_API HK_CHECKED int64_t hk_pool_open(hk_pool **out, uint32_t n, uint32_t cache, uint32_t rings);
-/* [memory] Makes another handle on the same pool, for another thread. It has no number, and a cache of the same size.
+/* [memory] Makes another handle on the same pool, for another thread. It has no numbers, and a cache of the same size.
  * HK_E_NULL, HK_E_KIND, HK_E_PARTS (one handle can be split 60 times, and a split of a split 30 levels deep),
  * HK_E_MEMORY. */
 HK_API HK_CHECKED int64_t hk_pool_split(hk_pool *pool, hk_pool **out);
@@ -180,8 +180,9 @@ HK_API HK_CHECKED int64_t hk_pool_split(hk_pool *pool, hk_pool **out);
 HK_API void hk_pool_free(hk_pool *pool);
 
 /* Gets n numbers, 1 to HK_POOL_MOST, all or none: from the cache, the newest first; if it has too few, the others from
- * the free ring, with one more cache if that has as many. Returns n. HK_E_NULL, HK_E_KIND, HK_E_COUNT. HK_E_NOROOM:
- * the free ring has too few; numbers may be in the caches of other handles. HK_E_WORN. HK_E_AGAIN. */
+ * the free ring, and as many more as the cache's size if that ring has them. Returns n. HK_E_NULL, HK_E_KIND,
+ * HK_E_COUNT. HK_E_NOROOM: the free ring has too few; numbers may be in the caches of other handles. HK_E_WORN.
+ * HK_E_AGAIN. */
 HK_API HK_CHECKED int64_t hk_pool_try_get_bulk(hk_pool *pool, uint32_t *numbers, size_t n);
 /* Puts n numbers back, 1 to HK_POOL_MOST, all or none: into the cache; if that would pass one and a half times its
  * size, they go to the free ring, and the cache stays as it is. Returns n. HK_E_NULL, HK_E_KIND, HK_E_COUNT.
@@ -206,7 +207,7 @@ HK_API HK_CHECKED int64_t hk_pool_try_receive_bulk(hk_pool *pool, size_t ring, u
 
 /* ---- Routes by longest prefix ------------------------------------------------------------------------------------ */
 
-/* A handle on a table of routes to IPv4 prefixes. Addresses are numbers, 10.0.0.1 is 0x0a000001. */
+/* A handle on a table of routes to IPv4 prefixes. Addresses are numbers: 10.0.0.1 is 0x0a000001. */
 typedef struct hk_routes hk_routes;
 
 /* [memory] Makes a table without routes: its first level has 2^bits entries, bits 16 or 24, and it has at most
@@ -222,8 +223,8 @@ HK_API HK_CHECKED int64_t hk_routes_add(hk_routes *routes, uint32_t address, uin
 HK_API HK_CHECKED int64_t hk_routes_remove(hk_routes *routes, uint32_t address, uint32_t depth);
 /* The next hop of the longest route that covers an address, or HK_E_NOROUTE. HK_E_NULL, HK_E_KIND. */
 HK_API HK_CHECKED int64_t hk_routes_lookup(hk_routes *routes, uint32_t address);
-/* The same for n addresses: hops[i] is the next hop for addresses[i], or HK_NO_HOP. Any n. HK_E_NULL, HK_E_KIND,
- * HK_E_COUNT. */
+/* The same for n addresses: hops[i] is the next hop for addresses[i], or HK_NO_HOP. HK_E_NULL, HK_E_KIND,
+ * HK_E_COUNT: n is above SIZE_MAX / 8. */
 #define HK_NO_HOP UINT32_MAX
 HK_API HK_CHECKED int64_t hk_routes_lookup_bulk(hk_routes *routes, const uint32_t *addresses, uint32_t *hops, size_t n);
 /* Frees a handle, and with the last one the table; null is allowed. */

@@ -43,7 +43,7 @@ macro_rules! errors {
 errors! {
     /// Too little room for a put, or too few words for a take.
     NoRoom = 1, "too little room, or too few words";
-    /// Other threads came first, each time that the call tried: call again.
+    /// Other threads came first each time that the call tried: call again.
     Again = 2, "other threads came first: call again";
     /// The positions are reserved, and an earlier call of another thread isn't finished yet: finish.
     Pending = 3, "reserved, and to be finished";
@@ -61,14 +61,14 @@ errors! {
     Null = 9, "a null pointer";
     /// A handle of another kind.
     Kind = 10, "a handle of another kind";
-    /// The handle has something already.
+    /// The handle has something already. No call of this crate returns it.
     Used = 11, "the handle has something already";
     /// Other handles share it.
     Shared = 12, "other handles share it";
-    /// No memory.
-    Memory = 13, "no memory";
-    /// No such ring, pool, table or window can be.
-    Plan = 14, "no such ring, pool, table or window can be";
+    /// Out of memory.
+    Memory = 13, "out of memory";
+    /// No such ring, pool, table or window can be made.
+    Plan = 14, "no such ring, pool, table or window can be made";
     /// The positions of the ring are used up.
     Worn = 15, "the positions of the ring are used up";
     /// Too many splits lie between this handle and the first one.

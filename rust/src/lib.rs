@@ -1,7 +1,7 @@
 //! Rings, pools of numbers, routes and reorder windows of libhokhtura.
 //!
-//! Each handle is used by one thread at a time: it is `Send` and not `Sync`, so the compiler keeps the rule of
-//! `hokhtura.h`. What threads share, a ring, a pool or a table, is reached by a handle of each thread's own.
+//! Each handle is used by one thread at a time: it is `Send` and not `Sync`, so the compiler enforces the rule of
+//! `hokhtura.h`. What threads share, a ring, a pool or a table, is reached through a handle of each thread's own.
 //!
 //! ```
 //! use hokhtura::Ring;
@@ -36,5 +36,5 @@ pub use ring::{Consumer, Left, Producer, Ring, Taken};
 pub use routes::{FirstLevel, Routes};
 pub use word::Word;
 
-/// The most words of one call.
+/// The largest number of words in one call.
 pub const MOST: usize = 1024;

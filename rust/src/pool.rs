@@ -5,10 +5,11 @@ use std::fmt;
 use std::marker::PhantomData;
 use std::ptr::{null_mut, NonNull};
 
-/// The most numbers of one call on a pool.
+/// The largest count of numbers in one call on a pool.
 pub const POOL_MOST: usize = 512;
 
-/// One thread's way to a pool of the numbers 0 to `n - 1`: its own cache in front of the free ring that all share.
+/// One thread's handle on a pool of the numbers 0 to `n - 1`, with its own cache in front of the free ring that all
+/// share.
 ///
 /// A number is free, on a ring of the pool, or with one `Pool`; only that one can put it back or send it on. If a
 /// `Pool` is dropped, its numbers are lost to the others: put them back and [`try_flush`](Pool::try_flush) first.
@@ -19,7 +20,7 @@ unsafe impl Send for Pool {}
 
 impl Pool {
     /// A pool of `n` numbers, 1 to 65,536, all of them free. Each thread's cache has this size, 0 to 512, and `rings`
-    /// rings, 0 to 63, pass numbers from one to another.
+    /// rings, 0 to 63, pass numbers from one handle to another.
     ///
     /// # Errors
     ///
@@ -45,7 +46,7 @@ impl Pool {
         Ok(Pool(NonNull::new(at).ok_or(Error::Null)?, PhantomData))
     }
 
-    /// Another thread's way to the same pool, without a number.
+    /// Another thread's handle on the same pool, without numbers.
     ///
     /// # Errors
     ///
@@ -69,7 +70,7 @@ impl Pool {
     ///
     /// # Errors
     ///
-    /// `NotYours` if one of them isn't this one's, is cached, or is given twice; `Again`, `Count`, `Worn`.
+    /// `NotYours` if one of them isn't this handle's, is cached, or is given twice; `Again`, `Count`, `Worn`.
     pub fn try_put_bulk(&mut self, numbers: &[u32]) -> Result<(), Error> {
         answer(unsafe { ffi::hk_pool_try_put_bulk(self.0.as_ptr(), numbers.as_ptr(), numbers.len()) }).map(drop)
     }
@@ -88,12 +89,13 @@ impl Pool {
         answer(unsafe { ffi::hk_pool_cached(self.0.as_ptr()) }).unwrap_or(0)
     }
 
-    /// Whether this one has a number, cached or not.
+    /// Whether this handle has a number, cached or not.
     pub fn owns(&self, number: u32) -> bool {
         unsafe { ffi::hk_pool_owns(self.0.as_ptr(), number) == 1 }
     }
 
-    /// Puts all these numbers on a ring of the pool, or none. Then they belong to the one that takes them from there.
+    /// Puts all these numbers on a ring of the pool, or none. Then they belong to the handle that takes them from
+    /// there.
     ///
     /// # Errors
     ///

@@ -4,17 +4,17 @@ use crate::hand::{Hand, Mode};
 use crate::word::{of_bits, Word};
 use std::fmt;
 
-/// A ring of words, with this thread's hand on it. Other threads come by hands that are split off.
+/// A ring of words, with this thread's hand on it. Other threads use hands that are split off.
 pub struct Ring<T: Word> {
     hand: Hand<T>,
 }
 
-/// A thread's way to put words on a ring.
+/// A thread's handle for putting words on a ring.
 pub struct Producer<T: Word> {
     hand: Hand<T>,
 }
 
-/// A thread's way to take words from a ring.
+/// A thread's handle for taking words from a ring.
 pub struct Consumer<T: Word> {
     hand: Hand<T>,
 }
@@ -93,7 +93,7 @@ macro_rules! takes {
 }
 
 impl<T: Word> Ring<T> {
-    /// A ring that takes `capacity` words, 1 to 2^20 - 1, with both sides for any number of threads.
+    /// A ring that holds `capacity` words, 1 to 2^20 - 1, with both sides for any number of threads.
     ///
     /// # Errors
     ///
@@ -138,7 +138,7 @@ impl<T: Word> Ring<T> {
     puts!();
     takes!();
 
-    /// What the last call found beside what it did: how much more room there was, or how many more words.
+    /// What the last call found besides what it did: how much more room there was, or how many more words.
     pub fn left(&self) -> usize {
         self.hand.left()
     }
@@ -147,7 +147,7 @@ impl<T: Word> Ring<T> {
     ///
     /// # Errors
     ///
-    /// `Shared` while there are other hands; `Open`. The ring comes back.
+    /// `Shared` while there are other hands; `Open`. The ring is returned with the error.
     pub fn close(mut self) -> Result<Left<T>, (Self, Error)> {
         match self.hand.close() {
             Ok(_) => Ok(Left { hand: self.hand }),

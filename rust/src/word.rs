@@ -1,7 +1,7 @@
 //! What rings and windows carry.
 use std::ptr::NonNull;
 
-/// A value of 64 bits, which a ring copies as they are.
+/// A value of 64 bits, which a ring copies as it is.
 ///
 /// # Safety
 ///
@@ -32,11 +32,11 @@ pub(crate) fn bits<T: Word>(word: T) -> u64 {
     unsafe { std::mem::transmute_copy(&word) }
 }
 
-/// The word of bits that were a word's.
+/// The word that has these bits.
 ///
 /// # Safety
 ///
-/// They were.
+/// They were the bits of a word of this type.
 pub(crate) unsafe fn of_bits<T: Word>(bits: u64) -> T {
     const { assert!(size_of::<T>() == 8) };
     // The caller has them from a ring or a window of this type.
