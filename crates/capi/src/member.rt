@@ -8,7 +8,7 @@ use fabric::{Fabric, HandInPlace};
 use slot::Slot;
 use std::sync::Arc;
 
-/// The most words of one call.
+/// The largest number of words in one call.
 pub(crate) const MOST: usize = 1024;
 
 /// Rings of words.

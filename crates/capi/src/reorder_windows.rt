@@ -9,7 +9,7 @@ use crate::object::Object;
 use reorder::{InsertFault, MAX_SIZE, Window};
 use std::alloc::Global;
 
-/// The most words of one call.
+/// The largest number of words in one call.
 pub(crate) const MOST: usize = 1024;
 
 /// The fault for one of the window's own.

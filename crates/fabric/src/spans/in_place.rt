@@ -1,5 +1,7 @@
 //! Starts and settles of words by a hand that stays where it is.
 ghost use Rattle.std.specs.Prelude.{◌≡◌, ◌≤◌, ◌<◌, ◌++◌, [], drop, length, take, IfOk, IfErr};
+ghost use Rattle.std.specs.List.{flat_map};
+ghost use Rattle.burst.specs.Numbers.{AreDistinct};
 ghost use Rattle.geom.specs.declared.plan.Side.TheVariants.{Put, Take};
 ghost use Rattle.ringcore_laws.specs.Party.{with_open};
 ghost use Rattle.fabric_laws.specs.Changes.{settled};
@@ -198,6 +200,7 @@ impl<T: Word, const N: usize, S: Stored<T>> HandInPlace<T, N, S> {
             (λ plan. RefusesSettle T.numbers plan.take plan k reserved.range.count
             reserved.range.start [] (placed_view self.old) (placed_view self.new) e)) }
         ensures kept { IfErr result (λ e. IsKept (placed_view self.old) (placed_view self.new)) }
+        ensures apart { IfOk result (λ _. AreDistinct (flat_map T.numbers (take k items.now))) }
         ensures named { IfErr result (λ e. e ≡ NotYours → ⊥) }
         ensures true_refusal { IfErr result
             (λ e. IsTrueTooEarly T.numbers (span_at Take reserved) (placed_view self.old) e) }
