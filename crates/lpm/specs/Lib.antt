@@ -1,6 +1,7 @@
 pub mod TableEntry
 pub mod Fault
 pub mod Groups
+pub mod Blocks
 pub mod Allocated
 pub mod Match
 pub mod TwoLevels
