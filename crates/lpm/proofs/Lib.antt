@@ -11,7 +11,6 @@ pub mod GroupOverwrites
 pub mod EntryOverwrites
 pub mod Cover
 pub mod LevelOverwrites
-pub mod Blocks
 pub mod Allocating
 pub mod Regroup
 pub mod Spans

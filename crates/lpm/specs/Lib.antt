@@ -1,7 +1,6 @@
 pub mod TableEntry
 pub mod Fault
 pub mod Groups
-pub mod Blocks
 pub mod Allocated
 pub mod Match
 pub mod TwoLevels

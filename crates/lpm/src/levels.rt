@@ -5,7 +5,6 @@ ghost use Rattle.std.specs.Prelude.{◌≡◌, ◌+◌, ◌≤◌, ◌^◌, ◌�
 ghost use Rattle.lpm.specs.TableEntry.{entry_of};
 ghost use Rattle.lpm.specs.TwoLevels.{used_of};
 
-use crate::first_level::FirstLevel;
 use crate::packed_entry::PackedEntry;
 use std::alloc::{AllocError, Global};
 use std::marker::Model;
@@ -19,7 +18,7 @@ mod reading;
 pub struct Levels {
     bits: u8,
     limit: u32,
-    first: FirstLevel,
+    first: Vec<PackedEntry>,
     groups: Vec<PackedEntry>,
     free: Vec<u32>,
 }
@@ -34,13 +33,13 @@ impl Model for Levels {
     ghost view = { λ l. record {
       bits = l.bits;
       limit = l.limit;
-      first = l.first;
+      first = l.first.items;
       groups = l.groups.items;
       free = length l.free.items;
     } };
 
     ghost invariant = { λ l.
-        GroupsAreAllocated l.bits l.limit l.first l.groups.items l.free.items (vec_capacity l.free) };
+        GroupsAreAllocated l.bits l.limit l.first.items l.groups.items l.free.items (vec_capacity l.free) };
 }
 
 impl Levels {
@@ -56,10 +55,11 @@ impl Levels {
               free = 0;
             }) }
     {
+        let size = 1usize << bits;
         Ok(Levels {
             bits,
             limit,
-            first: FirstLevel::new(alloc, bits)?,
+            first: vec![in alloc; PackedEntry::none(); size]?,
             groups: Vec::new(alloc),
             free: Vec::new(alloc),
         })

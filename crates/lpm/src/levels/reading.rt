@@ -1,14 +1,12 @@
 //! Reads of the levels: for an address, a burst of addresses, one entry, and one place in a group. A lookup shifts by
 //! constants only, as there is one form of it for each width of the first level.
 
-ghost use Rattle.std.specs.Prelude.{◌≡◌, ◌<◌, ◌^◌, ◌⊎◌, ℕ, length, map, true};
-ghost use Rattle.lpm.specs.Blocks.{entries_of, numbers_of, HasBlocks};
+ghost use Rattle.std.specs.Prelude.{◌≡◌, ◌<◌, ◌^◌, ℕ, length, map, true};
 ghost use Rattle.lpm.specs.TableEntry.{is_group, hop_of};
 ghost use Rattle.lpm.specs.TwoLevels.{entry_for, first_at, grouped_at};
 ghost use Rattle.lpm.specs.Prefixes.{size_of};
 
 use super::Levels;
-use crate::first_level::entry_at;
 use crate::next_hop::NextHop;
 use crate::packed_entry::PackedEntry;
 use crate::places::{first_of, low_of, place};
@@ -25,33 +23,14 @@ impl Levels {
         }
     }
 
-    /// The entry for an address, by its first `BITS` bits.
+    /// The entry for an address, by its first `BITS` bits: their first-level entry, or the one in the group that it
+    /// names. At most two loads.
     #[inline(always)]
     fn entry_by<const BITS: u8>(&self, address: u32) -> PackedEntry
         requires { self.now.bits ≡ BITS }
         ensures { result ≡ entry_for self.now address }
     {
-        let (offsets, blocks) = self.first.parts();
-        self.entry_in::<BITS>(offsets, blocks, address)
-    }
-
-    /// The same with the parts of the first level, whose addresses a burst loads once: the first-level entry of the
-    /// address, or the one in the group that it names. At most three loads of what is stored.
-    #[inline(always)]
-    fn entry_in<const BITS: u8>(
-        &self,
-        offsets: &[u32],
-        blocks: &[PackedEntry],
-        address: u32,
-    ) -> PackedEntry
-        requires bits { self.now.bits ≡ BITS }
-        requires form { (BITS ≡ 16) ⊎ (BITS ≡ 24) }
-        requires whole { length self.now.first ≡ 2 ^ BITS }
-        requires are { HasBlocks offsets.now blocks.now }
-        requires first { entries_of (numbers_of offsets.now) blocks.now ≡ self.now.first }
-        ensures { result ≡ entry_for self.now address }
-    {
-        let entry = entry_at(offsets, blocks, first_of(address, BITS));
+        let entry = self.first[first_of(address, BITS)];
         if entry.is_group() {
             self.groups[place(entry.number(), low_of(address, BITS), BITS)]
         } else {
@@ -76,11 +55,8 @@ impl Levels {
         requires long { length addresses.now ≡ length hops.old }
         ensures { hops.new ≡ map (λ address. hop_of (entry_for self.now address)) addresses.now }
     {
-        let (offsets, blocks) = self.first.parts();
         for i in 0..addresses.len() {
-            hops[i] = self
-                .entry_in::<BITS>(offsets, blocks, addresses[i])
-                .next_hop();
+            hops[i] = self.entry_by::<BITS>(addresses[i]).next_hop();
         }
     }
 
@@ -103,6 +79,6 @@ impl Levels {
             → (other : ℕ) → is_group (first_at self.now other) ≡ true
             → (first_at self.now other).number ≡ result.number → other ≡ first }
     {
-        self.first.at(first)
+        self.first[first]
     }
 }
