@@ -1,13 +1,5 @@
-pub mod Asking
-pub mod Emptying
 pub mod Handles
 pub mod Hops
 pub mod Leaving
-pub mod PoolCalls
-pub mod PoolDeals
-pub mod PoolOpenings
-pub mod PoolTries
-pub mod Reserving
-pub mod Settled
 pub mod Slots
 pub mod Values

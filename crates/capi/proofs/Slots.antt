@@ -1,10 +1,10 @@
 -- What a call does to what a handle has, by what it does to a hand
 use Rattle.std.proofs.Common.{◌≡◌, Option, None, Some, Err, ap, subst, sym}
-use Rattle.capi.specs.Codes.{Outcome}
+use Rattle.capi_rings.specs.Codes.{Outcome}
 use Rattle.capi.specs.HandCalls.{AtHand, HasHand, HasNoHand}
-use Rattle.capi.specs.Rests.{ClosesAt, ClosesHand}
-use Rattle.capi.specs.declared.fault.Fault.{Fault}
-use Rattle.capi.specs.declared.member.Member.{Member}
+use Rattle.capi.specs.Closings.{ClosesAt, ClosesHand}
+use Rattle.capi_rings.specs.declared.fault.Fault.{Fault}
+use Rattle.capi_rings.specs.declared.member.Member.{Member}
 use Rattle.capi.specs.declared.object.Object.{Object}
 use Rattle.capi.specs.declared.object.Object.TheVariants as object
 

@@ -1,19 +1,13 @@
 -- What calls on rings do to what a handle has
-use Rattle.std.specs.Prelude.{◌≡◌, Option, None, Some, Bool, true, false}
-use Rattle.geom.specs.declared.plan.How.{How}
-use Rattle.geom.specs.declared.plan.How.TheVariants.{Bulk, Burst}
-use Rattle.capi.specs.Codes.{Outcome}
+use Rattle.std.specs.Prelude.{◌≡◌, Option, None, Some}
+use Rattle.capi_rings.specs.Codes.{Outcome}
 use Rattle.capi.specs.Handles.{IsEmpty, IsOther}
-use Rattle.capi.specs.declared.fault.Fault.{Fault}
-use Rattle.capi.specs.declared.fault.Fault.TheVariants as fault
-use Rattle.capi.specs.declared.member.Member.{Member}
-use Rattle.capi.specs.declared.closing.Rest.{Rest}
+use Rattle.capi_rings.specs.declared.fault.Fault.{Fault}
+use Rattle.capi_rings.specs.declared.fault.Fault.TheVariants as fault
+use Rattle.capi_rings.specs.declared.member.Member.{Member}
+use Rattle.capi_rings.specs.declared.closing.Rest.{Rest}
 use Rattle.capi.specs.declared.object.Object.{Object}
 use Rattle.capi.specs.declared.object.Object.TheVariants as object
-
-abbrev pub how_of : Bool → How
-how_of true = Bulk
-how_of false = Burst
 
 -- the handle has a hand, of which this holds
 abbrev pub HasHand : Option Object → (Member → Type 0) → Type 0

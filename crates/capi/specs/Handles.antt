@@ -2,8 +2,8 @@
 use Rattle.std.specs.Prelude.{◌≡◌, ℕ, Option, None, Some, Ok, Err}
 use Rattle.lpm.specs.Routes.{Routes}
 use Rattle.reorder.specs.Waiting.{Waiting}
-use Rattle.capi.specs.Codes.{Outcome}
-use Rattle.capi.specs.declared.fault.Fault.TheVariants as fault
+use Rattle.capi_rings.specs.Codes.{Outcome}
+use Rattle.capi_rings.specs.declared.fault.Fault.TheVariants as fault
 use Rattle.capi.specs.declared.object.Object.{Object}
 use Rattle.capi.specs.declared.object.Object.TheVariants as object
 

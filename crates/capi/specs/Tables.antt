@@ -7,11 +7,11 @@ use Rattle.lpm.specs.Prefixes.{IsDepth}
 use Rattle.std.specs.declared.sync.Arc.{Arc}
 use Rattle.std.specs.declared.alloc.Global.{Global}
 use Rattle.lpm.specs.Routes.{Accepts, HasMembers, HasRoute, IsNew, LacksRoute, NeedsTooMany, Routes, with_route, without_route}
-use Rattle.capi.specs.Codes.{Outcome}
+use Rattle.capi_rings.specs.Codes.{Outcome}
 use Rattle.capi.specs.Handles.{HasTable}
 use Rattle.capi.specs.declared.object.Object.{Object}
-use Rattle.capi.specs.declared.fault.Fault.{Fault}
-use Rattle.capi.specs.declared.fault.Fault.TheVariants as fault
+use Rattle.capi_rings.specs.declared.fault.Fault.{Fault}
+use Rattle.capi_rings.specs.declared.fault.Fault.TheVariants as fault
 
 -- a table that can't be: its first level has neither 2^16 nor 2^24 entries, or there was no memory
 abbrev pub RefusesTable : ℕ → Fault → Type 0

@@ -1,21 +1,16 @@
 //! The exports that open, split and close hands.
 ghost use Rattle.std.specs.Prelude.{◌≡◌, IfErr, None};
-ghost use Rattle.capi.specs.Codes.{Answers};
+ghost use Rattle.capi_rings.specs.Codes.{Answers};
 ghost use Rattle.capi.specs.HandCalls.{AtRest};
 ghost use Rattle.capi.specs.HandExports.{OpensHand, SplitsAt, SplitsHand};
-ghost use Rattle.capi.specs.Rests.{ClosesAt, DrainsRest};
+ghost use Rattle.capi_rings.specs.Rests.{DrainsRest};
+ghost use Rattle.capi.specs.Closings.{ClosesAt};
 
-use crate::ending::{close, drain};
-use crate::fault::{Fault, answer};
 use crate::hand_slots::take_hand;
 use crate::handle::Handle;
 use crate::keeping::{borrow, give, is_used};
-use crate::making::open;
-use crate::member::MOST;
-use crate::member_calls::split;
 use crate::object::Object;
-use crate::opening::Asked;
-use crate::word64::Word64;
+use capi_rings::{Asked, Fault, MOST, Word64, answer, close, drain, open, split};
 use std::alloc::Global;
 
 /// Puts a hand on new rings into an empty handle.

@@ -1,7 +1,6 @@
 //! The kinds of objects.
-use crate::closing::Rest;
-use crate::member::Member;
-use crate::pool_member::PoolMember;
+use capi_pools::PoolMember;
+use capi_rings::{Member, Rest};
 use lpm::Table;
 use reorder::Window;
 use std::sync::Arc;

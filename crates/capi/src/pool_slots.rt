@@ -1,15 +1,13 @@
 //! Calls on pools by what a handle has: a pool, whose cache is changed in place, or a fault.
 ghost use Rattle.std.specs.Prelude.{◌≡◌, ◌+◌, ⊤, IfErr, Ok, length};
-ghost use Rattle.pool.specs.Words.{cache_of, view_of};
-ghost use Rattle.capi.specs.PoolCalls.{Flushes, Gets, PassesOn, Puts, TakesOver, TellsOwner};
-ghost use Rattle.capi.specs.PoolHandles.{AtPool, OnPoolRing, SamePool};
+ghost use Rattle.word_pool.specs.Words.{cache_of, view_of};
+ghost use Rattle.capi_pools.specs.Calls.{Flushes, Gets, PassesOn, Puts, TakesOver, TellsOwner};
+ghost use Rattle.capi_pools.specs.Same.{OnPoolRing, SamePool};
+ghost use Rattle.capi.specs.PoolHandles.{AtPool};
 
-use crate::fault::Fault;
 use crate::object::Object;
-use crate::pool_gets::get_numbers;
-use crate::pool_member::Number;
-use crate::pool_passing::{pass_on, take_over};
-use crate::pool_puts::{flush_numbers, put_numbers};
+use capi_pools::{Number, flush_numbers, get_numbers, pass_on, put_numbers, take_over};
+use capi_rings::Fault;
 
 /// Gets numbers.
 #[inline(always)]

@@ -4,8 +4,8 @@ ghost use Rattle.reorder.specs.Waiting.{empty_window, slid_to};
 ghost use Rattle.capi.specs.Handles.{AtWindow};
 ghost use Rattle.capi.specs.Windows.{Drains, Inserts, RefusesWindow, window_fault};
 
-use crate::fault::Fault;
 use crate::object::Object;
+use capi_rings::Fault;
 use reorder::{InsertFault, MAX_SIZE, Window};
 use std::alloc::Global;
 

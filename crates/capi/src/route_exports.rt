@@ -1,15 +1,15 @@
 //! The exports for routes. Each call takes the table out of its handle and puts it back.
 ghost use Rattle.std.specs.Prelude.{◌≡◌, IfErr};
 ghost use Rattle.lpm.specs.Match.{lookup_in};
-ghost use Rattle.capi.specs.Codes.{Answers};
+ghost use Rattle.capi_rings.specs.Codes.{Answers};
 ghost use Rattle.capi.specs.Handles.{AtRoutes};
 ghost use Rattle.capi.specs.Tables.{Adds, LooksUpAll, OpensTable, Removes, Shares, hop_found};
 
-use crate::fault::{Fault, answer};
 use crate::handle::Handle;
 use crate::keeping::{borrow, give, is_used};
 use crate::object::Object;
 use crate::route_tables::{add, look_up, look_up_all, made, remove, shared};
+use capi_rings::{Fault, answer};
 use std::alloc::Global;
 
 /// A new table in an empty handle.

@@ -6,8 +6,8 @@ ghost use Rattle.capi.specs.Handles.{AtRoutes};
 ghost use Rattle.capi.specs.Tables.{Adds, FindsTable, LooksUpAll, RefusesTable, Removes, fault_of, hop_found};
 ghost use Rattle.capi.specs.Tables.{hop_word, hop_words};
 
-use crate::fault::Fault;
 use crate::object::Object;
+use capi_rings::Fault;
 use lpm::{NextHop, RouteFault, Table};
 use std::alloc::Global;
 use std::sync::Arc;

@@ -12,9 +12,9 @@ use Rattle.fabric.specs.declared.fabric.Fabric.{Fabric}
 use Rattle.fabric.specs.declared.hand.cache_hand.CacheHand.{CacheHand}
 use Rattle.fabric.specs.Settles.{AreOwnBuffers}
 use Rattle.pool.specs.declared.local.Local.{Local}
-use Rattle.pool.specs.Hands.{IsIn, IsSameIn, view_in}
+use Rattle.pool_laws.specs.Hands.{IsIn, IsSameIn, view_in}
 use Rattle.pool.specs.Locals.{HasSameHand, IsLocalOf, cache_of, view_of}
-use Rattle.pool.proofs.Wholes.{same_mine}
+use Rattle.pool_laws.proofs.Wholes.{same_mine}
 
 module _ {T : Type 0} {S : Type 0} {G : Ghosts T} {H : StoredGhosts S T} {N : ℕ} (l : Local T N S G H) where
   pub cache_own : AreOwnBuffers G.numbers (view_of l) (cache_of l)

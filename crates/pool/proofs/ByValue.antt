@@ -5,11 +5,12 @@ use Rattle.geom.specs.declared.plan.RingPlan.{RingPlan}
 use Rattle.burst.specs.declared.tagged.Tagged.{Ghosts}
 use Rattle.fabric.specs.declared.stored.Stored.{Ghosts as StoredGhosts}
 use Rattle.fabric.specs.declared.hand.Hand.{Hand}
-use Rattle.pool.specs.Asks.{Fetches}
-use Rattle.pool.specs.Calls.{GetTells, SameAnswer}
+use Rattle.pool_laws.specs.Asks.{Fetches}
+use Rattle.pool_laws.specs.Calls.{SameAnswer}
+use Rattle.pool.specs.Calls.{GetTells}
 use Rattle.pool.specs.Locals.{cache_of, cache_size, hand_of, ring_of, view_of}
 use Rattle.pool.specs.declared.local.Local.{Local}
-use Rattle.pool.specs.declared.faults.PoolFault.{PoolFault}
+use Rattle.pool_laws.specs.declared.faults.PoolFault.{PoolFault}
 
 module _ {T : Type 0} {S : Type 0} {G : Ghosts T} {H : StoredGhosts S T} {N : ℕ} (tags : T → List ℕ) (plan : RingPlan) (l m : Local T N S G H) where
   same_ok : {X Y : Type 0} (x : X) (y : Y) (answer : Result (Hand T S G H) (Hand T S G H × PoolFault)) → SameAnswer (hand_of m) answer (Ok x)

@@ -1,10 +1,2 @@
-pub mod Caches
-pub mod Hands
-pub mod Asks
-pub mod Beside
-pub mod Calls
 pub mod Locals
-pub mod Faults
-pub mod Stacks
-pub mod Words
-pub mod WordCalls
+pub mod Calls

@@ -7,7 +7,7 @@ use Rattle.fabric.specs.declared.fabric.Fabric.{Fabric}
 use Rattle.fabric.specs.declared.hand.Hand.{Hand}
 use Rattle.fabric.specs.declared.hand.cache_hand.CacheHand.{CacheHand}
 use Rattle.pool.specs.declared.local.Local.{Local}
-use Rattle.pool.specs.Hands.{IsHandIn, IsIn, IsSameIn, view_in}
+use Rattle.pool_laws.specs.Hands.{IsHandIn, IsIn, IsSameIn, view_in}
 
 module _ {T : Type 0} {S : Type 0} {G : Ghosts T} {H : StoredGhosts S T} {N : ℕ} where
   -- the items in the cache, the oldest first

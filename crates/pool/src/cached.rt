@@ -1,15 +1,15 @@
 //! Gets and puts on the cache alone, which borrow a list. They touch no ring.
 ghost use Rattle.std.specs.Prelude.{◌≡◌, ◌++◌, [], IfOk};
 ghost use Rattle.fabric.specs.Settles.{AreOwnBuffers};
-ghost use Rattle.pool.specs.Calls.{GetsCached, PutsCached};
+ghost use Rattle.pool_laws.specs.Calls.{GetsCached, PutsCached};
 ghost use Rattle.pool.specs.Locals.{HasSameHand, SameRing, cache_of, cache_size, view_of};
 
-use crate::faults::PoolFault;
 use crate::list_moves::push_all;
 use crate::local::Local;
 use crate::set_aside::give;
 use burst::{Burst, Tagged};
 use fabric::Stored;
+use pool_laws::PoolFault;
 
 impl<T: Tagged, const N: usize, S: Stored<T>> Local<T, N, S> {
     /// Gets `n` items from the cache alone, the newest first, into an empty list. Errors: `Short` if it has fewer;

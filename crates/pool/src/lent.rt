@@ -5,12 +5,12 @@ ghost use Rattle.fabric.specs.Settles.{AreOwnBuffers};
 ghost use Rattle.pool.specs.Calls.{FlushTells, GetTells, PutBackTells};
 ghost use Rattle.pool.specs.Locals.{IsLocalOf, SameRing, cache_of, ring_of, view_of};
 
-use crate::faults::PoolFault;
 use crate::local::Local;
 use crate::ring_requests::{empty, fetch};
-use crate::set_aside::{admit, keep_back, shed, take_hand};
+use crate::set_aside::{admit, keep_back, shed};
 use burst::{Burst, Tagged};
 use fabric::{Fabric, Stored};
+use pool_laws::{PoolFault, take_hand};
 use std::sync::Wait;
 
 impl<T: Tagged, const N: usize, S: Stored<T>> Local<T, N, S> {

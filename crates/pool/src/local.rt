@@ -2,18 +2,12 @@
 ghost use Rattle.std.specs.Prelude.{◌≡◌, ◌≤◌, ◌+◌, length, true};
 ghost use Rattle.std.specs.Option.{is_some};
 ghost use Rattle.ringcore_laws.specs.FreeRings.{AreSingle};
-ghost use Rattle.pool.specs.Caches.{threshold};
+ghost use Rattle.pool_laws.specs.Caches.{threshold};
 ghost use Rattle.ringapi.specs.Holdings.{IsFreeRing};
-ghost use Rattle.pool.specs.Hands.{KeepsIn, view_in};
+ghost use Rattle.pool_laws.specs.Hands.{KeepsIn, view_in};
 
 use burst::{Burst, Tagged};
 use fabric::{CacheHand, Stored};
-
-/// The largest size of a cache.
-pub(crate) const MAX_CACHE: usize = 512;
-
-/// The most items that one call gets or puts.
-pub(crate) const BATCH: usize = 64;
 
 /// A hand with a cache of buffers of a free ring: a stack, its newest last. Each item in it carries one buffer, which
 /// is the hand's own and set aside by it, and none occurs twice: so none of them is on a ring or belongs to another

@@ -1,28 +1,16 @@
 //! Making a cache, and getting its hand and its items back.
 ghost use Rattle.std.specs.Prelude.{◌≡◌, ◌+◌, ◌<◌, ◌≤◌, ◌⊎◌, [], IfOk, IfErr, true, false};
 ghost use Rattle.fabric.specs.Hands.{SameHand, view};
-ghost use Rattle.pool.specs.Caches.{threshold};
-ghost use Rattle.pool.specs.Calls.{RefusesCache};
+ghost use Rattle.pool_laws.specs.Caches.{threshold};
+ghost use Rattle.pool_laws.specs.Calls.{RefusesCache};
 ghost use Rattle.ringapi.specs.Holdings.{IsFreeRing};
 ghost use Rattle.pool.specs.Locals.{HasHand, cache_of, ring_of, cache_size};
-ghost use Rattle.pool.specs.declared.faults.PoolFault.TheVariants.{BadSize};
+ghost use Rattle.pool_laws.specs.declared.faults.PoolFault.TheVariants.{BadSize};
 
-use crate::faults::PoolFault;
-use crate::local::{BATCH, Local, MAX_CACHE};
+use crate::local::Local;
 use burst::{Burst, Tagged};
 use fabric::{Hand, Stored};
-
-/// Whether a cache can have this size in bursts of `most` items: it is at most 512, and there is room for its threshold
-/// and 64 more items.
-pub(crate) fn may_be(size: usize, most: usize) -> bool
-    ensures fits { result ≡ true → (size ≤ 512) × (threshold size + 64 ≤ most) }
-    ensures other { result ≡ false → (512 < size) ⊎ (most < threshold size + 64) }
-{
-    if size > MAX_CACHE {
-        return false;
-    }
-    3 * size / 2 + BATCH <= most
-}
+use pool_laws::{PoolFault, may_be};
 
 impl<T: Tagged, const N: usize, S: Stored<T>> Local<T, N, S> {
     /// An empty cache of this size, 0 to 512, in front of a free ring. Requires: the ring is one of the hand's fabric,

@@ -8,17 +8,7 @@ ghost use Rattle.pool.specs.Locals.{cache_of, cache_size, ring_of, view_of};
 use crate::local::Local;
 use burst::{Burst, Tagged};
 use fabric::Stored;
-
-/// Whether an item that carries one buffer carries this one.
-pub(crate) fn carries<T: Tagged>(item: &T, b: u32) -> bool
-    requires single { (length (T.numbers item.now) == 1) ≡ true }
-    ensures { occurrences b (T.numbers item.now) ≡ one_if result }
-{
-    match item.single_tag() {
-        Some(number) => number == b,
-        None => false,
-    }
-}
+use pool_laws::carries;
 
 /// Whether an item of a list carries this buffer. Each item carries one buffer.
 fn one_carries<T: Tagged, const N: usize>(items: &Burst<T, N>, b: u32) -> bool

@@ -4,25 +4,15 @@ ghost use Rattle.ringcore_laws.specs.FreeRings.{AreSingle};
 ghost use Rattle.fabric.specs.Hands.{IsHandOf, OnRing, view};
 ghost use Rattle.fabric.specs.Settles.{AreOwnBuffers};
 ghost use Rattle.ringapi.specs.Holdings.{HasLess, HasMore};
-ghost use Rattle.pool.specs.Asks.{Fetches, Flushes, Refills, Spills, Takes, refusal_of};
-ghost use Rattle.pool.specs.Hands.{IsFreeOf};
+ghost use Rattle.pool_laws.specs.Asks.{Fetches, Flushes, Refills, Spills, Takes, refusal_of};
+ghost use Rattle.pool_laws.specs.Hands.{IsFreeOf};
 
-use crate::faults::PoolFault;
 use crate::list_moves::serve;
 use burst::{Burst, Tagged};
 use fabric::{Fabric, Hand, StartFault, Stored};
+use pool_laws::{PoolFault, refusal};
 use ringapi::{PutAnswer, TakeAnswer, put_own_bulk_from, take_bulk_into};
 use std::sync::Wait;
-
-/// What a refused take means to a caller that wants buffers.
-pub(crate) fn refusal(fault: StartFault) -> PoolFault
-    ensures { result ≡ refusal_of fault }
-{
-    match fault {
-        StartFault::Worn => PoolFault::Worn,
-        _ => PoolFault::Short,
-    }
-}
 
 /// One bulk take of `n` items, tried until it succeeds or is refused.
 fn ask<T: Tagged, const N: usize, S: Stored<T>, R: Wait>(

@@ -5,27 +5,14 @@ ghost use Rattle.ringcore_laws.specs.FreeRings.{AreSingle};
 ghost use Rattle.fabric.specs.Hands.{OnRing, view};
 ghost use Rattle.fabric.specs.CacheHands.{IsCacheHandFor, IsCacheHandOf, Keeps, SameCacheHand, view_of_cache_hand};
 ghost use Rattle.fabric.specs.Settles.{AreNotOwnBuffers, AreOwnBuffers};
-ghost use Rattle.pool.specs.Asks.{Sheds};
-ghost use Rattle.pool.specs.Hands.{IsFreeOf};
+ghost use Rattle.pool_laws.specs.Asks.{Sheds};
+ghost use Rattle.pool_laws.specs.Hands.{IsFreeOf};
 
 use crate::list_moves::{part, push_all};
 use crate::ring_requests::spill;
 use burst::{Burst, Tagged};
 use fabric::{CacheHand, Fabric, Hand, Stored};
 use std::sync::Wait;
-
-/// Takes the hand out of a cache, for a call on a ring.
-pub(crate) fn take_hand<T: Tagged, S: Stored<T>>(
-    hand: &mut Option<CacheHand<T, S>>,
-) -> CacheHand<T, S>
-    requires here { is_some hand.old ≡ true }
-    ensures { hand.old ≡ Some result }
-{
-    match hand.take() {
-        Some(cache_hand) => cache_hand,
-        None => unreachable!(),
-    }
-}
 
 /// The hand as one that sets the buffers of a cache aside. Requires: it may put them on a free ring.
 pub(crate) fn keep_back<T: Tagged, const N: usize, S: Stored<T>>(

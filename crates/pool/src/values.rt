@@ -2,13 +2,14 @@
 ghost use Rattle.std.specs.Prelude.{◌<◌, ◌≤◌, ◌++◌, length, IfOk};
 ghost use Rattle.fabric.specs.Hands.{OnRing};
 ghost use Rattle.fabric.specs.Settles.{AreOwnBuffers};
-ghost use Rattle.pool.specs.Calls.{GetTells, GetsCached, PutBackTells, PutsCached, answer_of, given, handed_back};
+ghost use Rattle.pool_laws.specs.Calls.{GetsCached, PutsCached};
+ghost use Rattle.pool.specs.Calls.{GetTells, PutBackTells, answer_of, given, handed_back};
 ghost use Rattle.pool.specs.Locals.{HasSameHand, IsLocalOf, SameRing, cache_of, ring_of, cache_size, view_of};
 
-use crate::faults::PoolFault;
 use crate::local::Local;
 use burst::{Burst, Tagged};
 use fabric::{Fabric, Stored};
+use pool_laws::PoolFault;
 use std::sync::Wait;
 
 impl<T: Tagged, const N: usize, S: Stored<T>> Local<T, N, S> {

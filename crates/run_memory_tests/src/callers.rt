@@ -1,7 +1,7 @@
 //! A caller: a run, with one clause for any number of workers.
 ghost use Rattle.std.specs.Prelude.{◌≡◌, ◌≤◌, vec_len, IfOk, IfSome};
 ghost use Rattle.pcapio.specs.Counted.{to_come};
-ghost use Rattle.stages.specs.Whole.{IsRun};
+ghost use Rattle.run_parts.specs.Whole.{IsRun};
 
 use pcapio::Counted;
 use settings::Settings;

@@ -10,15 +10,15 @@ use Rattle.pcapio_laws.specs.declared.format.ByteOrder.{ByteOrder}
 use Rattle.pcapio_laws.specs.declared.format.Resolution.{Resolution}
 use Rattle.stages_laws.specs.Input.{Input}
 use Rattle.stages_laws.specs.declared.run.Run.{Ghosts}
-use Rattle.stages.specs.Ending.{WhyFaulted}
-use Rattle.stages.specs.Failing.{FailedAt}
+use Rattle.run_parts.specs.Ending.{WhyFaulted}
+use Rattle.run_parts.specs.Failing.{FailedAt}
 use Rattle.stages.specs.Feeding.{ReadFailed, IsHere, IsNoCapture}
 use Rattle.stages.specs.Threads.{WhyEnded, WhyNoSummaryOfThreads}
-use Rattle.stages.specs.Whole.{WhyNoSummary}
-use Rattle.stages.specs.declared.fault.RunFault.{RunFault}
-use Rattle.stages.specs.declared.fault.RunFault.TheVariants.{Memory, Thread, Read, Write, Capture as Refused, Window, Worn}
-use Rattle.stages.specs.declared.records.input_totals.InputTotals.{InputTotals}
-use Rattle.stages.proofs.Opened.{input_of, refused_whole}
+use Rattle.run_parts.specs.Whole.{WhyNoSummary}
+use Rattle.run_parts.specs.declared.fault.RunFault.{RunFault}
+use Rattle.run_parts.specs.declared.fault.RunFault.TheVariants.{Memory, Thread, Read, Write, Capture as Refused, Window, Worn}
+use Rattle.run_parts.specs.declared.records.input_totals.InputTotals.{InputTotals}
+use Rattle.run_parts.proofs.Opened.{input_of, refused_whole}
 
 read_for_thread : {X : Type 0} {R : Type 0} → ◌≡◌ {A = Result X RunFault} (Err Read) (Err Thread) → R
 read_for_thread e = absurd (cc e)

@@ -1,20 +1,4 @@
-pub mod Lists
-pub mod Parts
-pub mod Windows
-pub mod Texts
-pub mod Counting
-pub mod Flushing
-pub mod Fresh
-pub mod Devices
-pub mod Failures
-pub mod Known
-pub mod Reasons
-pub mod Judging
-pub mod Turning
-pub mod Segments
-pub mod Opened
-pub mod Taken
-pub mod SoFar
+pub mod Unfed
 pub mod Linking
 pub mod Settled
 pub mod Marks
@@ -22,4 +6,3 @@ pub mod Rounds
 pub mod Ended
 pub mod Alike
 mod Rows
-pub mod LentTurn

@@ -1,5 +1,5 @@
--- Worked rows of a run's results and of its rings, computed by the definitions.
-use Rattle.std.proofs.Common.{◌≡◌, ℕ, true, false, List, [], ◌∷◌, map, ap, sym, refl, arith}
+-- Worked rows of the faults of a run in threads and of its rings, computed by the definitions.
+use Rattle.std.proofs.Common.{◌≡◌, ℕ, true, false, List, [], ◌∷◌, ap, sym, refl, arith}
 use Rattle.std.proofs.lemmas.Option.{same_Some}
 use Rattle.geom.specs.declared.plan.Mode.TheVariants.{Hts, Multi}
 use Rattle.geom.specs.declared.plan.RingPlan.{RingPlan}
@@ -7,29 +7,17 @@ use Rattle.geom.specs.declared.plan.Side.TheVariants.{Put, Take}
 use Rattle.pcapio_laws.specs.declared.fault.CapFault.{CapFault}
 use Rattle.ringcore_laws.specs.declared.party.Settled.{Settled}
 use Rattle.stages_laws.specs.declared.run.Run.{Ghosts}
-use Rattle.stages.specs.declared.fault.StageFault.TheVariants as ring
-use Rattle.stages.specs.declared.fault.RunFault.TheVariants.{Memory, Thread, Read, Write, Capture, Window, Worn}
+use Rattle.run_parts.specs.declared.fault.RunFault.TheVariants.{Memory, Thread, Read, Write, Capture, Window, Worn}
 use Rattle.stages.specs.declared.packet.Packet.TheVariants.{Free, Mark}
 use Rattle.stages.specs.declared.packet.Segment.{Segment}
-use Rattle.stages.specs.Faults.{number_of, lowest_of, lower_of, fault_of_input, fault_of_stage}
+use Rattle.stages.specs.declared.stage_fault.StageFault.TheVariants as ring
 use Rattle.stages.specs.Judging.{until_mark, has_mark}
 use Rattle.stages.specs.Passing.{AreAsked, AreRings, settled_on}
-
-numbers : map number_of (Memory ∷ Thread ∷ Read ∷ Write 9 ∷ Capture CapFault.NotPcap ∷ Window ∷ Worn ∷ []) ≡ 1 ∷ 2 ∷ 3 ∷ 4 ∷ 5 ∷ 6 ∷ 7 ∷ []
-numbers = refl
-
--- together with the fault of port 9
-beside_a_port : map (lowest_of 9) (Memory ∷ Thread ∷ Read ∷ Capture CapFault.BadRecord ∷ Window ∷ Worn ∷ [])
-    ≡ Memory ∷ Thread ∷ Read ∷ Write 9 ∷ Write 9 ∷ Write 9 ∷ []
-beside_a_port = refl
+use Rattle.stages.specs.StageFaults.{fault_of_stage, lower_of}
 
 lower_ones : (lower_of Worn Window ≡ Window) × (lower_of Window Worn ≡ Window) × (lower_of (Capture CapFault.BadLink) Window ≡ Capture CapFault.BadLink)
     × (lower_of Worn Read ≡ Read) × (lower_of Memory Thread ≡ Memory) × (lower_of (Write 1) (Write 0) ≡ Write 1)
 lower_ones = (refl, refl, refl, refl, refl, refl)
-
-of_inputs : map fault_of_input (CapFault.NotPcap ∷ CapFault.BadVersion ∷ CapFault.BadLink ∷ CapFault.BadRecord ∷ CapFault.Read ∷ CapFault.Memory ∷ [])
-    ≡ Capture CapFault.NotPcap ∷ Capture CapFault.BadVersion ∷ Capture CapFault.BadLink ∷ Capture CapFault.BadRecord ∷ Read ∷ Memory ∷ []
-of_inputs = refl
 
 of_rings : (fault_of_stage ring.Window ≡ Window) × (fault_of_stage ring.Worn ≡ Worn)
 of_rings = (refl, refl)

@@ -1,17 +1,15 @@
 -- What a worker does with packets.
 use Rattle.std.specs.Prelude.{◌≡◌, ℕ, Bool, true, false, if◌then◌else◌, List, [], ◌∷◌, ◌++◌}
 use Rattle.mbuf.specs.Buffer.{Buffer}
-use Rattle.mbuf.specs.Chain.{numbers_of}
-use Rattle.pcapio.specs.Record.{packet_in}
 use Rattle.ringcore_laws.specs.declared.party.Settled.{Settled}
-use Rattle.stages_laws.specs.Output.{Forwarding, fate}
+use Rattle.stages_laws.specs.Output.{Forwarding}
 use Rattle.stages_laws.specs.declared.run.Run.{Ghosts}
-use Rattle.stages.specs.Packets.{fate_with}
+use Rattle.run_parts.specs.Verdicts.{IsVerdictOf}
 use Rattle.stages.specs.Passing.{Passes}
-use Rattle.stages.specs.declared.packet.Judged.{Judged}
+use Rattle.run_parts.specs.declared.packet.Judged.{Judged}
 use Rattle.stages.specs.declared.packet.Packet.{Packet}
 use Rattle.stages.specs.declared.packet.Packet.TheVariants.{Free, Before, After, Mark}
-use Rattle.stages.specs.declared.packet.Unjudged.{Unjudged}
+use Rattle.run_parts.specs.declared.packet.Unjudged.{Unjudged}
 
 -- two lists of the same length, with R for each pair
 abbrev pub AllPairs : {X Y : Type 0} → (X → Y → Type 0) → List X → List Y → Type 0
@@ -35,13 +33,6 @@ module _ {J : Type 0} {G : Ghosts J} where
   abbrev pub until_mark : List (Packet J G) → List (Packet J G)
   until_mark [] = []
   until_mark (p ∷ ps) = if is_mark p then p ∷ [] else p ∷ until_mark ps
-
-  -- the packet with the same number and in the same buffers, with the verdict on its frame, and as it leaves
-  pub record IsVerdictOf (forwarding : Forwarding) (x : Unjudged J G) (y : Judged J G) : Type 0 where
-    pub seq : y.seq ≡ x.seq
-    pub fate : fate_with y.verdict (packet_in y.seconds y.fraction y.wire y.chain)
-        ≡ fate forwarding (packet_in x.seconds x.fraction x.wire x.chain)
-    pub numbers : numbers_of y.chain ≡ numbers_of x.chain
 
   -- what becomes of a packet: one before its verdict gets it, and any other is unchanged
   abbrev pub IsJudged : Forwarding → Packet J G → Packet J G → Type 0

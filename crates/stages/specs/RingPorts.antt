@@ -13,8 +13,8 @@ use Rattle.ringapi.specs.declared.answers.TakeAnswer.TheVariants as taken
 use Rattle.ringapi.specs.Puts.{PutHasTold}
 use Rattle.ringapi.specs.Takes.{TakeHasTold}
 use Rattle.ringapi.specs.Views.{by_burst}
-use Rattle.stages.specs.declared.fault.StageFault.{StageFault}
-use Rattle.stages.specs.declared.fault.StageFault.TheVariants.{Worn}
+use Rattle.stages.specs.declared.stage_fault.StageFault.{StageFault}
+use Rattle.stages.specs.declared.stage_fault.StageFault.TheVariants.{Worn}
 
 module _ {T : Type 0} {S : Type 0} {G : Ghosts T} {H : StoredGhosts S T} {N : ℕ} where
   -- the hand in this place comes from this fabric

@@ -1,30 +1,20 @@
-//! A run: a capture in, captures out.
+//! A run in threads: a capture in, captures out.
 //!
-//! `one` is a run by one thread: it judges a record in the reader's buffer, or reads it into a chain and judges that,
-//! and hands it to the sink. `threads` is the same run by several threads, over three rings: `threads::reader` reads
-//! records into free segments and sends packets, each `threads::worker` judges packets, and `threads::sink_loop` takes
-//! them to the sink and frees their segments.
-//!
-//! Both share `records` (what the input has next), `packet` (what goes from stage to stage, and its verdict), `sink`
-//! (packets in the order of the input, and their counts), `ports` (the writers, opened and closed) and `summary` (the
-//! result of a run). `gate` lets a caller watch packets while they are judged; `laws` compares runs.
+//! `threads` is the run by several threads, over three rings: `threads::reader` reads records into free segments and
+//! sends packets, each `threads::worker` judges packets, and `threads::sink_loop` takes them to the sink and frees
+//! their segments. `packet` is what is on the rings, `stage_fault` why a stage can't continue, and `gate` lets a caller
+//! watch packets while they are judged; `laws` compares runs. The parts that it shares with the run by one thread, and
+//! that run, are in `run_parts`.
 #![tactic(auto)]
 
-mod fault;
 mod gate;
 mod laws;
-mod one;
 mod packet;
-mod ports;
-mod records;
-mod sink;
-mod summary;
+mod stage_fault;
 mod threads;
 
-pub use fault::RunFault;
 pub use gate::{Gate, Open};
 pub use laws::workers_change_nothing;
-pub use one::run_one;
-pub use packet::{Judged, Packet, Segment, Unjudged};
-pub use summary::Summary;
+pub use packet::{Packet, Segment};
+pub use run_parts::{Judged, RunFault, Summary, Unjudged, run_one};
 pub use threads::{Worked, run_threads, work};

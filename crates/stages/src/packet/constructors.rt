@@ -3,10 +3,11 @@ ghost use Rattle.std.specs.Prelude.{◌≡◌, ◌≤◌, length};
 ghost use Rattle.mbuf.specs.Chain.{bytes_of};
 ghost use Rattle.pcapio.specs.Record.{packet_in};
 ghost use Rattle.stages.specs.Judging.{IsBefore, IsFree};
-ghost use Rattle.stages.specs.Packets.{IsRecord};
+ghost use Rattle.run_parts.specs.Packets.{IsRecord};
 
-use crate::packet::{Packet, Segment, Unjudged};
+use crate::packet::{Packet, Segment};
 use mbuf::Chain;
+use run_parts::Unjudged;
 use stages_laws::Run;
 use std::marker::PhantomData;
 

@@ -1,15 +1,11 @@
 //! The reader of a run in threads: it reads each record into free segments, and sends it to the workers.
 ghost use Rattle.std.specs.Prelude.{◌≡◌, ◌≤◌, ◌<◌, ◌⊎◌, ◌*◌, ◌-◌, max, length, IfOk, IfErr};
 ghost use Rattle.mbuf.specs.Chain.{space_of};
-ghost use Rattle.stages.specs.Begun.{GoesBy, HasInput};
+ghost use Rattle.run_parts.specs.Begun.{GoesBy, HasInput};
 ghost use Rattle.stages.specs.Feeding.{WhyUnfed};
 
-use crate::fault::{RunFault, StageFault};
 use crate::packet::Packet;
-use crate::records::input_totals::InputTotals;
-use crate::records::next_record::NextRecord;
-use crate::records::read_state::ReadState;
-use crate::records::{look, read_record};
+use crate::stage_fault::StageFault;
 use crate::threads::reader_outcome::ReaderOutcome;
 use crate::threads::ring_port::RingPort;
 use crate::threads::rings::{FREE, INPUT, SPAN};
@@ -18,6 +14,7 @@ use burst::Burst;
 use crossbeam_utils::Backoff;
 use mbuf::Chain;
 use pcapio::Reader;
+use run_parts::{InputTotals, NextRecord, ReadState, RunFault, look, read_record};
 use settings::Settings;
 use stages_laws::Run;
 use std::io::Read;

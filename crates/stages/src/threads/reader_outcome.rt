@@ -1,14 +1,14 @@
 //! The outcome of the reader of a run in threads.
 ghost use Rattle.std.specs.Prelude.{◌≡◌, ◌⊎◌, Err, Ok};
 ghost use Rattle.stages.specs.Feeding.{ReadFailed, IsHere, IsNoCapture, WroteNothing};
-ghost use Rattle.stages.specs.Faults.{fault_of_stage, lower_of};
-ghost use Rattle.stages.specs.declared.fault.StageFault.{StageFault};
-ghost use Rattle.stages.specs.declared.fault.RunFault.{RunFault};
-ghost use Rattle.stages.specs.declared.fault.RunFault.TheVariants.{Memory, Thread};
+ghost use Rattle.stages.specs.StageFaults.{fault_of_stage, lower_of};
+ghost use Rattle.stages.specs.declared.stage_fault.StageFault.{StageFault};
+ghost use Rattle.run_parts.specs.declared.fault.RunFault.{RunFault};
+ghost use Rattle.run_parts.specs.declared.fault.RunFault.TheVariants.{Memory, Thread};
 
-use crate::fault::{RunFault, StageFault, lower};
-use crate::records::input_totals::InputTotals;
+use crate::stage_fault::{StageFault, lower};
 use pcapio::{Counted, Reader};
+use run_parts::{InputTotals, RunFault};
 use stages_laws::Run;
 use std::io::Read;
 

@@ -7,7 +7,7 @@ ghost use Rattle.fabric.specs.Hands.{IsHandOf, rings_of};
 ghost use Rattle.stages.specs.Passing.{AreRings};
 ghost use Rattle.stages.specs.RingPorts.{GivesUp, IsOf, TakesNone};
 
-use crate::fault::StageFault;
+use crate::stage_fault::StageFault;
 use crate::threads::rings::{FREE, SPAN};
 use burst::{Burst, Tagged};
 use crossbeam_utils::Backoff;

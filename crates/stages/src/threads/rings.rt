@@ -3,8 +3,8 @@ ghost use Rattle.std.specs.Prelude.{◌≡◌, ◌<◌, [], IfOk, IfSome};
 ghost use Rattle.fabric.specs.Hands.{IsHandOf, rings_of};
 ghost use Rattle.stages.specs.Passing.{AreRings, AreAsked};
 
-use crate::fault::StageFault;
 use crate::packet::Packet;
+use crate::stage_fault::StageFault;
 use crate::threads::put_all::put_all;
 use burst::Burst;
 use fabric::{Fabric, Hand, Opened};

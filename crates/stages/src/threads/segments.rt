@@ -4,8 +4,8 @@ ghost use Rattle.std.specs.List.{flat_map};
 ghost use Rattle.burst.specs.Numbers.{AreDistinct};
 ghost use Rattle.stages.specs.Numbers.{packet_numbers};
 
-use crate::fault::StageFault;
 use crate::packet::Packet;
+use crate::stage_fault::StageFault;
 use crate::threads::ring_port::RingPort;
 use crate::threads::rings::{FREE, SPAN};
 use burst::Burst;

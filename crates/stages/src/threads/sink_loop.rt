@@ -1,14 +1,14 @@
 //! The sink of a run in threads: it empties the output ring until each worker has ended.
 ghost use Rattle.std.specs.Prelude.{◌≡◌, ◌≤◌, vec_len};
 
-use crate::fault::StageFault;
-use crate::packet::{Judged, Packet};
-use crate::sink::Sink;
+use crate::packet::Packet;
+use crate::stage_fault::StageFault;
 use crate::threads::ring_port::RingPort;
 use crate::threads::rings::{OUTPUT, SPAN};
 use crate::threads::segments::{give_back, release};
 use burst::Burst;
 use crossbeam_utils::Backoff;
+use run_parts::{Judged, Sink};
 use stages_laws::Run;
 use std::io::Write;
 use std::sync::Wait;

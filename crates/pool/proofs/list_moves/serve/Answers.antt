@@ -1,6 +1,6 @@
 use Rattle.std.proofs.Common.{◌≡◌, ◌++◌, ◌-◌, length, reverse, take, drop, ap, ◌∙◌}
 use Rattle.std.proofs.lemmas.List.{length-reverse}
-use Rattle.pool.proofs.Turned.{first_turned, rest_turned}
+use Rattle.pool_laws.proofs.Turned.{first_turned, rest_turned}
 use Rattle.pool.proofs.list_moves.serve.Goals as goal
 
 pub returns-clause-left : goal.returns-clause-left

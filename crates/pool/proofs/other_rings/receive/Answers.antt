@@ -5,7 +5,7 @@ use Rattle.fabric.proofs.Told.{ring_at}
 use Rattle.ringapi.specs.declared.answers.TakeAnswer.TheVariants.{Done, Refused}
 use Rattle.ringapi.specs.Takes.{TakeHasTold}
 use Rattle.ringapi.specs.Views.{by_burst}
-use Rattle.pool.proofs.Others.{kept_own, received_own, unreceived_party}
+use Rattle.pool_laws.proofs.Others.{kept_own, received_own, unreceived_party}
 use Rattle.pool.proofs.other_rings.receive.Goals as goal
 
 pub keep_back-requires : goal.keep_back-requires

@@ -5,7 +5,7 @@ use Rattle.fabric.proofs.Told.{ring_at}
 use Rattle.ringapi.specs.declared.answers.PutAnswer.TheVariants.{Done, Refused}
 use Rattle.ringapi.specs.Puts.{PutHasTold}
 use Rattle.ringapi.specs.Views.{by_burst}
-use Rattle.pool.proofs.Others.{kept_own, not_spare, sent_own, spare_yours, unsent, unsent_party}
+use Rattle.pool_laws.proofs.Others.{kept_own, not_spare, sent_own, spare_yours, unsent, unsent_party}
 use Rattle.pool.proofs.other_rings.send.Goals as goal
 
 pub returns-then-not-may_put-clause-exact : goal.returns-then-not-may_put-clause-exact

@@ -2,12 +2,12 @@ use Rattle.std.proofs.Common.{◌≡◌, ℕ, ◌-◌, ◌<◌, ◌++◌, Ok, Er
 use Rattle.ringcore_laws.specs.FreeRings.{AreSingle}
 use Rattle.ringcore_laws.specs.Sound.{occurrences_in}
 use Rattle.fabric.specs.Hands.{view}
-use Rattle.pool.specs.Asks.{Refills}
-use Rattle.pool.specs.Caches.{cached_after_get, taken_by_get}
+use Rattle.pool_laws.specs.Asks.{Refills}
+use Rattle.pool_laws.specs.Caches.{cached_after_get, taken_by_get}
 use Rattle.ringapi.proofs.Counts.{count_both}
-use Rattle.pool.proofs.Counts.{count_get}
-use Rattle.pool.proofs.Singles.{single_get}
-use Rattle.pool.proofs.Turned.{poured_back}
+use Rattle.pool_laws.proofs.Counts.{count_get}
+use Rattle.pool_laws.proofs.Singles.{single_get}
+use Rattle.pool_laws.proofs.Turned.{poured_back}
 use Rattle.pool.proofs.ring_requests.fetch.Goals as goal
 
 module _ {T : Type 0} (n m : ℕ) (cache taken : List T) (short : length cache < n) (is : m ≡ length cache) where

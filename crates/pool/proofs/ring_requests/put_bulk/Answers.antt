@@ -1,6 +1,6 @@
 use Rattle.fabric.proofs.Told.{ring_at}
 use Rattle.fabric.specs.Hands.{rings_of, view}
-use Rattle.pool.proofs.Asking.{kept_party, own_yours, put_all, put_holds, put_none}
+use Rattle.pool_laws.proofs.Asking.{kept_party, own_yours, put_all, put_holds, put_none}
 use Rattle.ringapi.proofs.Few.{own_few}
 use Rattle.pool.proofs.ring_requests.put_bulk.Goals as goal
 

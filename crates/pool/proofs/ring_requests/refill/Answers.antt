@@ -2,7 +2,7 @@ use Rattle.std.proofs.Common.{◌+◌, ◌∙◌, IfOk, subst, inl, inr, refl, E
 use Rattle.fabric.specs.Hands.{view}
 use Rattle.pool.proofs.ring_requests.refill.Goals as goal
 use Rattle.ringapi.specs.Holdings.{HasMore}
-use Rattle.pool.specs.Asks.{Takes}
+use Rattle.pool_laws.specs.Asks.{Takes}
 use Rattle.std.proofs.lemmas.Result.{IfErr-weaker}
 
 pub returns-in-Ok-clause-exact : goal.returns-in-Ok-clause-exact

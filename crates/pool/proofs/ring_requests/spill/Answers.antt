@@ -2,10 +2,10 @@ use Rattle.std.proofs.Common.{◌≡◌, ℕ, ◌++◌, Ok, Err, List, [], lengt
 use Rattle.std.proofs.lemmas.List.{length-take, take-append-drop}
 use Rattle.fabric.specs.Hands.{view}
 use Rattle.fabric.specs.Settles.{AreOwnBuffers}
-use Rattle.pool.proofs.Asking.{first_own, left_own}
+use Rattle.pool_laws.proofs.Asking.{first_own, left_own}
 use Rattle.ringapi.specs.Holdings.{HasLess}
-use Rattle.pool.specs.Asks.{Spills}
-use Rattle.pool.proofs.Turned.{poured_behind}
+use Rattle.pool_laws.specs.Asks.{Spills}
+use Rattle.pool_laws.proofs.Turned.{poured_behind}
 use Rattle.pool.proofs.ring_requests.spill.Goals as goal
 
 pub put_bulk-requires : goal.put_bulk-requires

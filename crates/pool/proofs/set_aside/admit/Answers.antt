@@ -1,4 +1,4 @@
-use Rattle.pool.proofs.Kept.{none_own}
+use Rattle.pool_laws.proofs.Kept.{none_own}
 use Rattle.pool.proofs.set_aside.admit.Goals as goal
 
 pub returns-else-may-clause-other : goal.returns-else-may-clause-other

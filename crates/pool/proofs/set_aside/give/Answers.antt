@@ -1,7 +1,7 @@
 use Rattle.std.proofs.Common.{[], ◌-◌, ◌∷◌, length, ap, arith}
 use Rattle.std.proofs.lemmas.List.{length-append}
-use Rattle.pool.proofs.Kept.{are_kept, less_kept}
-use Rattle.pool.proofs.Turned.{last_kept, last_turned}
+use Rattle.pool_laws.proofs.Kept.{are_kept, less_kept}
+use Rattle.pool_laws.proofs.Turned.{last_kept, last_turned}
 use Rattle.pool.proofs.set_aside.give.Goals as goal
 
 pub restore_one-requires : goal.restore_one-requires

@@ -1,5 +1,5 @@
 use Rattle.std.proofs.Common.{◌≡◌, ◌++◌, drop, reverse, ap, ◌∙◌, rules}
-use Rattle.pool.proofs.Kept.{are_kept, less_kept}
+use Rattle.pool_laws.proofs.Kept.{are_kept, less_kept}
 use Rattle.pool.proofs.set_aside.give_behind.Goals as goal
 
 pub restore-requires : goal.restore-requires

@@ -1,9 +1,9 @@
 use Rattle.std.proofs.Common.{◌∙◌, ap, map}
 use Rattle.pcapio.specs.Counted.{told}
-use Rattle.stages.specs.Ports.{devices_of}
-use Rattle.stages.proofs.Known.{if_err}
+use Rattle.run_parts.specs.Ports.{devices_of}
+use Rattle.run_parts.proofs.Known.{if_err}
 use Rattle.stages.proofs.Ended.{why_ended}
-use Rattle.stages.proofs.Opened.{untold}
+use Rattle.run_parts.proofs.Opened.{untold}
 use Rattle.stages.proofs.threads.run_started.Goals as goal
 
 pub returns-in-Err-clause-begun : goal.returns-in-Err-clause-begun

@@ -4,13 +4,13 @@ use Rattle.pcapio.specs.Counted.{told, failures_of, to_come}
 use Rattle.pcapio.specs.Reader.{order_of, resolution_of, rest}
 use Rattle.pcapio.specs.Writer.{sink_of}
 use Rattle.stages_laws.specs.Output.{Fate}
-use Rattle.stages.specs.Ending.{Sums}
-use Rattle.stages.specs.Ports.{AreFresh, AreOutputs, AreBeginnings, devices_of}
-use Rattle.stages.specs.Tallies.{fates_of}
-use Rattle.stages.specs.Whole.{forwarding_by}
-use Rattle.stages.proofs.Known.{if_err}
-use Rattle.stages.proofs.Opened.{input_of, untouched_begun, begun_whole, run_told}
-use Rattle.stages.specs.Whole.{WhyNoSummary}
+use Rattle.run_parts.specs.Ending.{Sums}
+use Rattle.run_parts.specs.Ports.{AreFresh, AreOutputs, AreBeginnings, devices_of}
+use Rattle.run_parts.specs.Tallies.{fates_of}
+use Rattle.run_parts.specs.Whole.{forwarding_by}
+use Rattle.run_parts.proofs.Known.{if_err}
+use Rattle.run_parts.proofs.Opened.{input_of, untouched_begun, begun_whole, run_told}
+use Rattle.run_parts.specs.Whole.{WhyNoSummary}
 use Rattle.stages.proofs.Ended.{of_threads, why_of_threads}
 use Rattle.stages.proofs.threads.run_threads.Goals as goal
 

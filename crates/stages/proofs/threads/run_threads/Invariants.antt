@@ -1,9 +1,9 @@
 use Rattle.std.proofs.Common.{map}
 use Rattle.pcapio.specs.Counted.{told, failures_of}
 use Rattle.pcapio.specs.Reader.{order_of, resolution_of, rest, source_of}
-use Rattle.stages.specs.Ports.{devices_of}
-use Rattle.stages.specs.Whole.{forwarding_by}
-use Rattle.stages.proofs.Opened.{input_of}
+use Rattle.run_parts.specs.Ports.{devices_of}
+use Rattle.run_parts.specs.Whole.{forwarding_by}
+use Rattle.run_parts.proofs.Opened.{input_of}
 use Rattle.stages.proofs.threads.run_threads.Given as goal
 
 abbrev pub ghosts-run_started : goal.ghosts-run_started

@@ -5,8 +5,8 @@ use Rattle.fabric_laws.specs.declared.view.View.{View}
 use Rattle.fabric.specs.CacheHands.{Keeps, view_of_cache_hand}
 use Rattle.fabric.specs.Settles.{AreOwnBuffers}
 use Rattle.ringapi.specs.Holdings.{IsFreeRing}
-use Rattle.pool.specs.Hands.{KeepsIn, view_in}
-use Rattle.pool.proofs.Kept.{hit_own, own_kept, same_view}
+use Rattle.pool_laws.specs.Hands.{KeepsIn, view_in}
+use Rattle.pool_laws.proofs.Kept.{hit_own, own_kept, same_view}
 use Rattle.ringapi.proofs.Singles.{single_take}
 use Rattle.pool.proofs.local.Local.get_cached_into.Goals as goal
 

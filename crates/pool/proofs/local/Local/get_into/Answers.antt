@@ -1,9 +1,9 @@
 use Rattle.std.proofs.Common.{◌≡◌, ◌<◌, Some, Ok, Err, inr, refl, sym, ap, subst, rules, arith, length}
 use Rattle.ringcore_laws.specs.FreeRings.{AreSingle}
 use Rattle.fabric.specs.Hands.{view}
-use Rattle.pool.proofs.Kept.{later_own, same_own}
-use Rattle.pool.proofs.Wholes.{free_at, free_of, hand_from, hand_own, cache_hand_from, mine_of, view_at}
-use Rattle.pool.specs.Asks.{Fetches}
+use Rattle.pool_laws.proofs.Kept.{later_own, same_own}
+use Rattle.pool_laws.proofs.Wholes.{free_at, free_of, hand_from, hand_own, cache_hand_from, mine_of, view_at}
+use Rattle.pool_laws.specs.Asks.{Fetches}
 use Rattle.pool.proofs.local.Local.get_into.Goals as goal
 
 pub fetch-requires : goal.fetch-requires

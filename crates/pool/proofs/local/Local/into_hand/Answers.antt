@@ -1,5 +1,5 @@
 use Rattle.std.proofs.Common.{subst, rules}
-use Rattle.pool.specs.Hands.{KeepsIn}
+use Rattle.pool_laws.specs.Hands.{KeepsIn}
 use Rattle.pool.proofs.local.Local.into_hand.Goals as goal
 
 pub into_hand-requires : goal.into_hand-requires

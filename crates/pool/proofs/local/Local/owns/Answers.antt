@@ -2,7 +2,7 @@ use Rattle.std.proofs.Common.{◌≡◌, ℕ, Bool, true, false, IsTrue, refl, a
 use Rattle.ringcore_laws.specs.Sound.{holds}
 use Rattle.fabric.specs.CacheHands.{Keeps, spare}
 use Rattle.fabric.specs.Owned.{one_if}
-use Rattle.pool.specs.Hands.{KeepsIn, view_in}
+use Rattle.pool_laws.specs.Hands.{KeepsIn, view_in}
 use Rattle.pool.proofs.local.Local.owns.Goals as goal
 
 -- a number that is 1 where a test holds, and else 0

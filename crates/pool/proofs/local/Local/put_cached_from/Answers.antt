@@ -5,8 +5,8 @@ use Rattle.fabric_laws.specs.declared.view.View.{View}
 use Rattle.fabric.specs.CacheHands.{Keeps, view_of_cache_hand}
 use Rattle.fabric.specs.Settles.{AreNotOwnBuffers, AreOwnBuffers}
 use Rattle.ringapi.specs.Holdings.{IsFreeRing}
-use Rattle.pool.specs.Hands.{KeepsIn, view_in}
-use Rattle.pool.proofs.Kept.{added_kept, back_kept, more_kept, more_own, none_kept, none_own, same_view}
+use Rattle.pool_laws.specs.Hands.{KeepsIn, view_in}
+use Rattle.pool_laws.proofs.Kept.{added_kept, back_kept, more_kept, more_own, none_kept, none_own, same_view}
 use Rattle.ringapi.proofs.Singles.{single_both}
 use Rattle.pool.proofs.local.Local.put_cached_from.Goals as goal
 

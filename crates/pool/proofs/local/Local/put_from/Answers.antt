@@ -6,11 +6,11 @@ use Rattle.fabric.proofs.Told.{ring_at}
 use Rattle.fabric.specs.Hands.{rings_of}
 use Rattle.fabric_laws.specs.declared.view.View.{View}
 use Rattle.fabric.specs.Settles.{AreNotOwnBuffers, AreOwnBuffers}
-use Rattle.pool.specs.Asks.{Spills}
-use Rattle.pool.specs.Caches.{spilled}
-use Rattle.pool.specs.Hands.{view_in}
-use Rattle.pool.proofs.Counts.{spilled_none, spilled_some}
-use Rattle.pool.proofs.Wholes.{free_at, free_of, keeps_of, mine_of, same_mine, view_later}
+use Rattle.pool_laws.specs.Asks.{Spills}
+use Rattle.pool_laws.specs.Caches.{spilled}
+use Rattle.pool_laws.specs.Hands.{view_in}
+use Rattle.pool_laws.proofs.Counts.{spilled_none, spilled_some}
+use Rattle.pool_laws.proofs.Wholes.{free_at, free_of, keeps_of, mine_of, same_mine, view_later}
 use Rattle.pool.proofs.local.Local.put_from.Goals as goal
 
 pub returns-then-not-may-clause-exact : goal.returns-then-not-may-clause-exact

@@ -3,7 +3,7 @@ use Rattle.fabric_laws.specs.declared.view.View.{View}
 use Rattle.fabric.specs.CacheHands.{Keeps}
 use Rattle.fabric.specs.Settles.{AreNotOwnBuffers, AreOwnBuffers}
 use Rattle.ringapi.specs.Holdings.{IsFreeRing}
-use Rattle.pool.proofs.Kept.{more_kept, more_own, none_kept, none_own, same_view}
+use Rattle.pool_laws.proofs.Kept.{more_kept, more_own, none_kept, none_own, same_view}
 use Rattle.pool.proofs.local.Local.resume.Goals as goal
 
 pub returns-then-not-may_be-clause-refused : goal.returns-then-not-may_be-clause-refused

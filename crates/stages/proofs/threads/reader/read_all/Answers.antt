@@ -2,10 +2,11 @@ use Rattle.std.proofs.Common.{◌≡◌, [], length, refl, sym, ap, ◌∙◌, s
 use Rattle.counters.specs.Counted.{counts_of}
 use Rattle.counters.specs.Tally.{records_of}
 use Rattle.stages.specs.Feeding.{WhyUnfed}
-use Rattle.stages.specs.SoFar.{Looks}
-use Rattle.stages.proofs.Fresh.{counted_ports, no_records}
-use Rattle.stages.proofs.Known.{on_some}
-use Rattle.stages.proofs.SoFar.{none_read, unfed_since, unfed_late, unfed_by_stage}
+use Rattle.run_parts.specs.SoFar.{Looks}
+use Rattle.run_parts.proofs.Fresh.{counted_ports, no_records}
+use Rattle.run_parts.proofs.Known.{on_some}
+use Rattle.run_parts.proofs.SoFar.{none_read}
+use Rattle.stages.proofs.Unfed.{unfed_since, unfed_late, unfed_by_stage}
 use Rattle.stages.proofs.threads.reader.read_all.Goals as goal
 
 pub loop-turn-init : goal.loop-turn-init

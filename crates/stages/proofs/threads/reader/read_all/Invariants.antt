@@ -3,7 +3,7 @@ use Rattle.counters.specs.Tally.{records_of}
 use Rattle.pcapio.specs.Counted.{HasNotFailed}
 use Rattle.pcapio.specs.Reader.{state_of, source_of}
 use Rattle.pcapio.specs.declared.reader_state.ReaderState.TheVariants.{Between}
-use Rattle.stages.specs.SoFar.{HasRead}
+use Rattle.run_parts.specs.SoFar.{HasRead}
 use Rattle.stages.proofs.threads.reader.read_all.Given as goal
 
 abbrev pub invariant-loop-turn : goal.invariant-loop-turn

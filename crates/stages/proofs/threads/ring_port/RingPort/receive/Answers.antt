@@ -3,7 +3,7 @@ use Rattle.fabric.specs.Hands.{view}
 use Rattle.ringapi.specs.declared.answers.TakeAnswer.TheVariants as taken
 use Rattle.ringapi.specs.Takes.{TakeHasTold}
 use Rattle.ringapi.specs.Views.{by_burst}
-use Rattle.stages.proofs.Known.{if_err}
+use Rattle.run_parts.proofs.Known.{if_err}
 use Rattle.stages.proofs.threads.ring_port.RingPort.receive.Goals as goal
 
 pub returns-in-Refused : goal.returns-in-Refused

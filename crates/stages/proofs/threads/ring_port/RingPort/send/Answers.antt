@@ -1,5 +1,5 @@
 use Rattle.std.proofs.Common.{rules, ◌≡◌, Some, refl, ap, arith}
-use Rattle.stages.specs.declared.fault.StageFault.TheVariants.{Worn}
+use Rattle.stages.specs.declared.stage_fault.StageFault.TheVariants.{Worn}
 use Rattle.stages.proofs.threads.ring_port.RingPort.send.Goals as goal
 
 pub put_burst_from-requires : goal.put_burst_from-requires

@@ -1,0 +1,4 @@
+pub mod Attempts
+pub mod Calls
+pub mod Deals
+pub mod Openings

@@ -1,0 +1,153 @@
+//! Bulk puts and takes of numbers on rings with head/tail-sync sides, tried a limited number of times.
+ghost use Rattle.std.specs.Prelude.{◌≡◌, ◌<◌, [], length, Err, IfErr, IfOk, IsTrue};
+ghost use Rattle.fabric.specs.Hands.{OnRing, rings_of};
+ghost use Rattle.fabric.specs.Views.{IsKept};
+ghost use Rattle.pool_laws.specs.Beside.{IsPutByHts, IsTakenByHts};
+ghost use Rattle.word_pool.specs.Words.{IsLocalOf, SameCache, SameRing, cache_of, view_of};
+ghost use Rattle.capi_pools.specs.Tries.{Filled, Received, Sent, refusal_fault};
+
+use crate::member::Number;
+use capi_rings::{Fault, fault_of};
+use fabric::{Fabric, StartFault};
+use ringapi::{Moved, Refusal};
+use slot::Slot;
+use word_pool::LocalWords;
+
+/// How often a call tries a ring if other threads come first.
+const TURNS: u32 = 1024;
+
+/// The fault for a refused put.
+pub(crate) fn refused(why: Refusal) -> Fault
+    ensures { result ≡ refusal_fault why }
+{
+    match why {
+        Refusal::Start(why) => fault_of(why),
+        Refusal::NotYours => Fault::NotYours,
+    }
+}
+
+/// Whether another thread came first.
+#[inline]
+fn is_lost(why: StartFault) -> bool {
+    match why {
+        StartFault::Busy(_) | StartFault::Contended(_) => true,
+        _ => false,
+    }
+}
+
+/// Whether another thread came first at a put.
+#[inline]
+fn is_lost_put(why: Refusal) -> bool {
+    match why {
+        Refusal::Start(why) => is_lost(why),
+        Refusal::NotYours => false,
+    }
+}
+
+/// One try to put all numbers on a ring.
+#[inline]
+fn try_send(
+    f: &Fabric<Number, 1024, Slot<Number>>,
+    local: &mut LocalWords<Number, 1024, Slot<Number>>,
+    ring: usize,
+    items: &[Number],
+) -> Result<Moved, Refusal>
+    requires local { IsLocalOf f.now local.old }
+    requires ring { ring < length (rings_of f.now) }
+    requires hts { OnRing f.now ring IsPutByHts }
+    ensures local { IsLocalOf f.now local.new }
+    ensures same { SameRing local.old local.new × SameCache local.old local.new }
+    ensures sent { Sent f.now ring (cache_of local.old) items.now local.old local.new result }
+    ensures kept { IfErr result (λ _. IsKept (view_of local.old) (view_of local.new)) }
+{
+    match local.try_send_bulk_from_slice(f, ring, items) {
+        Ok(moved) => Ok(moved),
+        Err(why) => Err(why),
+    }
+}
+
+/// Puts all numbers on a ring, or none.
+#[tactic(auto, using(crate::proofs::Attempts::sent_again))]
+pub(crate) fn send(
+    f: &Fabric<Number, 1024, Slot<Number>>,
+    local: &mut LocalWords<Number, 1024, Slot<Number>>,
+    ring: usize,
+    items: &[Number],
+) -> Result<Moved, Refusal>
+    requires local { IsLocalOf f.now local.old }
+    requires ring { ring < length (rings_of f.now) }
+    requires hts { OnRing f.now ring IsPutByHts }
+    ensures local { IsLocalOf f.now local.new }
+    ensures same { SameRing local.old local.new × SameCache local.old local.new }
+    ensures sent { Sent f.now ring (cache_of local.old) items.now local.old local.new result }
+    ensures kept { IfErr result (λ _. IsKept (view_of local.old) (view_of local.new)) }
+{
+    for _ in 0..TURNS {
+        match try_send(f, local, ring, items) {
+            Ok(moved) => return Ok(moved),
+            Err(why) => {
+                if !is_lost_put(why) {
+                    return Err(why);
+                }
+                std::hint::spin_loop();
+            }
+        }
+    }
+    try_send(f, local, ring, items)
+}
+
+/// One try to fill an array from a ring.
+#[inline]
+fn try_receive(
+    f: &Fabric<Number, 1024, Slot<Number>>,
+    local: &mut LocalWords<Number, 1024, Slot<Number>>,
+    ring: usize,
+    into: &mut [Number],
+) -> Result<Moved, StartFault>
+    requires local { IsLocalOf f.now local.old }
+    requires ring { ring < length (rings_of f.now) }
+    requires hts { OnRing f.now ring IsTakenByHts }
+    ensures local { IsLocalOf f.now local.new }
+    ensures same { SameRing local.old local.new × SameCache local.old local.new }
+    ensures filled { IfOk result (λ moved. Filled f.now ring (length into.old) into.new local.old local.new moved) }
+    ensures refused { IfErr result (λ why. Received f.now ring (length into.old) local.old local.new (Err why) []) }
+    ensures kept { IfErr result (λ _. IsKept (view_of local.old) (view_of local.new)) }
+    ensures back { IfErr result (λ _. into.new ≡ into.old) }
+{
+    match local.try_receive_bulk_into_slice(f, ring, into) {
+        Ok(moved) => Ok(moved),
+        Err(why) => Err(why),
+    }
+}
+
+/// Fills an array from a ring, or leaves it as it is.
+#[tactic(auto, using(crate::proofs::Attempts::received_again))]
+pub(crate) fn receive(
+    f: &Fabric<Number, 1024, Slot<Number>>,
+    local: &mut LocalWords<Number, 1024, Slot<Number>>,
+    ring: usize,
+    into: &mut [Number],
+) -> Result<Moved, StartFault>
+    requires local { IsLocalOf f.now local.old }
+    requires ring { ring < length (rings_of f.now) }
+    requires hts { OnRing f.now ring IsTakenByHts }
+    ensures local { IsLocalOf f.now local.new }
+    ensures same { SameRing local.old local.new × SameCache local.old local.new }
+    ensures filled { IfOk result (λ moved. Filled f.now ring (length into.old) into.new local.old local.new moved) }
+    ensures refused { IfErr result (λ why. Received f.now ring (length into.old) local.old local.new (Err why) []) }
+    ensures kept { IfErr result (λ _. IsKept (view_of local.old) (view_of local.new)) }
+    ensures back { IfErr result (λ _. into.new ≡ into.old) }
+{
+    for _ in 0..TURNS {
+        match try_receive(f, local, ring, into) {
+            Ok(moved) => return Ok(moved),
+            Err(why) => {
+                if !is_lost(why) {
+                    return Err(why);
+                }
+                std::hint::spin_loop();
+            }
+        }
+    }
+    try_receive(f, local, ring, into)
+}

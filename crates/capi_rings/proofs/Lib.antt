@@ -1,0 +1,4 @@
+pub mod Asking
+pub mod Emptying
+pub mod Reserving
+pub mod Settled

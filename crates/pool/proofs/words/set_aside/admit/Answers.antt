@@ -1,7 +1,0 @@
-use Rattle.pool.specs.Stacks.{stacked}
-use Rattle.pool.proofs.Kept.{none_own}
-use Rattle.pool.proofs.words.set_aside.admit.Goals as goal
-
-pub returns-else-may-clause-other : goal.returns-else-may-clause-other
-returns-else-may-clause-other g c none =
-    none_own g.T.Tagged.numbers c.args.cache_hand.now c.set_aside_slice-may.new.self (stacked c.args.cache.now) c.args.items.now c.requires.kept (c.set_aside_slice-may.ensures.other none)

@@ -1,0 +1,8 @@
+pub mod Counts
+pub mod Singles
+pub mod Asking
+pub mod Turned
+pub mod Kept
+pub mod Wholes
+pub mod Others
+mod Rows

@@ -1,0 +1,222 @@
+-- What a hand has after a put or a take on another ring, beside the buffers that it keeps back
+use Rattle.std.specs.Prelude.{⊤}
+use Rattle.std.proofs.Common.{◌≡◌, ℕ, ◌+◌, ◌-◌, ◌++◌, inl, inr, List, [], Some, Result, Ok, Err, length, refl, take, ap, subst, sym, ◌∙◌, arith}
+use Rattle.geom.specs.declared.plan.How.{How}
+use Rattle.geom.specs.declared.plan.Mode.TheVariants.{Hts, Multi}
+use Rattle.geom.specs.declared.plan.RingPlan.{RingPlan}
+use Rattle.geom.specs.declared.plan.Side.TheVariants.{Put, Take}
+use Rattle.ringcore_laws.specs.FreeRings.{AreSingle}
+use Rattle.ringcore_laws.specs.Sound.{holds, occurrences_in}
+use Rattle.burst.specs.declared.tagged.Tagged.{Ghosts}
+use Rattle.fabric.specs.declared.stored.Stored.{Ghosts as StoredGhosts}
+use Rattle.fabric_laws.specs.declared.view.View.{View}
+use Rattle.fabric_laws.specs.Kinds.{IsHeldOnce}
+use Rattle.fabric.specs.declared.fabric.Fabric.{Fabric}
+use Rattle.fabric.specs.declared.hand.Hand.{Hand}
+use Rattle.fabric.specs.declared.hand.StartFault.{StartFault}
+use Rattle.fabric.specs.declared.hand.cache_hand.CacheHand.{CacheHand}
+use Rattle.fabric.specs.Hands.{IsHandOf, view}
+use Rattle.fabric.specs.CacheHands.{AreNotSpare, IsCacheHandFor, IsCacheHandOf, AreSpare, Keeps, SameCacheHand, SparesTheSame, view_of_cache_hand}
+use Rattle.fabric.specs.Settles.{AreNotYours, AreOwnBuffers, AreYours}
+use Rattle.fabric.proofs.Holding.{holds_put, holds_take}
+use Rattle.fabric.proofs.Told.{refused_kept}
+use Rattle.ringapi.specs.declared.answers.Moved.{Moved}
+use Rattle.ringapi.specs.declared.answers.PutAnswer.{PutAnswer}
+use Rattle.ringapi.specs.declared.answers.PutAnswer.TheVariants as put
+use Rattle.ringapi.specs.declared.answers.Refusal.{Refusal}
+use Rattle.ringapi.specs.declared.answers.Refusal.TheVariants.{Start, NotYours}
+use Rattle.ringapi.specs.declared.answers.TakeAnswer.{TakeAnswer}
+use Rattle.ringapi.specs.declared.answers.TakeAnswer.TheVariants as taken
+use Rattle.ringapi.specs.Puts.{IsPutOf, IsUnfinishedPut, PutHasTold, left_of}
+use Rattle.ringapi.specs.Takes.{IsTakeOf, IsUnfinishedTake, TakeHasTold}
+use Rattle.ringapi.proofs.Tries.{starts_kept}
+use Rattle.ringapi.proofs.Yours.{not_both}
+use Rattle.pool_laws.specs.Beside.{IsPutBeside, IsTakenBeside, PutOwns, Receives, Sends, TakeOwns, unsent_of}
+use Rattle.ringapi.proofs.Moves.{moved_party}
+use Rattle.ringapi.proofs.Counts.{count_both, count_parts}
+use Rattle.ringapi.proofs.Singles.{single_later}
+
+module _ {T : Type 0} {S : Type 0} {G : Ghosts T} {H : StoredGhosts S T} (tags : T → List ℕ) where
+  -- a cache_hand that was asked keeps back what it kept
+  pub asked_keeps : (k l : CacheHand T S G H) (cache : List T) → SameCacheHand k l → SparesTheSame k l → Keeps tags k cache → Keeps tags l cache
+  asked_keeps k l cache same spares keeps b =
+      omega (arith, keeps b, spares b, ap (λ s. holds tags b s.me.0.party) same)
+
+  -- spare items are the hand's to put
+  pub spare_yours : (plan : RingPlan) (k : CacheHand T S G H) (v : View T) (cache items : List T) → v ≡ view_of_cache_hand k → Keeps tags k cache
+      → AreSpare tags plan k items → AreYours tags plan v items
+  spare_yours plan k v cache items is keeps spare = record {
+    owned = λ b. omega (arith, keeps b, spare.spare b, ap (λ w. holds tags b w.party) is);
+    single = spare.single;
+  }
+
+  -- others aren't, beside what is cached
+  pub not_spare : (plan : RingPlan) (k : CacheHand T S G H) (cache items : List T) → Keeps tags k cache → AreNotSpare tags plan k items
+      → AreNotYours tags plan (view_of_cache_hand k) (cache ++ items)
+  not_spare plan k cache items keeps other = elim other [
+    | inl more ↦ inl (more.0, omega (arith, keeps more.0, more.1, count_both tags more.0 cache items))
+    | inr odd ↦ inr (odd.0, λ single. odd.1 (single_later tags cache items single))
+  ]
+
+  module _ (how : How) (most ring : ℕ) (plan : RingPlan) (v : View T) (h : Hand T S G H) where
+    -- what is cached is the hand's own after spare items were put
+    pub sent_own : (k : CacheHand T S G H) (cache items rest : List T) (m : Moved) → v ≡ view_of_cache_hand k → Keeps tags k cache → AreSingle tags cache
+        → AreSpare tags plan k items → PutHasTold {N = most} tags how ring plan v items (put.Done h m) rest → AreOwnBuffers tags (view h) cache
+    sent_own k cache items rest m is keeps single spare told = (
+      (λ b.
+          let moved = told.2.2 in
+          let now : holds tags b (view h).party ≡ holds tags b v.party - occurrences_in tags b (take m.count items) =
+          ap (holds tags b) (moved_party tags most how (length items) ring Put plan v (view h) told.0 m.count m.left [] (take m.count items) told.1 moved)
+          ∙ holds_put tags b ring moved.0 m.count v.party (take m.count items) in
+          omega (arith, now, keeps b, spare.spare b, count_parts tags b m.count items, ap (λ w. holds tags b w.party) is)),
+      single,
+    )
+
+    pub unsent_party : (items rest : List T) (e : Refusal) → PutHasTold {N = most} tags how ring plan v items (put.Refused h e) rest
+        → (view h).party ≡ v.party
+    unsent_party items rest NotYours told = ap (λ w. w.party) told.2.2
+    unsent_party items rest (Start e) told =
+        (refused_kept tags most how (length items) ring Put plan told.2.2 (view h) e told.2.4).party
+        ∙ starts_kept tags most how (length items) ring Put plan v told.0 told.2.2 told.2.3
+
+    -- so is it after a take
+    pub received_own : (k : CacheHand T S G H) (n pool : ℕ) (cache items : List T) (m : Moved) → v ≡ view_of_cache_hand k → Keeps tags k cache → AreSingle tags cache
+        → IsHeldOnce tags pool v.party → TakeHasTold {N = most} tags how n ring plan v (taken.Done h m) items → AreOwnBuffers tags (view h) cache
+    received_own k n pool cache items m is keeps single once told = (
+      (λ b.
+          let moved = told.2.2 in
+          let now : holds tags b (view h).party ≡ holds tags b v.party + occurrences_in tags b items =
+          ap (holds tags b) (moved_party tags most how n ring Take plan v (view h) told.0 m.count m.left items items told.1 moved)
+          ∙ holds_take tags b ring moved.0 m.count v.party items (once b).2 in
+          omega (arith, now, keeps b, ap (λ w. holds tags b w.party) is)),
+      single,
+    )
+
+    pub unreceived_party : (n : ℕ) (items : List T) (e : StartFault) → TakeHasTold {N = most} tags how n ring plan v (taken.Refused h e) items
+        → (view h).party ≡ v.party
+    unreceived_party n items e told =
+        (refused_kept tags most how n ring Take plan told.2.1 (view h) e told.2.3).party
+        ∙ starts_kept tags most how n ring Take plan v told.0 told.2.1 told.2.2
+
+  -- a put of spare items that was refused
+  pub unsent : (how : How) (most ring : ℕ) (plan : RingPlan) (k l : CacheHand T S G H) (h : Hand T S G H) (cache items rest : List T) (e : Refusal) → Keeps tags k cache
+      → AreSpare tags plan k items → PutHasTold {N = most} tags how ring plan (view_of_cache_hand k) items (put.Refused h e) rest
+      → view_of_cache_hand l ≡ view h → Sends tags how most ring plan (Some k) (Some l) cache items (Err e) rest
+  unsent how most ring plan k l h cache items rest NotYours keeps spare told is =
+      absurd (not_both tags plan (view_of_cache_hand k) items (spare_yours plan k (view_of_cache_hand k) cache items refl keeps spare) told.2.0)
+  unsent how most ring plan k l h cache items rest (Start fault) keeps spare told is = (h, told, is)
+
+  -- what is cached is the hand's own while its party is the same
+  pub kept_own : (k : CacheHand T S G H) (h : Hand T S G H) (cache : List T) → (view h).party ≡ (view_of_cache_hand k).party → Keeps tags k cache → AreSingle tags cache
+      → AreOwnBuffers tags (view h) cache
+  kept_own k h cache is keeps single = ((λ b. omega (arith, keeps b, ap (holds tags b) is)), single)
+
+  -- an answer with an open span
+  abbrev pub IsOpenPut : {N : ℕ} → PutAnswer T N S G H → Type 0
+  IsOpenPut (put.Done h moved) = ⊥
+  IsOpenPut (put.Refused h why) = ⊥
+  IsOpenPut (put.Open o tail) = ⊤
+
+  abbrev pub IsOpenTake : {N : ℕ} → TakeAnswer T N S G H → Type 0
+  IsOpenTake (taken.Done h moved) = ⊥
+  IsOpenTake (taken.Refused h why) = ⊥
+  IsOpenTake (taken.Open o tail) = ⊤
+
+  -- a put that is finished has none, and so has one on a head/tail-sync side
+  pub finished_put : {N : ℕ} (answer : PutAnswer T N S G H) → (IsUnfinishedPut answer → ⊥) → IsOpenPut answer → ⊥
+  finished_put (put.Done h moved) final it = it
+  finished_put (put.Refused h why) final it = it
+  finished_put (put.Open o tail) final it = final tt
+
+  pub finished_take : {N : ℕ} (answer : TakeAnswer T N S G H) → (IsUnfinishedTake answer → ⊥) → IsOpenTake answer → ⊥
+  finished_take (taken.Done h moved) final it = it
+  finished_take (taken.Refused h why) final it = it
+  finished_take (taken.Open o tail) final it = final tt
+
+  module _ (how : How) (most ring : ℕ) (plan : RingPlan) where
+    pub hts_put : (v : View T) (items rest : List T) (answer : PutAnswer T most S G H) → plan.put ≡ Hts
+        → PutHasTold tags how ring plan v items answer rest → IsOpenPut answer → ⊥
+    hts_put v items rest (put.Done h moved) hts told it = it
+    hts_put v items rest (put.Refused h why) hts told it = it
+    hts_put v items rest (put.Open o tail) hts told it = absurd (let z : Multi ≡ Hts = sym told.2.2 ∙ hts in cc)
+
+    pub hts_take : (v : View T) (n : ℕ) (items : List T) (answer : TakeAnswer T most S G H) → plan.take ≡ Hts
+        → TakeHasTold tags how n ring plan v answer items → IsOpenTake answer → ⊥
+    hts_take v n items (taken.Done h moved) hts told it = it
+    hts_take v n items (taken.Refused h why) hts told it = it
+    hts_take v n items (taken.Open o tail) hts told it = absurd (let z : Multi ≡ Hts = sym told.2.1 ∙ hts in cc)
+
+    -- what is cached is the hand's own after a put of spare items that left no span open
+    pub put_owns : (v : View T) (k : CacheHand T S G H) (cache items rest : List T) (answer : PutAnswer T most S G H)
+        → v ≡ view_of_cache_hand k → Keeps tags k cache → AreSingle tags cache → AreSpare tags plan k items
+        → (IsOpenPut answer → ⊥) → PutHasTold tags how ring plan v items answer rest → PutOwns tags cache answer
+    put_owns v k cache items rest (put.Done h moved) is keeps single spare closed told =
+        sent_own how most ring plan v h k cache items rest moved is keeps single spare told
+    put_owns v k cache items rest (put.Refused h why) is keeps single spare closed told =
+        kept_own k h cache (unsent_party how most ring plan v h items rest why told ∙ ap (λ w. w.party) is) keeps single
+    put_owns v k cache items rest (put.Open o tail) is keeps single spare closed told = closed tt
+
+    -- so it is after a take
+    pub take_owns : (v : View T) (k : CacheHand T S G H) (n pool : ℕ) (cache items : List T) (answer : TakeAnswer T most S G H)
+        → v ≡ view_of_cache_hand k → Keeps tags k cache → AreSingle tags cache → IsHeldOnce tags pool v.party
+        → (IsOpenTake answer → ⊥) → TakeHasTold tags how n ring plan v answer items → TakeOwns tags cache answer
+    take_owns v k n pool cache items (taken.Done h moved) is keeps single once closed told =
+        received_own how most ring plan v h k n pool cache items moved is keeps single once told
+    take_owns v k n pool cache items (taken.Refused h why) is keeps single once closed told =
+        kept_own k h cache (unreceived_party how most ring plan v h n items why told ∙ ap (λ w. w.party) is) keeps single
+    take_owns v k n pool cache items (taken.Open o tail) is keeps single once closed told = closed tt
+
+    -- the answer of a put of spare items is what a cache sends
+    pub sends_beside : (v : View T) (k l : CacheHand T S G H) (cache items rest : List T) (answer : PutAnswer T most S G H)
+        (result : Result Moved Refusal) → v ≡ view_of_cache_hand k → Keeps tags k cache → AreSpare tags plan k items
+        → PutHasTold tags how ring plan v items answer rest → IsPutBeside answer l result
+        → Sends tags how most ring plan (Some k) (Some l) cache items result rest
+    sends_beside v k l cache items rest (put.Done h moved) result is keeps spare told same =
+        subst (λ r. Sends tags how most ring plan (Some k) (Some l) cache items r rest) (sym same.1)
+        (h, subst (λ w. PutHasTold {N = most} tags how ring plan w items (put.Done h moved) rest) is told, ap (λ s. s.me.0) same.0)
+    sends_beside v k l cache items rest (put.Refused h why) result is keeps spare told same =
+        subst (λ r. Sends tags how most ring plan (Some k) (Some l) cache items r rest) (sym same.1)
+        (unsent how most ring plan k l h cache items rest why keeps spare
+        (subst (λ w. PutHasTold {N = most} tags how ring plan w items (put.Refused h why) rest) is told) (ap (λ s. s.me.0) same.0))
+    sends_beside v k l cache items rest (put.Open o tail) result is keeps spare told same = absurd same
+
+    -- the answer of a take is what a cache receives
+    pub receives_beside : (v : View T) (k l : CacheHand T S G H) (n : ℕ) (items : List T) (answer : TakeAnswer T most S G H)
+        (result : Result Moved StartFault) → v ≡ view_of_cache_hand k
+        → TakeHasTold tags how n ring plan v answer items → IsTakenBeside answer l result
+        → Receives tags how most ring plan (Some k) (Some l) n result items
+    receives_beside v k l n items (taken.Done h moved) result is told same =
+        subst (λ r. Receives tags how most ring plan (Some k) (Some l) n r items) (sym same.1)
+        (h, subst (λ w. TakeHasTold {N = most} tags how n ring plan w (taken.Done h moved) items) is told, ap (λ s. s.me.0) same.0)
+    receives_beside v k l n items (taken.Refused h why) result is told same =
+        subst (λ r. Receives tags how most ring plan (Some k) (Some l) n r items) (sym same.1)
+        (h, subst (λ w. TakeHasTold {N = most} tags how n ring plan w (taken.Refused h why) items) is told, ap (λ s. s.me.0) same.0)
+    receives_beside v k l n items (taken.Open o tail) result is told same = absurd same
+
+hand_here : {T : Type 0} {S : Type 0} {G : Ghosts T} {H : StoredGhosts S T} {N : ℕ} (f : Fabric T N S) (h : Hand T S G H) (k : CacheHand T S G H)
+    → IsHandOf f h → IsCacheHandFor h k → IsCacheHandOf f k
+hand_here f h k here same = (
+  ap (λ s. s.table_id) same ∙ here.0,
+  ap (λ s. s.me.0.plans) same ∙ here.1,
+  ap (λ s. s.me.0.pool) same ∙ here.2,
+)
+
+-- what a put from a slice leaves, by its answer and by what a cache returns
+pub left_unsent : {T : Type 0} {S : Type 0} {G : Ghosts T} {H : StoredGhosts S T} {N : ℕ} (answer : PutAnswer T N S G H) (k : CacheHand T S G H)
+    (result : Result Moved Refusal) (items : List T) → IsPutBeside answer k result → left_of answer items ≡ unsent_of result items
+left_unsent (put.Done h moved) k result items same = ap (λ r. unsent_of r items) (sym same.1)
+left_unsent (put.Refused h why) k result items same = ap (λ r. unsent_of r items) (sym same.1)
+left_unsent (put.Open o tail) k result items same = absurd same
+
+-- the hand of an answer, as one that sets buffers aside, is of the same fabric
+pub put_here : {T : Type 0} {S : Type 0} {G : Ghosts T} {H : StoredGhosts S T} {N : ℕ} (f : Fabric T N S) (ring : ℕ) (answer : PutAnswer T N S G H)
+    (k : CacheHand T S G H) (result : Result Moved Refusal) → IsPutOf f ring answer → IsPutBeside answer k result → IsCacheHandOf f k
+put_here f ring (put.Done h moved) k result made same = hand_here f h k made same.0
+put_here f ring (put.Refused h why) k result made same = hand_here f h k made same.0
+put_here f ring (put.Open o tail) k result made same = absurd same
+
+pub take_here : {T : Type 0} {S : Type 0} {G : Ghosts T} {H : StoredGhosts S T} {N : ℕ} (f : Fabric T N S) (ring : ℕ) (answer : TakeAnswer T N S G H)
+    (k : CacheHand T S G H) (result : Result Moved StartFault) → IsTakeOf f ring answer → IsTakenBeside answer k result → IsCacheHandOf f k
+take_here f ring (taken.Done h moved) k result made same = hand_here f h k made same.0
+take_here f ring (taken.Refused h why) k result made same = hand_here f h k made same.0
+take_here f ring (taken.Open o tail) k result made same = absurd same

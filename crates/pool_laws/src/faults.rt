@@ -1,0 +1,47 @@
+//! Why a call of a pool is refused.
+ghost use Rattle.std.specs.Prelude.{◌≡◌};
+ghost use Rattle.pool_laws.specs.Asks.{refusal_of};
+ghost use Rattle.pool_laws.specs.Faults.{number_of};
+
+use fabric::StartFault;
+use thiserror::Error;
+
+/// Why a call of a pool is refused.
+#[derive(Drop, Clone, Copy, Debug, PartialEq, Eq, Error)]
+pub enum PoolFault {
+    /// Fewer buffers are cached, or on the ring, than the call wants.
+    #[error("Short")]
+    Short = 1,
+    /// The cache would pass its threshold.
+    #[error("CacheFull")]
+    CacheFull = 2,
+    /// An item carries a buffer that isn't the hand's own, or that is cached, or that another item carries too, or the
+    /// item doesn't carry exactly one.
+    #[error("NotYours")]
+    NotYours = 3,
+    /// The positions of the free ring are used up.
+    #[error("Worn")]
+    Worn = 4,
+    /// A size above 512, or a burst has too few places for the threshold and 64 more.
+    #[error("BadSize")]
+    BadSize = 5,
+}
+
+impl PoolFault {
+    /// 1 `Short`, 2 `CacheFull`, 3 `NotYours`, 4 `Worn`, 5 `BadSize`.
+    pub fn number(self) -> u8
+        ensures { result ≡ number_of self }
+    {
+        self as u8
+    }
+}
+
+/// What a refused take from the free ring means to a caller that wants buffers: `Worn`, or else `Short`.
+pub fn refusal(fault: StartFault) -> PoolFault
+    ensures { result ≡ refusal_of fault }
+{
+    match fault {
+        StartFault::Worn => PoolFault::Worn,
+        _ => PoolFault::Short,
+    }
+}

@@ -1,0 +1,19 @@
+pub mod Lists
+pub mod Parts
+pub mod Windows
+pub mod Texts
+pub mod Counting
+pub mod Flushing
+pub mod Fresh
+pub mod Devices
+pub mod Failures
+pub mod Known
+pub mod Reasons
+pub mod Judging
+pub mod Turning
+pub mod Segments
+pub mod Opened
+pub mod Taken
+pub mod SoFar
+pub mod LentTurn
+mod Rows

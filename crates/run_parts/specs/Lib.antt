@@ -1,0 +1,15 @@
+pub mod Faults
+pub mod Packets
+pub mod Verdicts
+pub mod Keyed
+pub mod Ports
+pub mod PortSteps
+pub mod Failing
+pub mod Tallies
+pub mod InputTotals
+pub mod Reading
+pub mod SoFar
+pub mod Turns
+pub mod Ending
+pub mod Whole
+pub mod Begun

@@ -1,0 +1,53 @@
+//! A record whose bytes are all in the reader's buffer: it is judged and rewritten there, and written from there.
+ghost use Rattle.std.specs.Prelude.{◌≡◌, ◌≤◌, ◌<◌, ◌*◌, ◌+◌, ◌-◌, ◌^◌, None, length, vec_len};
+ghost use Rattle.counters.specs.Tally.{records_of};
+ghost use Rattle.ipv4.specs.Forwarding.{forwarded};
+ghost use Rattle.pcapio.specs.Counted.{HasNotFailed};
+ghost use Rattle.pcapio.specs.Lent.{IsBuffered};
+ghost use Rattle.pcapio.specs.Reader.{state_of, source_of};
+ghost use Rattle.pcapio.specs.declared.reader_state.ReaderState.TheVariants.{Between, Pending};
+ghost use Rattle.run_parts.specs.SoFar.{HasRead};
+ghost use Rattle.run_parts.specs.Turns.{IsVacant};
+
+use crate::records::read_state::ReadState;
+use crate::sink::Sink;
+use ipv4::{Ports, forward_frame};
+use lpm::Table;
+use pcapio::{Head, Reader};
+use stages_laws::Run;
+use std::io::{Read, Write};
+
+/// Takes the record that was looked at to its port. Requires: all its bytes are in the reader's buffer; no port has
+/// failed.
+pub(crate) fn forward_lent<J: Run, R: Read, W: Write + Drop>(
+    reader: &mut Reader<R>,
+    sink: &mut Sink<J, W>,
+    progress: &mut ReadState,
+    head: Head,
+    table: &Table,
+    ports: &Ports,
+)
+    requires pending { state_of reader.old ≡ Pending head }
+    requires buffered { IsBuffered reader.old }
+    requires fits { head.captured ≤ 64 * J.room }
+    requires read { HasRead R.remaining J.input J.room (length J.before) reader.old progress.old }
+    requires bounded { progress.old.count + records_of progress.old.share < 2 ^ 64 - 1 }
+    requires rules { forwarded table.now.members ports.now ≡ J.forwarding }
+    requires ports { vec_len ports.now.sources ≡ length J.before }
+    requires turn { sink.old.window.next ≡ progress.old.count }
+    requires vacant { IsVacant sink.old.window }
+    requires no_failure { sink.old.outputs.failed ≡ None }
+    ensures read { HasRead R.remaining J.input J.room (length J.before) reader.new progress.new }
+    ensures between { state_of reader.new ≡ Between }
+    ensures count { progress.new.count ≡ progress.old.count + 1 }
+    ensures share { progress.new.share ≡ progress.old.share }
+    ensures worked { HasNotFailed (source_of reader.old) (source_of reader.new) }
+    ensures turn { sink.new.window.next ≡ progress.new.count }
+    ensures vacant { IsVacant sink.new.window }
+    ensures length { vec_len sink.new.outputs.writers ≡ vec_len sink.old.outputs.writers }
+{
+    let frame = reader.lend();
+    let verdict = forward_frame(frame, table, ports, head.wire as usize);
+    sink.forward_frame(progress.count, head, verdict, frame);
+    progress.count += 1;
+}

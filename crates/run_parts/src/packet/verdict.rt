@@ -1,0 +1,41 @@
+//! The verdict on a packet.
+ghost use Rattle.std.specs.Prelude.{◌≡◌, length, vec_len};
+ghost use Rattle.ipv4.specs.Forwarding.{forwarded};
+ghost use Rattle.mbuf.specs.Chain.{HasSameSegments};
+ghost use Rattle.run_parts.specs.Verdicts.{IsVerdictOf};
+
+use crate::packet::{Judged, Unjudged};
+use ipv4::{Ports, forward};
+use lpm::Table;
+use stages_laws::Run;
+use std::marker::PhantomData;
+
+impl<J: Run> Unjudged<J> {
+    /// The packet after its verdict.
+    pub fn judge(self, table: &Table, ports: &Ports) -> Judged<J>
+        requires rules { forwarded table.now.members ports.now ≡ J.forwarding }
+        requires ports { vec_len ports.now.sources ≡ length J.before }
+        ensures seq { result.seq ≡ self.seq }
+        ensures judged { IsVerdictOf J.forwarding self result }
+        ensures kept { HasSameSegments result.chain self.chain }
+    {
+        let Unjudged {
+            seq,
+            seconds,
+            fraction,
+            wire,
+            mut chain,
+            ..
+        } = self;
+        let verdict = forward(&mut chain, table, ports, wire as usize);
+        Judged {
+            seq,
+            seconds,
+            fraction,
+            wire,
+            verdict,
+            chain,
+            of: PhantomData,
+        }
+    }
+}

@@ -1,0 +1,5 @@
+pub mod Stacks
+pub mod Words
+pub mod Slices
+pub mod Faults
+pub mod Calls
