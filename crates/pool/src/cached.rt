@@ -4,12 +4,12 @@ ghost use Rattle.fabric.specs.Settles.{AreOwnBuffers};
 ghost use Rattle.pool_laws.specs.Calls.{GetsCached, PutsCached};
 ghost use Rattle.pool.specs.Locals.{HasSameHand, SameRing, cache_of, cache_size, view_of};
 
-use crate::list_moves::push_all;
 use crate::local::Local;
 use crate::set_aside::give;
 use burst::{Burst, Tagged};
 use fabric::Stored;
 use pool_laws::PoolFault;
+use pool_requests::push_all;
 
 impl<T: Tagged, const N: usize, S: Stored<T>> Local<T, N, S> {
     /// Gets `n` items from the cache alone, the newest first, into an empty list. Errors: `Short` if it has fewer;

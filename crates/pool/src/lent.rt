@@ -6,11 +6,11 @@ ghost use Rattle.pool.specs.Calls.{FlushTells, GetTells, PutBackTells};
 ghost use Rattle.pool.specs.Locals.{IsLocalOf, SameRing, cache_of, ring_of, view_of};
 
 use crate::local::Local;
-use crate::ring_requests::{empty, fetch};
 use crate::set_aside::{admit, keep_back, shed};
 use burst::{Burst, Tagged};
 use fabric::{Fabric, Stored};
 use pool_laws::{PoolFault, take_hand};
+use pool_requests::{empty, fetch};
 use std::sync::Wait;
 
 impl<T: Tagged, const N: usize, S: Stored<T>> Local<T, N, S> {

@@ -4,18 +4,16 @@
 //!
 //! `local` is the cache, `opening` makes it, `lent` has the gets, puts and flushes that may go to the ring and `cached`
 //! those of the cache alone, `values` the calls by value, `other_rings` uses another ring of the fabric, and `queries`
-//! look at the cache. Below them `ring_requests` has the bulk requests to the free ring, `set_aside` the hand that sets
-//! the cached buffers aside, and `list_moves` moves items from list to list.
+//! look at the cache. Below them `set_aside` has the hand that sets the cached buffers aside, and `pool_requests` what
+//! is asked of the free ring.
 #![tactic(auto)]
 
 mod cached;
 mod lent;
-mod list_moves;
 mod local;
 mod opening;
 mod other_rings;
 mod queries;
-mod ring_requests;
 mod set_aside;
 mod values;
 

@@ -8,10 +8,9 @@ ghost use Rattle.fabric.specs.Settles.{AreNotOwnBuffers, AreOwnBuffers};
 ghost use Rattle.pool_laws.specs.Asks.{Sheds};
 ghost use Rattle.pool_laws.specs.Hands.{IsFreeOf};
 
-use crate::list_moves::{part, push_all};
-use crate::ring_requests::spill;
 use burst::{Burst, Tagged};
 use fabric::{CacheHand, Fabric, Hand, Stored};
+use pool_requests::{part, push_all, spill};
 use std::sync::Wait;
 
 /// The hand as one that sets the buffers of a cache aside. Requires: it may put them on a free ring.

@@ -6,28 +6,24 @@ ghost use Rattle.pcapio.specs.Counted.{to_come, told};
 ghost use Rattle.stages_laws.specs.Output.{Fate};
 ghost use Rattle.run_parts.specs.Begun.{AreReady, GoesBy, HasInput};
 ghost use Rattle.run_parts.specs.Ending.{Sums};
-ghost use Rattle.stages.specs.Passing.{AreRings};
+ghost use Rattle.worker.specs.Passing.{AreRings};
 ghost use Rattle.run_parts.specs.Ports.{AreOutputs, AreBeginnings};
 ghost use Rattle.run_parts.specs.Tallies.{fates_of};
 ghost use Rattle.stages.specs.Threads.{WhyEnded, WhyNoSummaryOfThreads};
 ghost use Rattle.run_parts.specs.Whole.{IsRun, IsBegun, IsUntouched};
 ghost use Rattle.run_parts.specs.declared.fault.RunFault.TheVariants.{Memory, Thread};
 
-mod put_all;
 mod reader;
 mod reader_outcome;
 mod ring_port;
 mod rings;
 mod segments;
 mod sink_loop;
-mod worker;
 
-use crate::gate::Gate;
-use crate::packet::Packet;
 use crate::threads::reader::{dismiss, feed};
 use crate::threads::reader_outcome::ReaderOutcome;
 use crate::threads::ring_port::RingPort;
-use crate::threads::rings::{SPAN, fill, open_rings};
+use crate::threads::rings::{fill, open_rings};
 use crate::threads::sink_loop::drain;
 use burst::Burst;
 use fabric::{Fabric, Hand, Opened};
@@ -40,7 +36,7 @@ use std::io::{Read, Write};
 use std::marker::Brand;
 use std::sync::Wait;
 use std::thread::{self, JoinHandle, Scope, Threads};
-pub use worker::{Worked, work};
+use worker::{Gate, Packet, SPAN, Worked, work};
 
 /// Forwards the capture that `reader` has, as `run_one` does, by a reader and `workers` workers, each in a thread of
 /// its own, and the sink on the calling thread: each port's device receives what `run_one` writes to it, and the counts

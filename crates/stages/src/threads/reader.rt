@@ -4,11 +4,9 @@ ghost use Rattle.mbuf.specs.Chain.{space_of};
 ghost use Rattle.run_parts.specs.Begun.{GoesBy, HasInput};
 ghost use Rattle.stages.specs.Feeding.{WhyUnfed};
 
-use crate::packet::Packet;
 use crate::stage_fault::StageFault;
 use crate::threads::reader_outcome::ReaderOutcome;
 use crate::threads::ring_port::RingPort;
-use crate::threads::rings::{FREE, INPUT, SPAN};
 use crate::threads::segments::link;
 use burst::Burst;
 use crossbeam_utils::Backoff;
@@ -19,6 +17,7 @@ use settings::Settings;
 use stages_laws::Run;
 use std::io::Read;
 use std::sync::Wait;
+use worker::{FREE, INPUT, Packet, SPAN};
 
 /// How many segments a record takes: enough for its bytes, and at least one.
 fn segments_of(captured: usize, room: usize) -> usize

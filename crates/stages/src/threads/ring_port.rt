@@ -4,16 +4,16 @@ ghost use Rattle.std.specs.List.{flat_map};
 ghost use Rattle.std.specs.Option.{is_some};
 ghost use Rattle.burst.specs.Numbers.{AreDistinct};
 ghost use Rattle.fabric.specs.Hands.{IsHandOf, rings_of};
-ghost use Rattle.stages.specs.Passing.{AreRings};
+ghost use Rattle.worker.specs.Passing.{AreRings};
 ghost use Rattle.stages.specs.RingPorts.{GivesUp, IsOf, TakesNone};
 
 use crate::stage_fault::StageFault;
-use crate::threads::rings::{FREE, SPAN};
 use burst::{Burst, Tagged};
 use crossbeam_utils::Backoff;
 use fabric::{Fabric, Hand, StartFault, Stored};
 use ringapi::{PutAnswer, Refusal, TakeAnswer, put_burst_from, take_bulk_into, take_burst_into};
 use std::sync::Wait;
+use worker::{FREE, SPAN};
 
 /// A thread's access to the rings of a run.
 #[derive(Drop)]

@@ -1,11 +1,9 @@
 //! The rings of a run in threads, and the segments on them.
 ghost use Rattle.std.specs.Prelude.{◌≡◌, ◌<◌, [], IfOk, IfSome};
 ghost use Rattle.fabric.specs.Hands.{IsHandOf, rings_of};
-ghost use Rattle.stages.specs.Passing.{AreRings, AreAsked};
+ghost use Rattle.worker.specs.Passing.{AreRings, AreAsked};
 
-use crate::packet::Packet;
 use crate::stage_fault::StageFault;
-use crate::threads::put_all::put_all;
 use burst::Burst;
 use fabric::{Fabric, Hand, Opened};
 use geom::{Geometry, Mode, RingPlan};
@@ -14,18 +12,7 @@ use settings::Settings;
 use stages_laws::Run;
 use std::alloc::Global;
 use std::sync::Wait;
-
-/// The maximum number of items of one span on them.
-pub(crate) const SPAN: usize = 256;
-
-/// The ring of segments not in use.
-pub(crate) const FREE: usize = 0;
-
-/// The ring of packets before their verdict.
-pub(crate) const INPUT: usize = 1;
-
-/// The ring of packets after their verdict.
-pub(crate) const OUTPUT: usize = 2;
+use worker::{FREE, Packet, SPAN, put_all};
 
 /// The rings: free segments; packets before their verdict, at which workers peek; packets after it. `None` if out of
 /// memory.

@@ -2,16 +2,15 @@
 ghost use Rattle.std.specs.Prelude.{◌≡◌, length};
 ghost use Rattle.std.specs.List.{flat_map};
 ghost use Rattle.burst.specs.Numbers.{AreDistinct};
-ghost use Rattle.stages.specs.Numbers.{packet_numbers};
+ghost use Rattle.worker.specs.Numbers.{packet_numbers};
 
-use crate::packet::Packet;
 use crate::stage_fault::StageFault;
 use crate::threads::ring_port::RingPort;
-use crate::threads::rings::{FREE, SPAN};
 use burst::Burst;
 use mbuf::Chain;
 use stages_laws::Run;
 use std::sync::Wait;
+use worker::{FREE, Packet, SPAN};
 
 /// Links free segments, from the first on, to one chain. `None` if there are none, or one of them isn't free.
 pub(crate) fn link<J: Run>(got: &mut Burst<Packet<J>, SPAN>) -> Option<Chain>

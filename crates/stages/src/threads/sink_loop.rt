@@ -1,10 +1,8 @@
 //! The sink of a run in threads: it empties the output ring until each worker has ended.
 ghost use Rattle.std.specs.Prelude.{◌≡◌, ◌≤◌, vec_len};
 
-use crate::packet::Packet;
 use crate::stage_fault::StageFault;
 use crate::threads::ring_port::RingPort;
-use crate::threads::rings::{OUTPUT, SPAN};
 use crate::threads::segments::{give_back, release};
 use burst::Burst;
 use crossbeam_utils::Backoff;
@@ -12,6 +10,7 @@ use run_parts::{Judged, Sink};
 use stages_laws::Run;
 use std::io::Write;
 use std::sync::Wait;
+use worker::{OUTPUT, Packet, SPAN};
 
 /// Releases all packets whose turn it is, and frees their segments.
 fn let_go<J: Run, W: Write + Drop, T: Wait>(

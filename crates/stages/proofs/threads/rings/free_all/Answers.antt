@@ -1,6 +1,6 @@
 use Rattle.std.proofs.Common.{arith, rules, subst, sym}
 use Rattle.fabric.specs.Settles.{AreYours}
-use Rattle.stages.specs.Numbers.{packet_numbers}
+use Rattle.worker.specs.Numbers.{packet_numbers}
 use Rattle.stages.proofs.threads.rings.free_all.Goals as goal
 
 pub put_all-requires : goal.put_all-requires

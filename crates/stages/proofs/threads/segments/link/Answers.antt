@@ -3,8 +3,8 @@ use Rattle.std.proofs.lemmas.List.{map-append}
 use Rattle.std.specs.List.{flat_map}
 use Rattle.burst.specs.Numbers.{AreDistinct}
 use Rattle.mbuf.specs.Chain.{numbers_of}
-use Rattle.stages.specs.Numbers.{packet_numbers}
-use Rattle.stages.specs.declared.packet.Packet.TheVariants.{Free}
+use Rattle.worker.specs.Numbers.{packet_numbers}
+use Rattle.worker.specs.declared.packet.Packet.TheVariants.{Free}
 use Rattle.stages.proofs.Linking.{last_distinct, last_over}
 use Rattle.stages.proofs.threads.segments.link.Goals as goal
 

@@ -2,7 +2,7 @@ use Rattle.std.proofs.Common.{◌++◌, length}
 use Rattle.std.specs.List.{flat_map}
 use Rattle.burst.specs.Numbers.{AreDistinct}
 use Rattle.mbuf.specs.Chain.{numbers_of}
-use Rattle.stages.specs.Numbers.{packet_numbers}
+use Rattle.worker.specs.Numbers.{packet_numbers}
 use Rattle.stages.proofs.threads.segments.link.Given as goal
 
 abbrev pub decreases-loop-packet : goal.decreases-loop-packet

@@ -1,0 +1,4 @@
+pub mod Settled
+pub mod Marks
+pub mod Rounds
+mod Rows
