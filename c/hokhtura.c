@@ -107,30 +107,48 @@ static int64_t finish_take(struct hk_cell *cell, size_t n) {
     return code;
 }
 
+/* What a put and a take need to go on after their first try. It is in memory, so that a first try that succeeds, as
+ * nearly all do, saves no registers. */
+struct put_call {
+    struct hk_cell cell;
+    size_t ring;
+    const uint64_t *words;
+    size_t n;
+};
+
+struct take_call {
+    struct hk_cell cell;
+    size_t ring;
+    uint64_t *words;
+    size_t n;
+};
+
+#define RARELY __attribute__((noinline, cold))
+
 /* Goes on with a put whose first try returned a code. */
-static int64_t put_again(struct hk_cell *cell, size_t ring, const uint64_t *words, size_t n, bool bulk, int64_t code) {
+static RARELY int64_t put_again(struct put_call *call, bool bulk, int64_t code) {
     for (unsigned turn = 1; code == HK_E_AGAIN && turn < TURNS; turn++) {
         pause_a_moment();
-        code = hkx_ring_put(cell, ring, words, n, bulk);
+        code = hkx_ring_put(&call->cell, call->ring, call->words, call->n, bulk);
     }
-    return code == HK_E_PENDING ? finish_put(cell, words, n) : code;
+    return code == HK_E_PENDING ? finish_put(&call->cell, call->words, call->n) : code;
 }
 
-static int64_t take_again(struct hk_cell *cell, size_t ring, uint64_t *words, size_t n, bool bulk, int64_t code) {
+static RARELY int64_t take_again(struct take_call *call, bool bulk, int64_t code) {
     for (unsigned turn = 1; code == HK_E_AGAIN && turn < TURNS; turn++) {
         pause_a_moment();
-        code = hkx_ring_take(cell, ring, words, n, bulk);
+        code = hkx_ring_take(&call->cell, call->ring, call->words, call->n, bulk);
     }
-    return code == HK_E_PENDING ? finish_take(cell, n) : code;
+    return code == HK_E_PENDING ? finish_take(&call->cell, call->n) : code;
 }
 
 static inline int64_t put(hk_hand *hand, size_t ring, const uint64_t *words, size_t n, bool bulk) {
     int64_t code = refused(words, n);
     if (code < 0) return code;
-    struct hk_cell cell = {hand};
     if (!words) words = no_words;
-    code = hkx_ring_put(&cell, ring, words, n, bulk);
-    return code >= 0 ? code : put_again(&cell, ring, words, n, bulk, code);
+    struct put_call call = {{hand}, ring, words, n};
+    code = hkx_ring_put(&call.cell, ring, words, n, bulk);
+    return code >= 0 ? code : put_again(&call, bulk, code);
 }
 
 int64_t hk_ring_try_put_bulk(hk_hand *hand, size_t ring, const uint64_t *words, size_t n) {
@@ -144,10 +162,10 @@ int64_t hk_ring_try_put_burst(hk_hand *hand, size_t ring, const uint64_t *words,
 static inline int64_t take(hk_hand *hand, size_t ring, uint64_t *words, size_t n, bool bulk) {
     int64_t code = refused(words, n);
     if (code < 0) return code;
-    struct hk_cell cell = {hand};
     if (!words) words = no_words;
-    code = hkx_ring_take(&cell, ring, words, n, bulk);
-    return code >= 0 ? code : take_again(&cell, ring, words, n, bulk, code);
+    struct take_call call = {{hand}, ring, words, n};
+    code = hkx_ring_take(&call.cell, ring, words, n, bulk);
+    return code >= 0 ? code : take_again(&call, bulk, code);
 }
 
 int64_t hk_ring_try_take_bulk(hk_hand *hand, size_t ring, uint64_t *words, size_t n) {
