@@ -68,8 +68,8 @@ test:
 # source was proved with. A toolchain of another logic proves it anew, and may not accept each proof.
 build: LOGIC = $(lastword $(shell rt version))
 build:
-	@grep -qF '$(LOGIC)' crates/cli/src/help.rt || \
-	  echo "make build: this toolchain's logic is $(LOGIC), and crates/cli/src/help.rt names another one" >&2
+	@grep -qF '$(LOGIC)' crates/command_line/src/help.rt || \
+	  echo "make build: this toolchain's logic is $(LOGIC), and crates/command_line/src/help.rt names another one" >&2
 	cd crates/pktkit && rt run < /dev/null > /dev/null
 
 # Proves the crate capi and what it stands on, and leaves the C library over it in out/c: libhokhtura.a, libhokhtura.so.

@@ -3,13 +3,13 @@
 
 ghost use Rattle.std.specs.Prelude.{◌≡◌, ◌≤◌};
 
-use crate::command_line::{Request, RunFiles, read_words};
 use crate::fault::Fault;
 use crate::one_line::OneLine;
 use crate::progress::Progress;
 use crate::run_answer::run_files;
 use clap::Error;
 use command_file::TextFault;
+use command_line::{Request, RunFiles, read_words};
 use ring_file::ring_text;
 use std::fs;
 use std::io::{IsTerminal, Read, Write};

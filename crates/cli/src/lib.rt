@@ -2,10 +2,8 @@
 //! own, so that its tests are in a crate above it and know it by its contracts.
 #![tactic(auto)]
 
-mod command_line;
 mod entry;
 mod fault;
-mod help;
 mod one_line;
 mod progress;
 mod run_answer;

@@ -4,11 +4,11 @@
 ghost use Rattle.std.specs.Prelude.{◌≡◌, ◌++◌, IfOk, codes, decimal, vec_len};
 ghost use Rattle.counters.specs.Report.{report_of};
 
-use crate::command_line::{MAX_WORKERS, RunFiles};
 use crate::fault::Fault;
 use crate::one_line::OneLine;
 use crate::progress::{Progress, Watched};
 use crate::same_file::{FileId, check_ports, note};
+use command_line::{MAX_WORKERS, RunFiles};
 use itoa::Buffer;
 use pcapio::Counted;
 use settings::Settings;

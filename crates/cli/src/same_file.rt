@@ -1,10 +1,10 @@
 //! Finds names of a run that refer to the same file. Creating a port's file empties it, so it must not be a file that
 //! the run reads, nor the file of another port.
 
-use crate::command_line::RunFiles;
 use crate::fault::Fault;
 use crate::one_line::OneLine;
 use crate::run_answer::port_name;
+use command_line::RunFiles;
 use std::fs::{self, Metadata};
 use std::io::{self, ErrorKind};
 use std::os::unix::fs::MetadataExt;
