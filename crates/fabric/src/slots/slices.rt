@@ -72,6 +72,11 @@ impl<T: Word, const N: usize, S: Stored<T>> Ring<'_, T, N, S> {
         ensures filled { seat.new.me.1 ≡ drop (length items.now) seat.old.me.1
             ++ run (shape_slot self.now.shape) start (map Some items.now) }
     {
+        // the loops below would cost a single word more time than its copy
+        if items.len() == 1 {
+            self.fill_each(seat, self.shape.slot(start), items);
+            return;
+        }
         let mut at = 0;
         while at < items.len() {
             let position = start + at as u64;
@@ -142,6 +147,11 @@ impl<T: Word, const N: usize, S: Stored<T>> Ring<'_, T, N, S> {
         ensures emptied { seat.new.me.1 ≡ run (shape_slot self.now.shape) start (replicate (length into.old) None) }
         ensures items { into.new ≡ somes (values seat.old.me.1) }
     {
+        // as in fill_slice
+        if into.len() == 1 {
+            self.drain_each(seat, self.shape.slot(start), into);
+            return;
+        }
         let mut at = 0;
         while at < into.len() {
             let position = start + at as u64;

@@ -1,7 +1,7 @@
 use Rattle.std.proofs.Common.{◌≡◌, ◌+◌, ◌-◌, ◌≤◌, ◌++◌, ap, arith, drop, length, map, refl, replicate, rules, sym, take, None, Option, Some, ◌∙◌}
 use Rattle.fabric_laws.proofs.Cells.{length-cells, length-many}
 use Rattle.fabric.specs.Shapes.{shape_slot}
-use Rattle.fabric.proofs.Blocks.{by_slot, fill_part_asks, fill_part_next, part_is_long}
+use Rattle.fabric.proofs.Blocks.{by_slot, fill_part_asks, fill_part_next, one_slot, part_is_long}
 use Rattle.fabric.proofs.Turns.{half, half_first, half_last}
 use Rattle.fabric.proofs.ring.Ring.fill_slice.Goals as goal
 
@@ -35,10 +35,10 @@ fill_run-requires g c =
       (
         inv.same_table ∙ c.requires.table,
         (
-          omega (arith, long, b.near, c.slot.ensures, shape.near, shape.small.1),
+          omega (arith, long, b.near, c.slot-in-loop-at.ensures, shape.near, shape.small.1),
           fill_part_asks (shape_slot shape) c.args.start at k n xs others c.loop-at.seat.me.1 inv.held refl fits
               ∙ ap (λ l. l ++ drop m c.loop-at.seat.me.1)
-              (by_slot shape (c.args.start + at) m c.slot.result (replicate m gone) (omega (arith, long, b.near)) (length-many m gone) c.slot.ensures),
+              (by_slot shape (c.args.start + at) m c.slot-in-loop-at.result (replicate m gone) (omega (arith, long, b.near)) (length-many m gone) c.slot-in-loop-at.ensures),
         ),
       ),
     )
@@ -64,7 +64,7 @@ loop-at-preserved g c =
       few = omega (arith, inv.few, b.fits);
       held = fill_part_next (shape_slot shape) c.args.start at k n xs others c.loop-at.seat.me.1 inv.held refl fits c.fill_run.new.seat.me.1
           (f.filled ∙ ap (λ l. drop (length part) c.loop-at.seat.me.1 ++ l)
-          (sym (by_slot shape (c.args.start + at) (length part) c.slot.result (map Some part) (omega (arith, long, b.near)) (length-cells part) c.slot.ensures)))
+          (sym (by_slot shape (c.args.start + at) (length part) c.slot-in-loop-at.result (map Some part) (omega (arith, long, b.near)) (length-cells part) c.slot-in-loop-at.ensures)))
           ∙ ap (λ m. half (shape_slot shape) c.args.start m (map Some xs) (replicate n None) others)
           (let q : at + k ≡ at + c.before_wrap-n.result = omega arith in q);
     }
@@ -76,3 +76,10 @@ returns-clause-filled g c =
     let n = length xs in let gone : Option g.row.T.Denot = None in
     half_last (shape_slot c.args.self.now.shape) c.args.start c.loop-at.at (map Some xs) (replicate n None) (drop n c.args.seat.now.me.1) c.loop-at.seat.me.1
     inv.held (omega (arith, c.loop-at-test.false, length-cells xs)) (omega (arith, c.loop-at-test.false, length-many n gone))
+
+pub returns-then-items-eq1-clause-filled : goal.returns-then-items-eq1-clause-filled
+returns-then-items-eq1-clause-filled g c =
+    let xs = c.args.items.now in
+    let one : length xs ≡ 1 = omega (arith, c.if-items-eq1.true) in
+    c.fill_each.ensures.filled ∙ ap (λ l. drop (length xs) c.args.seat.now.me.1 ++ l)
+    (sym (one_slot (shape_slot c.args.self.now.shape) c.args.start c.slot.result (map Some xs) (length-cells xs ∙ one) c.slot.ensures))
