@@ -1,4 +1,5 @@
 pub mod Asking
 pub mod Emptying
 pub mod Reserving
+mod Rows
 pub mod Settled
