@@ -18,17 +18,17 @@ use Rattle.fabric.specs.Hands.{view}
 use Rattle.fabric.specs.Settles.{AreOwnBuffers}
 use Rattle.fabric.specs.Views.{IsKept}
 use Rattle.fabric.proofs.Told.{refused_kept}
-use Rattle.ringapi.specs.declared.answers.Moved.{Moved}
-use Rattle.ringapi.specs.declared.answers.Refusal.{Refusal}
-use Rattle.ringapi.specs.declared.answers.Refusal.TheVariants.{Start, NotYours}
-use Rattle.ringapi.specs.Views.{RefusedStarts, by_bulk}
+use Rattle.list_calls.specs.declared.answers.Moved.{Moved}
+use Rattle.list_calls.specs.declared.answers.Refusal.{Refusal}
+use Rattle.list_calls.specs.declared.answers.Refusal.TheVariants.{Start, NotYours}
+use Rattle.list_calls.specs.Views.{RefusedStarts, by_bulk}
 use Rattle.word_pool.specs.declared.local_words.LocalWords.{LocalWords}
 use Rattle.pool_laws.specs.Beside.{Receives, Sends, unsent_of}
 use Rattle.pool_laws.specs.Hands.{IsIn, IsSameIn, view_in}
 use Rattle.word_pool.specs.Words.{HasSameHand, cache_of, hand_of, view_of}
 use Rattle.pool_laws.proofs.Asking.{took, took_holds}
-use Rattle.ringapi.proofs.Counts.{count_both}
-use Rattle.ringapi.proofs.Singles.{single_both}
+use Rattle.list_calls.proofs.Counts.{count_both}
+use Rattle.list_calls.proofs.Singles.{single_both}
 use Rattle.capi_pools.specs.Members.{NumberRings, SuitsCache, numbers_of}
 use Rattle.capi_pools.specs.Tries.{Filled, Received, Sent}
 use Rattle.capi_pools.specs.declared.member.Number.{Number}

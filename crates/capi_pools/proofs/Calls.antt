@@ -4,7 +4,7 @@ use Rattle.burst.specs.declared.tagged.Tagged.{Ghosts}
 use Rattle.fabric.specs.declared.stored.Stored.{Ghosts as StoredGhosts}
 use Rattle.fabric.specs.declared.hand.StartFault.{StartFault}
 use Rattle.fabric.specs.Settles.{AreOwnBuffers}
-use Rattle.ringapi.specs.declared.answers.Moved.{Moved}
+use Rattle.list_calls.specs.declared.answers.Moved.{Moved}
 use Rattle.word_pool.specs.declared.local_words.LocalWords.{LocalWords}
 use Rattle.pool_laws.specs.Caches.{cached_after_get, taken_by_get}
 use Rattle.word_pool.specs.Words.{HasSameHand, SameCache, SameRing, cache_of, view_of}

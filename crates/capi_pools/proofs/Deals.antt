@@ -8,7 +8,7 @@ use Rattle.pool_laws.specs.Calls.{PutsCached}
 use Rattle.pool_laws.specs.declared.faults.PoolFault.{PoolFault}
 use Rattle.pool_laws.specs.declared.faults.PoolFault.TheVariants.{Short, Worn, CacheFull, NotYours, BadSize}
 use Rattle.pool_laws.proofs.Counts.{count_get}
-use Rattle.ringapi.proofs.Counts.{count_both, count_parts}
+use Rattle.list_calls.proofs.Counts.{count_both, count_parts}
 use Rattle.capi_pools.specs.Members.{numbers_of}
 use Rattle.capi_pools.specs.declared.member.Number.{Number}
 use Rattle.capi_pools.proofs.Attempts.{all_single}

@@ -6,8 +6,8 @@ use Rattle.fabric_laws.specs.declared.view.View.{View}
 use Rattle.fabric.specs.declared.stored.Stored.{Ghosts as StoredGhosts}
 use Rattle.fabric.specs.declared.hand.StartFault.{StartFault}
 use Rattle.fabric.specs.Settles.{AreNotOwnBuffers, AreOwnBuffers}
-use Rattle.ringapi.specs.declared.answers.Moved.{Moved}
-use Rattle.ringapi.specs.declared.answers.Refusal.{Refusal}
+use Rattle.list_calls.specs.declared.answers.Moved.{Moved}
+use Rattle.list_calls.specs.declared.answers.Refusal.{Refusal}
 use Rattle.word_pool.specs.declared.local_words.LocalWords.{LocalWords}
 use Rattle.pool_laws.specs.Caches.{cached_after_get, taken_by_get, threshold}
 use Rattle.word_pool.specs.Words.{SameCache, SameRing, cache_of, cache_size, view_of}

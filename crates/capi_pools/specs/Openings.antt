@@ -4,7 +4,7 @@ use Rattle.geom.specs.declared.plan.Side.TheVariants.{Put}
 use Rattle.ringcore_laws.specs.declared.party.Settled.{Settled}
 use Rattle.ringcore_laws.specs.Party.{newcomer}
 use Rattle.fabric.specs.Hands.{pool_of}
-use Rattle.ringapi.specs.Views.{settlement}
+use Rattle.list_calls.specs.Views.{settlement}
 use Rattle.word_pool.specs.Words.{cache_of, cache_size, view_of}
 use Rattle.capi_rings.specs.declared.fault.Fault.{Fault}
 use Rattle.capi_rings.specs.declared.fault.Fault.TheVariants as fault

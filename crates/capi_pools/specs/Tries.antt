@@ -7,10 +7,10 @@ use Rattle.fabric.specs.declared.hand.cache_hand.CacheHand.{CacheHand}
 use Rattle.fabric.specs.Hands.{OnRing}
 use Rattle.fabric.specs.Settles.{AreOwnBuffers}
 use Rattle.fabric.specs.Views.{IsKept}
-use Rattle.ringapi.specs.declared.answers.Moved.{Moved}
-use Rattle.ringapi.specs.declared.answers.Refusal.{Refusal}
-use Rattle.ringapi.specs.declared.answers.Refusal.TheVariants.{Start, NotYours}
-use Rattle.ringapi.specs.Views.{by_bulk}
+use Rattle.list_calls.specs.declared.answers.Moved.{Moved}
+use Rattle.list_calls.specs.declared.answers.Refusal.{Refusal}
+use Rattle.list_calls.specs.declared.answers.Refusal.TheVariants.{Start, NotYours}
+use Rattle.list_calls.specs.Views.{by_bulk}
 use Rattle.word_pool.specs.declared.local_words.LocalWords.{LocalWords}
 use Rattle.pool_laws.specs.Beside.{Receives, Sends, unsent_of}
 use Rattle.pool_laws.specs.Hands.{view_in}

@@ -1,23 +1,22 @@
 //! Whole puts of words, which are read from a slice.
 //!
-//! These are the bodies of `put` again, with a slice instead of a burst. A trait for both would need a method that
-//! takes a `PutOpen`, and the prover can't match an `impl` to a method whose signature has a struct with a lifetime and
-//! a const parameter of the trait.
+//! These are the bodies of `put` of list_calls again, with a slice instead of a burst. A trait for both would need a
+//! method that takes a `PutOpen`, and the prover can't match an `impl` to a method whose signature has a struct with a
+//! lifetime and a const parameter of the trait.
 ghost use Rattle.std.specs.Prelude.{◌<◌, ◌≤◌, [], length, take};
 ghost use Rattle.std.specs.Prelude.{ℕ};
 ghost use Rattle.geom.specs.declared.plan.RingPlan.{RingPlan};
 ghost use Rattle.fabric_laws.specs.declared.view.View.{View};
 ghost use Rattle.fabric.specs.Hands.{IsHandOf, OnRing, put_span, put_view, rings_of, view};
 ghost use Rattle.fabric.specs.Settles.{AreYours};
-ghost use Rattle.ringapi.specs.Puts.{IsPutOf, IsUnfinishedPut, PutHasTold, PutTells, SettlesPut, left_of};
-ghost use Rattle.ringapi.specs.Truths.{IsTruePut};
-ghost use Rattle.ringapi.specs.Whole.{MakesPut, TriesPut};
+ghost use Rattle.list_calls.specs.Puts.{IsPutOf, IsUnfinishedPut, PutHasTold, PutTells, SettlesPut, left_of};
+ghost use Rattle.list_calls.specs.Truths.{IsTruePut};
+ghost use Rattle.list_calls.specs.Whole.{MakesPut, TriesPut};
 
-use crate::answers::{Moved, PutAnswer, Refusal};
-use crate::pauses::Pauses;
 use burst::Word;
 use fabric::{Fabric, Hand, PutOpen, SettleFault, Stored};
 use geom::How;
+use list_calls::{Moved, Pauses, PutAnswer, Refusal};
 use std::sync::Wait;
 
 /// Tries once to settle a span with the first words of a slice.

@@ -7,16 +7,16 @@
 ghost use Rattle.std.specs.Prelude.{◌≡◌, ◌<◌, ◌++◌, List, drop, length};
 ghost use Rattle.fabric.specs.Hands.{IsHandOf, OnRing, rings_of, view};
 ghost use Rattle.fabric.specs.Settles.{AreYours};
-ghost use Rattle.ringapi.specs.Puts.{left_of};
-ghost use Rattle.ringapi.specs.Views.{by_bulk, by_burst};
-ghost use Rattle.ringapi.specs.Whole.{MakesPut, MakesTake, TriesPut, TriesTake};
+ghost use Rattle.list_calls.specs.Puts.{left_of};
+ghost use Rattle.list_calls.specs.Views.{by_bulk, by_burst};
+ghost use Rattle.list_calls.specs.Whole.{MakesPut, MakesTake, TriesPut, TriesTake};
 
-use crate::answers::{PutAnswer, TakeAnswer};
 use crate::put_slices::{put, put_own, try_put};
 use crate::take_slices::{take, try_take};
 use burst::Word;
 use fabric::{Fabric, Hand, Stored};
 use geom::How;
+use list_calls::{PutAnswer, TakeAnswer};
 use std::sync::Wait;
 
 /// Tries once to put all words of a slice, or none. The slice isn't changed.

@@ -1,20 +1,19 @@
-//! Whole takes of words, which are written to the front of a slice. The bodies of `take` again, since no trait works
-//! for both (`put_slices`). The slice of a take holds `before` at first; once a span is reserved it holds `shown ++
-//! drop (length shown) before`.
+//! Whole takes of words, which are written to the front of a slice. The bodies of `take` of list_calls again, since no
+//! trait works for both (`put_slices`). The slice of a take holds `before` at first; once a span is reserved it holds
+//! `shown ++ drop (length shown) before`.
 ghost use Rattle.std.specs.Prelude.{◌≡◌, ◌<◌, ◌++◌, List, drop, length};
 ghost use Rattle.std.specs.Prelude.{ℕ};
 ghost use Rattle.geom.specs.declared.plan.RingPlan.{RingPlan};
 ghost use Rattle.fabric_laws.specs.declared.view.View.{View};
 ghost use Rattle.fabric.specs.Hands.{IsHandOf, OnRing, rings_of, take_view, view};
-ghost use Rattle.ringapi.specs.Takes.{IsTakeOf, IsUnfinishedTake, SettlesTake, TakeHasTold};
-ghost use Rattle.ringapi.specs.Truths.{IsTrueTake};
-ghost use Rattle.ringapi.specs.Whole.{MakesTake, TriesTake};
+ghost use Rattle.list_calls.specs.Takes.{IsTakeOf, IsUnfinishedTake, SettlesTake, TakeHasTold};
+ghost use Rattle.list_calls.specs.Truths.{IsTrueTake};
+ghost use Rattle.list_calls.specs.Whole.{MakesTake, TriesTake};
 
-use crate::answers::{Moved, TakeAnswer};
-use crate::pauses::Pauses;
 use burst::Word;
 use fabric::{Fabric, Hand, SettleFault, Stored, TakeOpenLent};
 use geom::How;
+use list_calls::{Moved, Pauses, TakeAnswer};
 use std::sync::Wait;
 
 /// Tries once to settle a span with all its words, which are at the front of a slice.

@@ -6,13 +6,13 @@ use Rattle.fabric.specs.declared.fabric.Fabric.{Fabric}
 use Rattle.fabric.specs.declared.hand.Hand.{Hand}
 use Rattle.fabric.specs.declared.hand.StartFault.TheVariants as start
 use Rattle.fabric.specs.Hands.{IsHandOf, OnRing, view}
-use Rattle.ringapi.specs.declared.answers.PutAnswer.TheVariants as put
-use Rattle.ringapi.specs.declared.answers.Refusal.{Refusal}
-use Rattle.ringapi.specs.declared.answers.Refusal.TheVariants.{Start}
-use Rattle.ringapi.specs.declared.answers.TakeAnswer.TheVariants as taken
-use Rattle.ringapi.specs.Puts.{PutHasTold}
-use Rattle.ringapi.specs.Takes.{TakeHasTold}
-use Rattle.ringapi.specs.Views.{by_burst}
+use Rattle.list_calls.specs.declared.answers.PutAnswer.TheVariants as put
+use Rattle.list_calls.specs.declared.answers.Refusal.{Refusal}
+use Rattle.list_calls.specs.declared.answers.Refusal.TheVariants.{Start}
+use Rattle.list_calls.specs.declared.answers.TakeAnswer.TheVariants as taken
+use Rattle.list_calls.specs.Puts.{PutHasTold}
+use Rattle.list_calls.specs.Takes.{TakeHasTold}
+use Rattle.list_calls.specs.Views.{by_burst}
 use Rattle.stages.specs.declared.stage_fault.StageFault.{StageFault}
 use Rattle.stages.specs.declared.stage_fault.StageFault.TheVariants.{Worn}
 

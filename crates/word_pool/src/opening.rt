@@ -3,7 +3,7 @@ ghost use Rattle.std.specs.Prelude.{◌≡◌, ◌+◌, ◌≤◌, [], IfOk, IfE
 ghost use Rattle.fabric.specs.Hands.{SameHand, view};
 ghost use Rattle.pool_laws.specs.Caches.{threshold};
 ghost use Rattle.word_pool.specs.Faults.{cache_number_of};
-ghost use Rattle.ringapi.specs.Holdings.{IsFreeRing};
+ghost use Rattle.list_calls.specs.Holdings.{IsFreeRing};
 ghost use Rattle.word_pool.specs.Calls.{RefusesSize, RefusesWords};
 ghost use Rattle.word_pool.specs.Words.{HasHand, cache_of, cache_size, ring_of};
 

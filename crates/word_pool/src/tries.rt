@@ -4,7 +4,7 @@ ghost use Rattle.std.specs.Prelude.{◌≡◌, ◌<◌, ◌++◌, List, Some, dr
 ghost use Rattle.ringcore_laws.specs.FreeRings.{AreSingle};
 ghost use Rattle.fabric.specs.Hands.{OnRing, rings_of};
 ghost use Rattle.fabric.specs.CacheHands.{IsCacheHandOf, Keeps};
-ghost use Rattle.ringapi.specs.Views.{by_bulk};
+ghost use Rattle.list_calls.specs.Views.{by_bulk};
 ghost use Rattle.pool_laws.specs.Beside.{IsPutByHts, IsTakenByHts, Receives, Sends, unsent_of};
 ghost use Rattle.word_pool.specs.Stacks.{stacked};
 ghost use Rattle.word_pool.specs.Words.{IsLocalOf, SameCache, SameRing, cache_of, hand_of};

@@ -6,8 +6,8 @@ use Rattle.ringcore_laws.specs.declared.party.Party.{Party}
 use Rattle.ringcore_laws.specs.declared.party.Settled.{Settled}
 use Rattle.fabric.specs.Settles.{AreYours}
 use Rattle.fabric_laws.specs.declared.view.View.{View}
-use Rattle.ringapi.specs.Holdings.{HasMore}
-use Rattle.ringapi.specs.Views.{settlement}
+use Rattle.list_calls.specs.Holdings.{HasMore}
+use Rattle.list_calls.specs.Views.{settlement}
 use Rattle.stages_laws.specs.Output.{Forwarding}
 use Rattle.stages_laws.specs.declared.run.Run.{Ghosts}
 use Rattle.worker.specs.declared.packet.Packet.{Packet}

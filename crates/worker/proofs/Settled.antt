@@ -23,19 +23,19 @@ use Rattle.fabric.specs.Starts.{Starts}
 use Rattle.fabric.specs.Views.{IsWornAt, span_of}
 use Rattle.fabric.proofs.Holding.{holds_put, holds_take}
 use Rattle.fabric.proofs.Told.{refused_kept, started_party}
-use Rattle.ringapi.specs.Holdings.{HasMore}
-use Rattle.ringapi.proofs.Moves.{had_before, moved_party}
-use Rattle.ringapi.proofs.Counts.{count_parts}
-use Rattle.ringapi.proofs.Few.{own_few}
-use Rattle.ringapi.proofs.Singles.{single_drop}
-use Rattle.ringapi.specs.declared.answers.Moved.{Moved}
-use Rattle.ringapi.specs.declared.answers.PutAnswer.TheVariants.{Done, Refused}
-use Rattle.ringapi.specs.declared.answers.Refusal.{Refusal}
-use Rattle.ringapi.specs.declared.answers.Refusal.TheVariants.{Start, NotYours}
-use Rattle.ringapi.specs.Puts.{IsUnfinishedPut, PutHasTold, PutSettles}
-use Rattle.ringapi.specs.Views.{HasSettled, settlement}
-use Rattle.ringapi.proofs.Tries.{starts_kept}
-use Rattle.ringapi.proofs.Yours.{kept_yours, not_both}
+use Rattle.list_calls.specs.Holdings.{HasMore}
+use Rattle.list_calls.proofs.Moves.{had_before, moved_party}
+use Rattle.list_calls.proofs.Counts.{count_parts}
+use Rattle.list_calls.proofs.Few.{own_few}
+use Rattle.list_calls.proofs.Singles.{single_drop}
+use Rattle.list_calls.specs.declared.answers.Moved.{Moved}
+use Rattle.list_calls.specs.declared.answers.PutAnswer.TheVariants.{Done, Refused}
+use Rattle.list_calls.specs.declared.answers.Refusal.{Refusal}
+use Rattle.list_calls.specs.declared.answers.Refusal.TheVariants.{Start, NotYours}
+use Rattle.list_calls.specs.Puts.{IsUnfinishedPut, PutHasTold, PutSettles}
+use Rattle.list_calls.specs.Views.{HasSettled, settlement}
+use Rattle.list_calls.proofs.Tries.{starts_kept}
+use Rattle.list_calls.proofs.Yours.{kept_yours, not_both}
 use Rattle.worker.specs.Passing.{Passes, Puts, settled_on}
 
 same_number : (n : ℕ) → (n == n) ≡ true

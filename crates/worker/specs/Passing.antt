@@ -6,7 +6,7 @@ use Rattle.geom.specs.declared.plan.Mode.TheVariants.{Hts, Multi}
 use Rattle.geom.specs.declared.plan.RingPlan.{RingPlan}
 use Rattle.geom.specs.declared.plan.Side.{Side}
 use Rattle.geom.specs.declared.plan.Side.TheVariants.{Put, Take}
-use Rattle.ringapi.specs.Holdings.{IsFreeRing}
+use Rattle.list_calls.specs.Holdings.{IsFreeRing}
 use Rattle.ringcore_laws.specs.declared.party.Settled.{Settled}
 use Rattle.ringcore_laws.specs.Party.{is_on}
 

@@ -4,13 +4,13 @@ ghost use Rattle.fabric.specs.Hands.{IsHandOf, OnRing, rings_of, view};
 ghost use Rattle.fabric.specs.Settles.{AreYours};
 ghost use Rattle.fabric.specs.Views.{IsWornAt};
 ghost use Rattle.fabric.specs.declared.hand.StartFault.TheVariants.{NoRoom};
-ghost use Rattle.ringapi.specs.declared.answers.Refusal.TheVariants.{Start};
+ghost use Rattle.list_calls.specs.declared.answers.Refusal.TheVariants.{Start};
 ghost use Rattle.worker.specs.Passing.{Puts};
 
 use burst::{Burst, Tagged};
 use crossbeam_utils::Backoff;
 use fabric::{Fabric, Hand, StartFault, Stored};
-use ringapi::{PutAnswer, Refusal, put_own_burst_from};
+use list_calls::{PutAnswer, Refusal, put_own_burst_from};
 use std::sync::Wait;
 
 /// Whether a put was refused only because there was no room.

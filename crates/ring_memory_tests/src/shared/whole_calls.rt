@@ -1,8 +1,8 @@
 //! Whole puts and takes.
 ghost use Rattle.std.specs.Prelude.{◌<◌, length, IfOk};
 ghost use Rattle.fabric.specs.Hands.{IsHandOf, rings_of};
-ghost use Rattle.ringapi.specs.Puts.{IsPutOf};
-ghost use Rattle.ringapi.specs.Takes.{IsTakeOf};
+ghost use Rattle.list_calls.specs.Puts.{IsPutOf};
+ghost use Rattle.list_calls.specs.Takes.{IsTakeOf};
 
 use super::{FIRST, Items, MOST, POOL, Rings, SECOND, Ticket};
 use burst::Burst;

@@ -11,7 +11,7 @@ use crate::stage_fault::StageFault;
 use burst::{Burst, Tagged};
 use crossbeam_utils::Backoff;
 use fabric::{Fabric, Hand, StartFault, Stored};
-use ringapi::{PutAnswer, Refusal, TakeAnswer, put_burst_from, take_bulk_into, take_burst_into};
+use list_calls::{PutAnswer, Refusal, TakeAnswer, put_burst_from, take_bulk_into, take_burst_into};
 use std::sync::Wait;
 use worker::{FREE, SPAN};
 

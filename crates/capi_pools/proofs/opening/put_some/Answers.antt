@@ -3,7 +3,7 @@ use Rattle.geom.specs.declared.plan.Side.TheVariants.{Put}
 use Rattle.fabric.specs.Hands.{rings_of, view}
 use Rattle.fabric.proofs.Pours.{all_first}
 use Rattle.fabric.proofs.Told.{ring_at}
-use Rattle.ringapi.specs.Views.{settlement}
+use Rattle.list_calls.specs.Views.{settlement}
 use Rattle.pool_laws.proofs.Asking.{bulk_all}
 use Rattle.capi_pools.specs.Members.{numbers_of}
 use Rattle.capi_pools.proofs.opening.put_some.Goals as goal

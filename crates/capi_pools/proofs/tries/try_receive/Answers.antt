@@ -3,7 +3,7 @@ use Rattle.ringcore_laws.specs.Sound.{holds, occurrences_in}
 use Rattle.fabric.specs.Hands.{rings_of}
 use Rattle.fabric.specs.Settles.{AreOwnBuffers}
 use Rattle.fabric.proofs.Told.{ring_at}
-use Rattle.ringapi.specs.Views.{by_bulk}
+use Rattle.list_calls.specs.Views.{by_bulk}
 use Rattle.pool_laws.specs.Beside.{Receives}
 use Rattle.word_pool.specs.Words.{cache_of, hand_of, view_of}
 use Rattle.word_pool.proofs.Slices.{none_shown, whole_shown}

@@ -1,8 +1,8 @@
 use Rattle.std.proofs.Common.{rules, subst, sym, ◌∙◌}
 use Rattle.ringcore_laws.proofs.Laws.{same_plan}
-use Rattle.ringapi.specs.Puts.{IsPutOf, IsUnfinishedPut, PutHasTold, left_of}
-use Rattle.ringapi.proofs.Again.{open_first, put_again, refused_yours, settle_more}
-use Rattle.ringapi.proofs.Putting.{plan_of}
+use Rattle.list_calls.specs.Puts.{IsPutOf, IsUnfinishedPut, PutHasTold, left_of}
+use Rattle.list_calls.proofs.Again.{open_first, put_again, refused_yours, settle_more}
+use Rattle.list_calls.proofs.Putting.{plan_of}
 use Rattle.ringapi.proofs.put_slices.again.Goals as goal
 
 pub attempt-requires : goal.attempt-requires

@@ -2,10 +2,10 @@ use Rattle.std.proofs.Common.{[], ◌≤◌, length, refl, rules, sym, ◌∙◌
 use Rattle.geom.specs.declared.plan.Side.TheVariants.{Put}
 use Rattle.ringcore_laws.proofs.Laws.{same_plan}
 use Rattle.fabric.specs.Hands.{put_left, put_span, put_view, view}
-use Rattle.ringapi.specs.Puts.{left_of}
-use Rattle.ringapi.proofs.Putting.{plan_of, settled_of, settled_tells}
-use Rattle.ringapi.proofs.Tries.{count_few, first_reserved}
-use Rattle.ringapi.proofs.Yours.{first_yours, opened_yours}
+use Rattle.list_calls.specs.Puts.{left_of}
+use Rattle.list_calls.proofs.Putting.{plan_of, settled_of, settled_tells}
+use Rattle.list_calls.proofs.Tries.{count_few, first_reserved}
+use Rattle.list_calls.proofs.Yours.{first_yours, opened_yours}
 use Rattle.ringapi.proofs.put_slices.attempt.Goals as goal
 
 pub settle-requires : goal.settle-requires

@@ -1,5 +1,5 @@
 use Rattle.std.proofs.Common.{[], refl, rules, subst}
-use Rattle.ringapi.specs.Puts.{PutHasTold, left_of}
+use Rattle.list_calls.specs.Puts.{PutHasTold, left_of}
 use Rattle.ringapi.proofs.put_slices.put.Goals as goal
 
 pub returns-else-may_put_slice : goal.returns-else-may_put_slice

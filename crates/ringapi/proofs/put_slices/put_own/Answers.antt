@@ -1,8 +1,8 @@
 use Rattle.std.proofs.Common.{[], rules}
 use Rattle.fabric.specs.Hands.{rings_of, view}
 use Rattle.fabric.proofs.Told.{ring_at}
-use Rattle.ringapi.specs.Puts.{left_of}
-use Rattle.ringapi.proofs.Putting.{tells_settles}
+use Rattle.list_calls.specs.Puts.{left_of}
+use Rattle.list_calls.proofs.Putting.{tells_settles}
 use Rattle.ringapi.proofs.put_slices.put_own.Goals as goal
 
 pub loop-init : goal.loop-init

@@ -1,6 +1,6 @@
 use Rattle.fabric.specs.Hands.{OnRing, view}
-use Rattle.ringapi.specs.Puts.{IsPutOf, PutHasTold, left_of}
-use Rattle.ringapi.specs.Truths.{IsTruePut}
+use Rattle.list_calls.specs.Puts.{IsPutOf, PutHasTold, left_of}
+use Rattle.list_calls.specs.Truths.{IsTruePut}
 use Rattle.ringapi.proofs.put_slices.put_own.Given as goal
 
 abbrev pub invariant-loop : goal.invariant-loop

@@ -5,7 +5,7 @@ use Rattle.fabric.specs.declared.hand.SettleFault.TheVariants.{NotYet}
 use Rattle.fabric.specs.Hands.{RefusesPut, put_span, put_view}
 use Rattle.fabric.specs.Settles.{AreYours}
 use Rattle.fabric.specs.Truths.{IsTrueTooEarly}
-use Rattle.ringapi.proofs.Putting.{only_early}
+use Rattle.list_calls.proofs.Putting.{only_early}
 use Rattle.ringapi.proofs.put_slices.settle.Goals as goal
 
 pub unreachable-requires : goal.unreachable-requires

@@ -1,8 +1,8 @@
 use Rattle.std.proofs.Common.{[], refl, rules, subst}
 use Rattle.fabric.specs.Hands.{rings_of, view}
 use Rattle.fabric.proofs.Told.{ring_at}
-use Rattle.ringapi.specs.Puts.{PutSettles, PutTells, left_of}
-use Rattle.ringapi.proofs.Putting.{tells_settles}
+use Rattle.list_calls.specs.Puts.{PutSettles, PutTells, left_of}
+use Rattle.list_calls.proofs.Putting.{tells_settles}
 use Rattle.ringapi.proofs.put_slices.try_put.Goals as goal
 
 pub returns-then-not-may_put_slice : goal.returns-then-not-may_put_slice

@@ -2,8 +2,8 @@ use Rattle.std.proofs.Common.{[], List, ap, drop, length, rules, subst, sym, ◌
 use Rattle.ringcore_laws.proofs.Laws.{same_plan}
 use Rattle.fabric.specs.Hands.{rings_of, view}
 use Rattle.fabric.proofs.Told.{ring_at}
-use Rattle.ringapi.specs.Takes.{IsTakeOf, IsUnfinishedTake, SettlesTake, TakeHasTold, TakeTells}
-use Rattle.ringapi.proofs.Taking.{none_shown, plan_of, settle_more, span_shown, take_again}
+use Rattle.list_calls.specs.Takes.{IsTakeOf, IsUnfinishedTake, SettlesTake, TakeHasTold, TakeTells}
+use Rattle.list_calls.proofs.Taking.{none_shown, plan_of, settle_more, span_shown, take_again}
 use Rattle.ringapi.proofs.take_slices.again.Goals as goal
 
 pub settle-requires : goal.settle-requires

@@ -1,7 +1,7 @@
 use Rattle.std.proofs.Common.{[], length, rules}
 use Rattle.fabric.specs.Hands.{rings_of, view}
 use Rattle.fabric.proofs.Told.{ring_at}
-use Rattle.ringapi.proofs.Taking.{tells_settles}
+use Rattle.list_calls.proofs.Taking.{tells_settles}
 use Rattle.ringapi.proofs.take_slices.take.Goals as goal
 
 pub loop-init : goal.loop-init

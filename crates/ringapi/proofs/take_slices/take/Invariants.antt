@@ -1,7 +1,7 @@
 use Rattle.std.proofs.Common.{List, drop, length, ◌++◌, ◌≡◌}
 use Rattle.fabric.specs.Hands.{OnRing, view}
-use Rattle.ringapi.specs.Takes.{IsTakeOf, TakeHasTold}
-use Rattle.ringapi.specs.Truths.{IsTrueTake}
+use Rattle.list_calls.specs.Takes.{IsTakeOf, TakeHasTold}
+use Rattle.list_calls.specs.Truths.{IsTrueTake}
 use Rattle.ringapi.proofs.take_slices.take.Given as goal
 
 abbrev pub invariant-loop : goal.invariant-loop

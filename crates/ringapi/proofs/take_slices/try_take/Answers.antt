@@ -2,10 +2,10 @@ use Rattle.std.proofs.Common.{[], length, refl, rules, sym, ◌∙◌}
 use Rattle.geom.specs.declared.plan.Side.TheVariants.{Take}
 use Rattle.ringcore_laws.proofs.Laws.{same_plan}
 use Rattle.fabric.specs.Hands.{OnRing, rings_of, take_left, take_span, take_view, view}
-use Rattle.ringapi.specs.Takes.{TakeTells}
+use Rattle.list_calls.specs.Takes.{TakeTells}
 use Rattle.fabric.proofs.Told.{ring_at}
-use Rattle.ringapi.proofs.Taking.{plan_of, settled_of, settled_tells, tells_settles}
-use Rattle.ringapi.proofs.Tries.{first_reserved}
+use Rattle.list_calls.proofs.Taking.{plan_of, settled_of, settled_tells, tells_settles}
+use Rattle.list_calls.proofs.Tries.{first_reserved}
 use Rattle.ringapi.proofs.take_slices.try_take.Goals as goal
 
 pub returns-in-Ok : goal.returns-in-Ok

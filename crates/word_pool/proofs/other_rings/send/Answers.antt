@@ -2,7 +2,7 @@ use Rattle.std.proofs.Common.{◌≡◌, Some, ap, refl, rules, subst, sym, ◌�
 use Rattle.fabric.specs.Hands.{rings_of, view}
 use Rattle.fabric.specs.CacheHands.{view_of_cache_hand}
 use Rattle.fabric.proofs.Told.{ring_at}
-use Rattle.ringapi.specs.Views.{by_burst}
+use Rattle.list_calls.specs.Views.{by_burst}
 use Rattle.pool_laws.specs.Beside.{Sends}
 use Rattle.word_pool.specs.Stacks.{stacked}
 use Rattle.pool_laws.proofs.Others.{finished_put, left_unsent, not_spare, put_here, put_owns, sends_beside, spare_yours}

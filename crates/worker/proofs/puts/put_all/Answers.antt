@@ -2,7 +2,7 @@ use Rattle.std.proofs.Common.{rules, ◌≡◌, ◌++◌, ◌<◌, [], take, len
 use Rattle.std.proofs.lemmas.List.{take-append-drop}
 use Rattle.fabric.specs.Hands.{rings_of, view}
 use Rattle.fabric.proofs.Told.{ring_at}
-use Rattle.ringapi.specs.Views.{by_burst}
+use Rattle.list_calls.specs.Views.{by_burst}
 use Rattle.worker.specs.Passing.{Puts}
 use Rattle.worker.proofs.Settled.{puts_none, puts_more, puts_kept, rest_yours, refused_party, refused_yours, refused_worn, no_more}
 use Rattle.worker.proofs.puts.put_all.Goals as goal

@@ -5,8 +5,8 @@ use Rattle.fabric_laws.specs.Changes.{settled}
 use Rattle.fabric.specs.Hands.{rings_of, take_left, take_view, view}
 use Rattle.fabric.specs.Views.{span_of}
 use Rattle.fabric.proofs.Told.{granted_few, refused_kept, ring_at, worn_at}
-use Rattle.ringapi.specs.Holdings.{HasMore}
-use Rattle.ringapi.specs.Views.{by_burst}
+use Rattle.list_calls.specs.Holdings.{HasMore}
+use Rattle.list_calls.specs.Views.{by_burst}
 use Rattle.worker.specs.Judging.{until_mark}
 use Rattle.worker.specs.Numbers.{packet_numbers}
 use Rattle.worker.proofs.Marks.{cut_twice}

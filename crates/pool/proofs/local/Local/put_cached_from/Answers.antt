@@ -4,10 +4,10 @@ use Rattle.ringcore_laws.specs.FreeRings.{AreSingle}
 use Rattle.fabric_laws.specs.declared.view.View.{View}
 use Rattle.fabric.specs.CacheHands.{Keeps, view_of_cache_hand}
 use Rattle.fabric.specs.Settles.{AreNotOwnBuffers, AreOwnBuffers}
-use Rattle.ringapi.specs.Holdings.{IsFreeRing}
+use Rattle.list_calls.specs.Holdings.{IsFreeRing}
 use Rattle.pool_laws.specs.Hands.{KeepsIn, view_in}
 use Rattle.pool_laws.proofs.Kept.{added_kept, back_kept, more_kept, more_own, none_kept, none_own, same_view}
-use Rattle.ringapi.proofs.Singles.{single_both}
+use Rattle.list_calls.proofs.Singles.{single_both}
 use Rattle.pool.proofs.local.Local.put_cached_from.Goals as goal
 
 pub invariant_of-self : goal.invariant_of-self

@@ -2,7 +2,7 @@ use Rattle.std.proofs.Common.{◌≡◌, true, false, [], refl, sym, ap, ◌∙�
 use Rattle.fabric_laws.specs.declared.view.View.{View}
 use Rattle.fabric.specs.CacheHands.{Keeps}
 use Rattle.fabric.specs.Settles.{AreNotOwnBuffers, AreOwnBuffers}
-use Rattle.ringapi.specs.Holdings.{IsFreeRing}
+use Rattle.list_calls.specs.Holdings.{IsFreeRing}
 use Rattle.pool_laws.proofs.Kept.{more_kept, more_own, none_kept, none_own, same_view}
 use Rattle.pool.proofs.local.Local.resume.Goals as goal
 

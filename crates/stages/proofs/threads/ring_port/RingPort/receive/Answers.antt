@@ -1,8 +1,8 @@
 use Rattle.std.proofs.Common.{refl, subst}
 use Rattle.fabric.specs.Hands.{view}
-use Rattle.ringapi.specs.declared.answers.TakeAnswer.TheVariants as taken
-use Rattle.ringapi.specs.Takes.{TakeHasTold}
-use Rattle.ringapi.specs.Views.{by_burst}
+use Rattle.list_calls.specs.declared.answers.TakeAnswer.TheVariants as taken
+use Rattle.list_calls.specs.Takes.{TakeHasTold}
+use Rattle.list_calls.specs.Views.{by_burst}
 use Rattle.run_parts.proofs.Known.{if_err}
 use Rattle.stages.proofs.threads.ring_port.RingPort.receive.Goals as goal
 
