@@ -111,7 +111,7 @@ impl<T: Word, const N: usize, S: Stored<T>> Ring<'_, T, N, S> {
     }
 
     /// Copies the words after the first `k` of a take back into their slots.
-    #[inline]
+    #[inline(always)]
     fn keep_slice(
         &self,
         seat: &mut Seat<Cell<T, S>, View<T>>,
