@@ -69,7 +69,7 @@ static void settings(const char *path, unsigned count)
 	FILE *out = fopen(path, "w");
 	struct route *routes = make_routes(count);
 	if (!out) fail(path);
-	fprintf(out, "buffers = 512\nroom = %u\ncache = 64\nburst = 64\nring = 128\n", ROOM);
+	fprintf(out, "buffers = 512\nroom = %u\ncache = 64\nburst = 64\nring = 256\n", ROOM);
 	for (unsigned port = 0; port < PORTS; port++)
 		fprintf(out, "[[port]]\nmac = \"02:00:00:00:00:%02x\"\n", 0x10 + port);
 	for (unsigned i = 0; i < count; i++) {

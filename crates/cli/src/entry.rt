@@ -29,7 +29,7 @@ const INPUT: &str = "-";
 /// erased before the fault, if there is one, is printed.
 pub fn program<
     R: Files + AllocGlobal + Clock + Sync,
-    T: Threads + Wait + Sync,
+    T: Threads + Wait + Clock + Sync,
     I: Read + Drop,
     O: Write,
     E: Write + IsTerminal + Send,
@@ -122,7 +122,7 @@ fn text_result<'a>(answered: Result<(), TextFault>) -> Result<(), Fault<'a>> {
 fn answer_run<
     'a,
     R: Files + AllocGlobal + Clock + Sync,
-    T: Threads + Wait + Sync,
+    T: Threads + Wait + Clock + Sync,
     O: Write,
     E: Write + IsTerminal + Send,
 >(rt: &R, threads: &T, files: &RunFiles<'a>, out: &mut O, err: &mut E) -> Result<(), Fault<'a>>

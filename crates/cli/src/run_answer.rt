@@ -28,7 +28,7 @@ use std::time::Clock;
 pub(crate) fn run_files<
     'a,
     R: Files + AllocGlobal + Clock + Sync,
-    T: Threads + Wait + Sync,
+    T: Threads + Wait + Clock + Sync,
     E: Write + Send,
 >(
     rt: &R,

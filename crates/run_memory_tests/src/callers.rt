@@ -9,13 +9,14 @@ use stages::{Gate, RunFault, Summary, run_one, run_threads};
 use std::io::{Read, Write};
 use std::sync::Wait;
 use std::thread::Threads;
+use std::time::Clock;
 
 /// A run by `workers` workers, or by one thread if that is 0.
 pub fn forward<
     G: Gate + Sync,
     I: Read + Send + Drop,
     W: Write + Drop,
-    R: AllocGlobal + Threads + Wait + Sync,
+    R: AllocGlobal + Threads + Wait + Clock + Sync,
 >(
     rt: &R,
     gate: &G,

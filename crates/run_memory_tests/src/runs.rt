@@ -12,6 +12,7 @@ use std::process::Abort;
 use std::sync::Wait;
 use std::test::Fail;
 use std::thread::Threads;
+use std::time::Clock;
 
 /// Two ports, and a route to each.
 const TWO_PORTS: &str =
@@ -115,7 +116,7 @@ struct Left {
 }
 
 /// Runs over a case.
-fn run<R: Abort + AllocGlobal + Threads + Wait + Sync>(
+fn run<R: Abort + AllocGlobal + Threads + Wait + Clock + Sync>(
     rt: &R,
     settings: &Settings,
     case: &Case,
@@ -196,7 +197,7 @@ fn is_refused(rt: &impl Abort, left: &Left, workers: usize) {
 
 /// Runs over a case, with one more piece of memory given back each time that it is refused: returns how often it was,
 /// each time with a prefix at each port and no device that failed, and the outcome of the first run with enough memory.
-fn run_at_last<R: Abort + AllocGlobal + Threads + Wait + Sync>(
+fn run_at_last<R: Abort + AllocGlobal + Threads + Wait + Clock + Sync>(
     rt: &R,
     settings: &Settings,
     case: &Case,
@@ -221,7 +222,7 @@ fn run_at_last<R: Abort + AllocGlobal + Threads + Wait + Sync>(
 }
 
 /// Runs while all memory is taken, and a piece of it is given back each time.
-fn has_memory_at_last<R: Abort + AllocGlobal + Threads + Wait + Sync>(
+fn has_memory_at_last<R: Abort + AllocGlobal + Threads + Wait + Clock + Sync>(
     rt: &R,
     workers: usize,
 ) -> Result<(), Fail>

@@ -36,6 +36,7 @@ use std::io::{Read, Write};
 use std::marker::Brand;
 use std::sync::Wait;
 use std::thread::{self, JoinHandle, Scope, Threads};
+use std::time::Clock;
 use worker::{Gate, Packet, SPAN, Worked, work};
 
 /// Forwards the capture that `reader` has, as `run_one` does, by a reader and `workers` workers, each in a thread of
@@ -54,7 +55,7 @@ pub fn run_threads<
     G: Gate + Sync,
     R: Read + Send + Drop,
     W: Write + Drop,
-    T: Threads + Wait + Sync,
+    T: Threads + Wait + Clock + Sync,
 >(
     rt: &T,
     alloc: Global,
@@ -98,7 +99,7 @@ fn run_started<
     G: Gate + Sync,
     R: Read + Send + Drop,
     W: Write + Drop,
-    T: Threads + Wait + Sync,
+    T: Threads + Wait + Clock + Sync,
 >(
     rt: &T,
     alloc: Global,
@@ -145,7 +146,7 @@ fn over_rings<
     G: Gate + Sync,
     R: Read + Send + Drop,
     W: Write + Drop,
-    T: Threads + Wait + Sync,
+    T: Threads + Wait + Clock + Sync,
 >(
     rt: &T,
     alloc: Global,
@@ -184,7 +185,7 @@ fn run_stages<
     G: Gate + Sync,
     R: Read + Send + Drop,
     W: Write + Drop,
-    T: Threads + Wait + Sync,
+    T: Threads + Wait + Clock + Sync,
 >(
     rt: &T,
     alloc: Global,
@@ -243,7 +244,7 @@ fn start_workers<
     E: 's,
     J: Run + Send + Sync + 's,
     G: Gate + Sync + 's,
-    T: Threads + Wait + Sync + 's,
+    T: Threads + Wait + Clock + Sync + 's,
 >(
     scope: &Scope<'s, E>,
     rt: &'s T,
@@ -279,7 +280,7 @@ fn start_worker<
     E: 's,
     J: Run + Send + Sync + 's,
     G: Gate + Sync + 's,
-    T: Threads + Wait + Sync + 's,
+    T: Threads + Wait + Clock + Sync + 's,
 >(
     scope: &Scope<'s, E>,
     rt: &'s T,
@@ -308,7 +309,7 @@ fn start_reader<
     E: 's,
     J: Run + Send + Sync + 's,
     R: Read + Send + Drop + 's,
-    T: Threads + Wait + Sync + 's,
+    T: Threads + Wait + Clock + Sync + 's,
 >(
     scope: &Scope<'s, E>,
     rt: &'s T,
@@ -339,7 +340,7 @@ fn start_reader<
 
 /// Ends the workers that were started, after another thread couldn't be: each gets an end mark, and their output is
 /// taken.
-fn call_off<J: Run, W: Write + Drop, T: Wait>(
+fn call_off<J: Run, W: Write + Drop, T: Wait + Clock>(
     rt: &T,
     f: &Fabric<Packet<J>, SPAN>,
     hand: Hand<Packet<J>>,

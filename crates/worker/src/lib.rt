@@ -6,12 +6,14 @@
 #![tactic(auto)]
 
 mod gate;
+mod idle;
 mod packet;
 mod puts;
 mod rings;
 mod worker;
 
 pub use gate::{Gate, Open};
+pub use idle::Idle;
 pub use packet::{Packet, Segment};
 pub use puts::put_all;
 pub use rings::{FREE, INPUT, OUTPUT, SPAN};

@@ -7,11 +7,12 @@ ghost use Rattle.fabric.specs.declared.hand.StartFault.TheVariants.{NoRoom};
 ghost use Rattle.list_calls.specs.declared.answers.Refusal.TheVariants.{Start};
 ghost use Rattle.worker.specs.Passing.{Puts};
 
+use crate::idle::Idle;
 use burst::{Burst, Tagged};
-use crossbeam_utils::Backoff;
 use fabric::{Fabric, Hand, StartFault, Stored};
 use list_calls::{PutAnswer, Refusal, put_own_burst_from};
 use std::sync::Wait;
+use std::time::Clock;
 
 /// Whether a put was refused only because there was no room.
 fn wants_room(refusal: Refusal) -> bool
@@ -25,7 +26,7 @@ fn wants_room(refusal: Refusal) -> bool
 
 /// Puts all items of a list, from its front, as many at a time as there is room for. Requires: the hand may put them.
 /// Errors: only if the ring is worn; the list then has the items that were not put.
-pub fn put_all<T: Tagged, const N: usize, S: Stored<T>, R: Wait>(
+pub fn put_all<T: Tagged, const N: usize, S: Stored<T>, R: Wait + Clock>(
     rt: &R,
     f: &Fabric<T, N, S>,
     mut hand: Hand<T, S>,
@@ -39,7 +40,7 @@ pub fn put_all<T: Tagged, const N: usize, S: Stored<T>, R: Wait>(
         × Puts ring (view hand).party.settled (view h).party.settled list.old) }
     ensures refused { IfErr result (λ h. IsHandOf f.now h × IsWornAt N (view h)) }
 {
-    let backoff = Backoff::new();
+    let idle = Idle::new();
     for _ in rt.forever() {
         if list.len() == 0 {
             return Ok(hand);
@@ -51,7 +52,7 @@ pub fn put_all<T: Tagged, const N: usize, S: Stored<T>, R: Wait>(
                     return Err(back);
                 }
                 hand = back;
-                backoff.snooze();
+                idle.wait(rt);
             }
             PutAnswer::Open(_, _) => unreachable!(),
         }

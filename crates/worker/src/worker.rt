@@ -11,11 +11,11 @@ ghost use Rattle.worker.specs.Numbers.{packet_numbers};
 ghost use Rattle.worker.specs.Passing.{AreRings};
 
 use crate::gate::Gate;
+use crate::idle::Idle;
 use crate::packet::Packet;
 use crate::puts::put_all;
 use crate::rings::{INPUT, OUTPUT, SPAN};
 use burst::{Burst, Tagged};
-use crossbeam_utils::Backoff;
 use fabric::{Fabric, Hand, StartFault, Stored};
 use geom::How;
 use ipv4::Ports;
@@ -23,6 +23,7 @@ use list_calls::peek_take_into;
 use lpm::Table;
 use stages_laws::Run;
 use std::sync::Wait;
+use std::time::Clock;
 
 /// How a worker ended.
 #[derive(Drop)]
@@ -84,7 +85,7 @@ fn first_part<J: Run>(items: &Burst<Packet<J>, SPAN>) -> usize
 
 /// Takes packets from the input ring into an empty list, as soon as there are some: at most `burst`, and none after the
 /// first end mark. Errors: the ring is worn.
-fn take_batch<J: Run, R: Wait>(
+fn take_batch<J: Run, R: Wait + Clock>(
     rt: &R,
     f: &Fabric<Packet<J>, SPAN>,
     mut hand: Hand<Packet<J>>,
@@ -103,7 +104,7 @@ fn take_batch<J: Run, R: Wait>(
     ensures more { IfOk result (λ h. HasMore packet_numbers (view hand).party into.new (view h).party) }
     ensures worn { IfErr result (λ h. IsHandOf f.now h × IsWornAt 256 (view h)) }
 {
-    let backoff = Backoff::new();
+    let idle = Idle::new();
     for _ in rt.forever() {
         match peek_take_into(f, hand, INPUT, burst, How::Burst, into) {
             Ok(peek) => {
@@ -116,7 +117,7 @@ fn take_batch<J: Run, R: Wait>(
             Err((back, StartFault::Worn)) => return Err(back),
             Err((back, _)) => {
                 hand = back;
-                backoff.snooze();
+                idle.wait(rt);
             }
         }
     }
@@ -154,7 +155,7 @@ fn judge_all<J: Run, G: Gate>(
 ///
 /// Requires: the rings are those of a run in threads, and the table and the ports are the run's; `burst` is 1 to 64. It
 /// ends early, with `worn`, if the positions of a ring are used up.
-pub fn work<J: Run, G: Gate, R: Wait>(
+pub fn work<J: Run, G: Gate, R: Wait + Clock>(
     rt: &R,
     gate: &G,
     f: &Fabric<Packet<J>, SPAN>,

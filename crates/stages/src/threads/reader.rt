@@ -9,7 +9,6 @@ use crate::threads::reader_outcome::ReaderOutcome;
 use crate::threads::ring_port::RingPort;
 use crate::threads::segments::link;
 use burst::Burst;
-use crossbeam_utils::Backoff;
 use mbuf::Chain;
 use pcapio::Reader;
 use run_parts::{InputTotals, NextRecord, ReadState, RunFault, look, read_record};
@@ -17,7 +16,8 @@ use settings::Settings;
 use stages_laws::Run;
 use std::io::Read;
 use std::sync::Wait;
-use worker::{FREE, INPUT, Packet, SPAN};
+use std::time::Clock;
+use worker::{FREE, INPUT, Idle, Packet, SPAN};
 
 /// How many segments a record takes: enough for its bytes, and at least one.
 fn segments_of(captured: usize, room: usize) -> usize
@@ -37,14 +37,14 @@ fn segments_of(captured: usize, room: usize) -> usize
 
 /// Prepares for asking for segments again: puts the packets that wait to be put together, or waits a little if there
 /// are none.
-fn make_way<J: Run, T: Wait>(
+fn make_way<J: Run, T: Wait + Clock>(
     rt: &T,
     ring_port: &mut RingPort<'_, Packet<J>>,
     batch: &mut Burst<Packet<J>, SPAN>,
-    backoff: &Backoff,
+    idle: &Idle,
 ) -> Result<(), StageFault> {
     if batch.is_empty() {
-        backoff.snooze();
+        idle.wait(rt);
         return Ok(());
     }
     ring_port.send(rt, INPUT, batch)
@@ -52,14 +52,14 @@ fn make_way<J: Run, T: Wait>(
 
 /// One free segment, as soon as there is one: from those taken before, or from at most `ahead` that are then taken from
 /// their ring together.
-fn obtain_one<J: Run, T: Wait>(
+fn obtain_one<J: Run, T: Wait + Clock>(
     rt: &T,
     ring_port: &mut RingPort<'_, Packet<J>>,
     batch: &mut Burst<Packet<J>, SPAN>,
     stock: &mut Burst<Packet<J>, SPAN>,
     ahead: usize,
 ) -> Result<Chain, StageFault> {
-    let backoff = Backoff::new();
+    let idle = Idle::new();
     for _ in rt.forever() {
         match stock.pop() {
             Some(Packet::Free(segment)) => return Ok(segment.chain),
@@ -68,34 +68,34 @@ fn obtain_one<J: Run, T: Wait>(
         }
         ring_port.receive(rt, FREE, ahead, stock)?;
         if stock.is_empty() {
-            make_way(rt, ring_port, batch, &backoff)?;
+            make_way(rt, ring_port, batch, &idle)?;
         }
     }
     unreachable!()
 }
 
 /// `n` free segments, linked to one chain, as soon as their ring has that many.
-fn obtain_many<J: Run, T: Wait>(
+fn obtain_many<J: Run, T: Wait + Clock>(
     rt: &T,
     ring_port: &mut RingPort<'_, Packet<J>>,
     batch: &mut Burst<Packet<J>, SPAN>,
     n: usize,
 ) -> Result<Chain, StageFault> {
-    let backoff = Backoff::new();
+    let idle = Idle::new();
     let mut got = Burst::<Packet<J>, SPAN>::new();
     for _ in rt.forever() {
         got.clear();
         if ring_port.get(rt, n, &mut got)? {
             return link(&mut got).ok_or(StageFault::Window);
         }
-        make_way(rt, ring_port, batch, &backoff)?;
+        make_way(rt, ring_port, batch, &idle)?;
     }
     unreachable!()
 }
 
 /// Free segments for a record of `captured` bytes, as soon as there are enough. Before waiting for them, puts the
 /// packets that wait to be put together.
-fn obtain<J: Run, T: Wait>(
+fn obtain<J: Run, T: Wait + Clock>(
     rt: &T,
     ring_port: &mut RingPort<'_, Packet<J>>,
     batch: &mut Burst<Packet<J>, SPAN>,
@@ -121,7 +121,7 @@ fn obtain<J: Run, T: Wait>(
 }
 
 /// Adds a packet to those that wait to be put together, after putting them if they fill a burst.
-fn enqueue<J: Run, T: Wait>(
+fn enqueue<J: Run, T: Wait + Clock>(
     rt: &T,
     ring_port: &mut RingPort<'_, Packet<J>>,
     batch: &mut Burst<Packet<J>, SPAN>,
@@ -139,7 +139,7 @@ fn enqueue<J: Run, T: Wait>(
 }
 
 /// Reads all records, and puts each on the input ring; the last ones then wait in `batch`.
-fn read_all<J: Run, R: Read, T: Wait>(
+fn read_all<J: Run, R: Read, T: Wait + Clock>(
     rt: &T,
     ring_port: &mut RingPort<'_, Packet<J>>,
     reader: &mut Reader<R>,
@@ -181,7 +181,7 @@ fn read_all<J: Run, R: Read, T: Wait>(
 }
 
 /// Puts the last packets, and then an end mark for each worker.
-pub(crate) fn dismiss<J: Run, T: Wait>(
+pub(crate) fn dismiss<J: Run, T: Wait + Clock>(
     rt: &T,
     ring_port: &mut RingPort<'_, Packet<J>>,
     batch: &mut Burst<Packet<J>, SPAN>,
@@ -197,7 +197,7 @@ pub(crate) fn dismiss<J: Run, T: Wait>(
 }
 
 /// The reader: reads all records, sends each to the workers, and then an end mark for each worker, whatever happens.
-pub(crate) fn feed<J: Run, R: Read, T: Wait>(
+pub(crate) fn feed<J: Run, R: Read, T: Wait + Clock>(
     rt: &T,
     mut ring_port: RingPort<'_, Packet<J>>,
     mut reader: Reader<R>,

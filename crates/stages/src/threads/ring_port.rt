@@ -9,11 +9,11 @@ ghost use Rattle.stages.specs.RingPorts.{GivesUp, IsOf, TakesNone};
 
 use crate::stage_fault::StageFault;
 use burst::{Burst, Tagged};
-use crossbeam_utils::Backoff;
 use fabric::{Fabric, Hand, StartFault, Stored};
 use list_calls::{PutAnswer, Refusal, TakeAnswer, put_burst_from, take_bulk_into, take_burst_into};
 use std::sync::Wait;
-use worker::{FREE, SPAN};
+use std::time::Clock;
+use worker::{FREE, Idle, SPAN};
 
 /// A thread's access to the rings of a run.
 #[derive(Drop)]
@@ -72,7 +72,7 @@ impl<'f, T: Tagged, S: Stored<T>> RingPort<'f, T, S> {
 
     /// Takes `n` free segments into an empty list, or none if their ring has fewer. Returns whether it took them.
     /// Errors: the ring is worn.
-    pub(crate) fn get<R: Wait>(
+    pub(crate) fn get<R: Wait + Clock>(
         &mut self,
         rt: &R,
         n: usize,
@@ -98,7 +98,7 @@ impl<'f, T: Tagged, S: Stored<T>> RingPort<'f, T, S> {
 
     /// Puts all packets of a list on a ring, as room becomes available. Errors: they aren't this hand's, or the ring is
     /// worn.
-    pub(crate) fn send<R: Wait>(
+    pub(crate) fn send<R: Wait + Clock>(
         &mut self,
         rt: &R,
         ring: usize,
@@ -108,7 +108,7 @@ impl<'f, T: Tagged, S: Stored<T>> RingPort<'f, T, S> {
         ensures left { IfOk result (λ _. list.new ≡ []) }
         ensures exact { IfErr result (λ e. GivesUp T.numbers self.new.fabric.now ring self.new.hand list.new e) }
     {
-        let backoff = Backoff::new();
+        let idle = Idle::new();
         for _ in rt.forever() {
             if list.len() == 0 {
                 return Ok(());
@@ -119,7 +119,7 @@ impl<'f, T: Tagged, S: Stored<T>> RingPort<'f, T, S> {
                 PutAnswer::Refused(hand, refusal) => {
                     self.hand = Some(hand);
                     match fault_of(refusal) {
-                        None => backoff.snooze(),
+                        None => idle.wait(rt),
                         Some(fault) => return Err(fault),
                     }
                 }
@@ -130,7 +130,7 @@ impl<'f, T: Tagged, S: Stored<T>> RingPort<'f, T, S> {
     }
 
     /// Takes at most `n` packets from a ring into an empty list, as many as there are; none if there are none.
-    pub(crate) fn receive<R: Wait>(
+    pub(crate) fn receive<R: Wait + Clock>(
         &mut self,
         rt: &R,
         ring: usize,

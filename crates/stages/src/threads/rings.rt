@@ -12,6 +12,7 @@ use settings::Settings;
 use stages_laws::Run;
 use std::alloc::Global;
 use std::sync::Wait;
+use std::time::Clock;
 use worker::{FREE, Packet, SPAN, put_all};
 
 /// The rings: free segments; packets before their verdict, at which workers peek; packets after it. `None` if out of
@@ -66,7 +67,7 @@ pub(crate) fn open_rings<J: Run>(
 }
 
 /// Puts these segments on their ring. Errors: they aren't the hand's, or the ring is worn.
-fn free_all<J: Run, T: Wait>(
+fn free_all<J: Run, T: Wait + Clock>(
     rt: &T,
     f: &Fabric<Packet<J>, SPAN>,
     mut hand: Hand<Packet<J>>,
@@ -86,7 +87,7 @@ fn free_all<J: Run, T: Wait>(
 }
 
 /// Puts all segments on their ring.
-pub(crate) fn fill<J: Run, T: Wait>(
+pub(crate) fn fill<J: Run, T: Wait + Clock>(
     rt: &T,
     f: &Fabric<Packet<J>, SPAN>,
     mut hand: Hand<Packet<J>>,

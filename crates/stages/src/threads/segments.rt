@@ -10,6 +10,7 @@ use burst::Burst;
 use mbuf::Chain;
 use stages_laws::Run;
 use std::sync::Wait;
+use std::time::Clock;
 use worker::{FREE, Packet, SPAN};
 
 /// Links free segments, from the first on, to one chain. `None` if there are none, or one of them isn't free.
@@ -34,7 +35,7 @@ pub(crate) fn link<J: Run>(got: &mut Burst<Packet<J>, SPAN>) -> Option<Chain>
 
 /// Appends the segments of a packet to those that are to be freed, which are freed if the list has no room for more.
 /// After an error the rest of these are lost.
-pub(crate) fn release<J: Run, R: Wait>(
+pub(crate) fn release<J: Run, R: Wait + Clock>(
     rt: &R,
     ring_port: &mut RingPort<'_, Packet<J>>,
     chain: Chain,
@@ -53,7 +54,7 @@ pub(crate) fn release<J: Run, R: Wait>(
 }
 
 /// Frees segments, and leaves the list empty.
-pub(crate) fn give_back<J: Run, R: Wait>(
+pub(crate) fn give_back<J: Run, R: Wait + Clock>(
     rt: &R,
     ring_port: &mut RingPort<'_, Packet<J>>,
     free: &mut Burst<Packet<J>, SPAN>,

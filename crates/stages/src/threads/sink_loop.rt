@@ -10,10 +10,11 @@ use run_parts::{Judged, Sink};
 use stages_laws::Run;
 use std::io::Write;
 use std::sync::Wait;
+use std::time::Clock;
 use worker::{OUTPUT, Packet, SPAN};
 
 /// Releases all packets whose turn it is, and frees their segments.
-fn let_go<J: Run, W: Write + Drop, T: Wait>(
+fn let_go<J: Run, W: Write + Drop, T: Wait + Clock>(
     rt: &T,
     ring_port: &mut RingPort<'_, Packet<J>>,
     sink: &mut Sink<J, W>,
@@ -31,7 +32,7 @@ fn let_go<J: Run, W: Write + Drop, T: Wait>(
 }
 
 /// Takes a packet: releases it at once if it is its turn, with those that waited for it; otherwise it waits.
-fn take_in<J: Run, W: Write + Drop, T: Wait>(
+fn take_in<J: Run, W: Write + Drop, T: Wait + Clock>(
     rt: &T,
     ring_port: &mut RingPort<'_, Packet<J>>,
     sink: &mut Sink<J, W>,
@@ -57,7 +58,7 @@ fn take_in<J: Run, W: Write + Drop, T: Wait>(
 }
 
 /// Handles an item from the output ring, and returns whether it is an end mark.
-fn handle<J: Run, W: Write + Drop, T: Wait>(
+fn handle<J: Run, W: Write + Drop, T: Wait + Clock>(
     rt: &T,
     ring_port: &mut RingPort<'_, Packet<J>>,
     sink: &mut Sink<J, W>,
@@ -84,7 +85,7 @@ fn handle<J: Run, W: Write + Drop, T: Wait>(
 }
 
 /// Handles what was received, in order; returns the number of end marks, and the first fault.
-fn handle_all<J: Run, W: Write + Drop, T: Wait>(
+fn handle_all<J: Run, W: Write + Drop, T: Wait + Clock>(
     rt: &T,
     ring_port: &mut RingPort<'_, Packet<J>>,
     sink: &mut Sink<J, W>,
@@ -119,7 +120,7 @@ fn handle_all<J: Run, W: Write + Drop, T: Wait>(
 
 /// Empties the output ring until it has received as many end marks as there are workers, whatever happens, unless a
 /// ring is worn. No packet that it finds stops it: packets continue to come, and their segments are freed.
-pub(crate) fn drain<J: Run, W: Write + Drop, T: Wait>(
+pub(crate) fn drain<J: Run, W: Write + Drop, T: Wait + Clock>(
     rt: &T,
     ring_port: &mut RingPort<'_, Packet<J>>,
     sink: &mut Sink<J, W>,
