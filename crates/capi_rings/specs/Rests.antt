@@ -1,5 +1,5 @@
 -- Closing rings, and what is left on them
-use Rattle.std.specs.Prelude.{◌≡◌, ◌≢◌, ℕ, ◌<◌, ◌≤◌, ◌⊎◌, ◌++◌, List, [], drop, length, take, IsSome, Ok, Err}
+use Rattle.std.specs.Prelude.{◌≡◌, ◌≢◌, ℕ, ◌<◌, ◌≤◌, ◌⊎◌, ◌++◌, List, [], drop, length, take, IsSome, None, Ok, Err}
 use Rattle.fabric.specs.Closed.{IsAll, IsLast, left, ring_count}
 use Rattle.fabric.specs.Hands.{pool_of, rings_of}
 use Rattle.capi_rings.specs.Codes.{Outcome}
@@ -19,7 +19,8 @@ pub record Closes (m : Member) (r : Rest) : Type 0 where
 
 -- why they were not
 abbrev pub RefusesClose : Member → Fault → Type 0
-RefusesClose m why = ((why ≡ fault.Open) × IsSome (member_view m).party.span) ⊎ (why ≡ fault.Shared)
+RefusesClose m why = ((why ≡ fault.Open) × IsSome (member_view m).party.span)
+    ⊎ ((why ≡ fault.Shared) × ((member_view m).party.span ≡ None))
 
 -- words that are left on a ring go to the front of the array, the oldest first; its other places are unchanged
 pub record Empties (ring : ℕ) (before after : List Word64) (count : ℕ) (r u : Rest) : Type 0 where
