@@ -1,4 +1,4 @@
-use Rattle.std.proofs.Common.{◌-◌, ◌≡◌, ◌∙◌, ap, length, refl, subst, sym}
+use Rattle.std.proofs.Common.{◌-◌, ◌≡◌, ◌∙◌, ap, arith, length, refl, subst, sym}
 use Rattle.word_pool.specs.Words.{cache_of}
 use Rattle.capi_pools.specs.Calls.{RefusesGet}
 use Rattle.capi_pools.proofs.Calls.{got_later, refused_later, same_then}
@@ -10,6 +10,7 @@ returns-in-Ok-draw-clause-exact c =
     let n = length c.args.into.now in
     let missing : n - c.len.result ≡ n - length (cache_of c.args.local.now) = ap (λ k. n - k) c.len.ensures in (
       refl,
+      (omega (arith, c.requires.short), c.requires.few),
       got_later c.args.f.now c.args.local.now c.draw.new.local c.draw-2.new.local n _ _ c.draw-2.new.into first.1 c.requires.short
           (ap length first.0) missing c.in-Ok-draw.ensures.got,
     )

@@ -1,4 +1,4 @@
-use Rattle.std.proofs.Common.{◌∙◌, Ok, Err, inr, refl, subst, sym}
+use Rattle.std.proofs.Common.{◌∙◌, Ok, Err, inr, refl, rules, subst, sym}
 use Rattle.pool_laws.specs.Calls.{PutsCached}
 use Rattle.word_pool.specs.Words.{cache_of, cache_size, view_of}
 use Rattle.capi_pools.specs.Members.{numbers_of}
@@ -19,6 +19,7 @@ returns-in-Ok-send-clause-exact c =
     let put = c.in-Ok-send.ensures in
     let moved = c.in-Ok-send.field-0 in (
       refl,
+      (search rules, search),
       reply.0,
       inr (record {
         passes = reply.1;
