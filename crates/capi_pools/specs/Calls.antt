@@ -24,8 +24,8 @@ abbrev pub IsBadCount : ℕ → Fault → Type 0
 IsBadCount n why = (why ≡ fault.Count) × ((n ≡ 0) ⊎ (512 < n))
 
 -- a count that a call takes
-abbrev pub IsCount : ℕ → Type 0
-IsCount n = (0 < n) × (n ≤ 512)
+abbrev pub IsGoodCount : ℕ → Type 0
+IsGoodCount n = (0 < n) × (n ≤ 512)
 
 module _ {G : Ghosts Number} {H : StoredGhosts (Option Number) Number}
     (l : LocalWords Number 1024 (Option Number) G H) where
@@ -80,7 +80,7 @@ module _ {G : Ghosts Number} {H : StoredGhosts (Option Number) Number} (f : Numb
 
   -- a get: it fills the array, or nothing is changed
   abbrev pub Gets : List Number → List Number → Outcome → Type 0
-  Gets before after (Ok count) = (count ≡ length before) × IsCount count × HasGot count after
+  Gets before after (Ok count) = (count ≡ length before) × IsGoodCount count × HasGot count after
   Gets before after (Err why) = (after ≡ before) × IsSame l m × RefusesGet (length before) why
 
   -- the numbers are cached, as the newest
@@ -107,7 +107,7 @@ module _ {G : Ghosts Number} {H : StoredGhosts (Option Number) Number} (f : Numb
 
   -- a put: the numbers are cached, or on the free ring, or nothing is changed
   abbrev pub Puts : List Number → Outcome → Type 0
-  Puts items (Ok count) = (count ≡ length items) × IsCount count × MayPut l items × (HasCached items ⊎ HasReturned items)
+  Puts items (Ok count) = (count ≡ length items) × IsGoodCount count × MayPut l items × (HasCached items ⊎ HasReturned items)
   Puts items (Err why) = IsSame l m × RefusesPut items why
 
   -- all that was cached is on the free ring, the oldest first, or the cache is as it was
@@ -119,14 +119,14 @@ module _ {G : Ghosts Number} {H : StoredGhosts (Option Number) Number} (f : Numb
 
   -- the numbers are on a ring, or nothing is changed
   abbrev pub PassesOn : ℕ → List Number → Outcome → Type 0
-  PassesOn ring items (Ok count) = (count ≡ length items) × IsCount count × SameRing l m × SameCache l m
+  PassesOn ring items (Ok count) = (count ≡ length items) × IsGoodCount count × SameRing l m × SameCache l m
       × (moved : Moved) × Sent f ring (cache_of l) items l m (Ok moved)
   PassesOn ring items (Err why) = IsSame l m × (IsBadCount (length items) why
       ⊎ ((reason : Refusal) × (why ≡ refusal_fault reason) × Sent f ring (cache_of l) items l m (Err reason)))
 
   -- numbers of a ring fill the array, and are the handle's own, or nothing is changed
   abbrev pub TakesOver : ℕ → List Number → List Number → Outcome → Type 0
-  TakesOver ring before after (Ok count) = (count ≡ length before) × IsCount count × SameRing l m × SameCache l m
+  TakesOver ring before after (Ok count) = (count ≡ length before) × IsGoodCount count × SameRing l m × SameCache l m
       × AreOwnBuffers numbers_of (view_of m) (after ++ cache_of m)
       × (moved : Moved) × Received f ring count l m (Ok moved) after
   TakesOver ring before after (Err why) = (after ≡ before) × IsSame l m × (IsBadCount (length before) why

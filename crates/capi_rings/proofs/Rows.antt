@@ -1,6 +1,6 @@
 -- Worked cases of what C passes and gets: codes, plans of rings, and what puts and takes are none
-use Rattle.std.proofs.Common.{◌≡◌, ◌≢◌, ◌<◌, ◌++◌, ℕ, suc, List, [], ◌∷◌, length, refl, sym, ◌∙◌, inl, inr, Option, Some, None, Ok, Err, true, false, arith}
-use Rattle.std.specs.Prelude.{pos, neg_ℤ}
+use Rattle.std.proofs.Common.{◌≡◌, ◌≢◌, ◌<◌, ◌++◌, ℕ, suc, List, [], ◌∷◌, length, refl, sym, ◌∙◌, inl, inr, Option, Some, None, Ok, Err, true, false, arith, subst}
+use Rattle.std.specs.Prelude.{IsSome, pos, neg_ℤ}
 use Rattle.geom.specs.declared.geometry.GeomFault.TheVariants.{NotPower, TooSmall, TooLarge}
 use Rattle.geom.specs.declared.plan.How.{How}
 use Rattle.geom.specs.declared.plan.How.TheVariants.{Bulk, Burst}
@@ -16,8 +16,11 @@ use Rattle.capi_rings.specs.Codes.{code_of}
 use Rattle.capi_rings.specs.Finishes.{DoesNotFit}
 use Rattle.capi_rings.specs.Members.{Rings}
 use Rattle.capi_rings.specs.Plans.{extent_asked, mode_asked, plan_asked}
+use Rattle.capi_rings.specs.Rests.{RefusesClose}
+use Rattle.capi_rings.specs.RingCalls.{member_view}
 use Rattle.capi_rings.specs.Spans.{HasReserved, HasSettled, IsAsked, IsEarly, room_of, start_fault}
 use Rattle.capi_rings.specs.declared.fault.Fault.TheVariants as fault
+use Rattle.capi_rings.specs.declared.member.Member.{Member}
 use Rattle.capi_rings.specs.declared.opening.Asked.{Asked}
 use Rattle.capi_rings.specs.declared.word64.Word64.{Word64}
 
@@ -208,3 +211,12 @@ module _ (f : Rings) (how : How) (v w : View Word64) (a b c d : Word64) where
   -- a put by bulk that published fewer than the array has
   publishes_a_part : Puts f Bulk 0 v (a ∷ b ∷ []) 0 w (Ok 1) → ⊥
   publishes_a_part is = absurd (omega (arith, is.many, is.reserved.asked))
+
+-- a close with a span open isn't refused as shared, and one without isn't refused as open
+not_shared : (m : Member) (span : Span) → (member_view m).party.span ≡ Some span → RefusesClose m fault.Shared → ⊥
+not_shared m span was (inl (is, _)) = cc
+not_shared m span was (inr (_, idle)) = cc
+
+without_a_span : (m : Member) → (member_view m).party.span ≡ None → RefusesClose m fault.Open → ⊥
+without_a_span m idle (inl (_, some)) = let e : false ≡ true = subst IsSome idle some in cc
+without_a_span m idle (inr (is, _)) = cc

@@ -22,7 +22,7 @@ impl Idle {
         }
     }
 
-    /// A pause, a longer one each time.
+    /// A pause: spins that grow, then a few yields, then a sleep each time.
     pub fn wait<R: Clock>(&self, rt: &R) {
         if self.backoff.is_completed() {
             thread::sleep(rt, Duration::from_micros(NAP));

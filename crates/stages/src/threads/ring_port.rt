@@ -72,7 +72,7 @@ impl<'f, T: Tagged, S: Stored<T>> RingPort<'f, T, S> {
 
     /// Takes `n` free segments into an empty list, or none if their ring has fewer. Returns whether it took them.
     /// Errors: the ring is worn.
-    pub(crate) fn get<R: Wait + Clock>(
+    pub(crate) fn get<R: Wait>(
         &mut self,
         rt: &R,
         n: usize,
@@ -130,7 +130,7 @@ impl<'f, T: Tagged, S: Stored<T>> RingPort<'f, T, S> {
     }
 
     /// Takes at most `n` packets from a ring into an empty list, as many as there are; none if there are none.
-    pub(crate) fn receive<R: Wait + Clock>(
+    pub(crate) fn receive<R: Wait>(
         &mut self,
         rt: &R,
         ring: usize,

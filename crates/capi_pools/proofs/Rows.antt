@@ -1,0 +1,22 @@
+-- Worked cases of counts that calls on a pool of numbers take, and don't take
+use Rattle.std.proofs.Common.{◌≡◌, ℕ, arith, inl, inr, refl}
+use Rattle.capi_rings.specs.declared.fault.Fault.TheVariants as fault
+use Rattle.capi_pools.specs.Calls.{IsBadCount, IsGoodCount}
+
+one : IsGoodCount 1
+one = (omega arith, omega arith)
+
+most : IsGoodCount 512
+most = (omega arith, omega arith)
+
+none : IsBadCount 0 fault.Count
+none = (refl, inl refl)
+
+above : IsBadCount 513 fault.Count
+above = (refl, inr (omega arith))
+
+not_none : IsGoodCount 0 → ⊥
+not_none is = absurd (omega (arith, is.0))
+
+not_above : IsGoodCount 513 → ⊥
+not_above is = absurd (omega (arith, is.1))
