@@ -10,8 +10,9 @@
  * says otherwise, a code means that nothing was changed: no handle, no array, no ring. No call ends the process,
  * blocks, sleeps or loops without a limit.
  *
- * MEMORY. Only calls marked [memory] allocate memory, with malloc and realloc of the C library. If they return
- * HK_E_MEMORY, nothing was changed. Freeing a handle frees its memory; freeing the last one also frees what they share.
+ * MEMORY. Only calls marked [memory] allocate memory, with aligned_alloc of the C library: a block begins on a cache
+ * line. If they return HK_E_MEMORY, nothing was changed. Freeing a handle frees its memory; freeing the last one also
+ * frees what they share.
  *
  * WHAT A CALL CAN'T SEE, and the caller must avoid: a handle that was freed; one handle in two calls at once; an array
  * with fewer places than the count that is given, or that overlaps another argument; a call from a signal handler, or

@@ -1,14 +1,12 @@
 /* Each request for memory is refused once: the call says HK_E_MEMORY, and nothing is lost. Then every request after the
- * openings is refused: the calls that take no memory go on. Linked with --wrap for malloc, realloc and free. */
+ * openings is refused: the calls that take no memory go on. Linked with --wrap for aligned_alloc and free. */
 #include "tests.h"
 
 #include <stdlib.h>
 
-extern void *__real_malloc(size_t);
-extern void *__real_realloc(void *, size_t);
+extern void *__real_aligned_alloc(size_t, size_t);
 extern void __real_free(void *);
-void *__wrap_malloc(size_t);
-void *__wrap_realloc(void *, size_t);
+void *__wrap_aligned_alloc(size_t, size_t);
 void __wrap_free(void *);
 
 static long count, from, to, live;
@@ -18,17 +16,10 @@ static int is_refused(void) {
     return count >= from && count < to;
 }
 
-void *__wrap_malloc(size_t n) {
+void *__wrap_aligned_alloc(size_t unit, size_t n) {
     if (is_refused()) return NULL;
-    void *at = __real_malloc(n);
+    void *at = __real_aligned_alloc(unit, n);
     live += at != NULL;
-    return at;
-}
-
-void *__wrap_realloc(void *was, size_t n) {
-    if (is_refused()) return NULL;
-    void *at = __real_realloc(was, n);
-    live += at != NULL && was == NULL;
     return at;
 }
 
@@ -123,6 +114,7 @@ static void call_all(struct all *all) {
 int main(void) {
     struct all all;
     open_all(&all);
+    IS((uintptr_t)all.hand % 64, 0), IS((uintptr_t)all.routes % 64, 0);
     free_all(&all);
     IS(said, 0), IS(other, 0), IS(live, 0);
     long requests = count;
