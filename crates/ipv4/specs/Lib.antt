@@ -4,4 +4,5 @@ pub mod Fields
 pub mod Forwarding
 pub mod Head
 pub mod Ports
+pub mod Prefetched
 pub mod Reasons

@@ -1,12 +1,14 @@
 //! Forwarding of packets, even if a segment boundary splits the header.
-ghost use Rattle.std.specs.Prelude.{◌≡◌, ◌≤◌, length, take};
+ghost use Rattle.std.specs.Prelude.{◌≡◌, ◌≤◌, IfSome, length, take};
 ghost use Rattle.mbuf.specs.Buffer.{overwritten};
 ghost use Rattle.mbuf.specs.Chain.{bytes_of, shape_of, HasSameSegments};
 ghost use Rattle.ipv4.specs.Forwarding.{forwarded};
+ghost use Rattle.ipv4.specs.Prefetched.{IsPrefetched};
 
 use crate::frame::{forward_frame, verdict_of_frame};
 use crate::head::{MAX_HEAD, is_enough};
 use crate::ports::Ports;
+use crate::prefetched::Prefetched;
 use crate::verdicts::Verdict;
 use lpm::Table;
 use mbuf::Chain;
@@ -30,8 +32,6 @@ pub fn verdict(table: &Table, ports: &Ports, chain: &Chain, wire: usize) -> Verd
 /// The verdict on the frame, which is rewritten in place as it leaves if it is sent: its two addresses, its time to
 /// live and its checksum. A dropped frame is unchanged, and nothing else in the segments changes. Requires: `wire` is
 /// at least the number of bytes in the chain. Takes no memory.
-///
-/// A header that is in the first segment is read and written there; any other is gathered and written back.
 #[inline]
 pub fn forward(chain: &mut Chain, table: &Table, ports: &Ports, wire: usize) -> Verdict
     requires { length (bytes_of chain.old) ≤ wire }
@@ -40,9 +40,30 @@ pub fn forward(chain: &mut Chain, table: &Table, ports: &Ports, wire: usize) -> 
     ensures shape { shape_of chain.new ≡ shape_of chain.old }
     ensures kept { HasSameSegments chain.new chain.old }
 {
+    forward_prefetched(chain, table, ports, wire, None)
+}
+
+/// `forward`, where an earlier lookup of the frame's destination saves one.
+///
+/// A header that is in the first segment is read and written there; any other is gathered and written back.
+#[inline]
+pub fn forward_prefetched(
+    chain: &mut Chain,
+    table: &Table,
+    ports: &Ports,
+    wire: usize,
+    prefetched: Option<Prefetched>,
+) -> Verdict
+    requires wire { length (bytes_of chain.old) ≤ wire }
+    requires prefetched { IfSome prefetched (IsPrefetched table.now.members) }
+    ensures verdict { result ≡ (forwarded table.now.members ports.now (bytes_of chain.old) wire).verdict }
+    ensures frame { bytes_of chain.new ≡ (forwarded table.now.members ports.now (bytes_of chain.old) wire).frame }
+    ensures shape { shape_of chain.new ≡ shape_of chain.old }
+    ensures kept { HasSameSegments chain.new chain.old }
+{
     prove!(chain.segments() > 0);
     if is_enough(chain.part(0), chain.len()) {
-        forward_frame(chain.part_mut(0), table, ports, wire)
+        forward_frame(chain.part_mut(0), table, ports, wire, prefetched)
     } else {
         forward_gathered(chain, table, ports, wire)
     }
@@ -72,7 +93,7 @@ fn forward_gathered(chain: &mut Chain, table: &Table, ports: &Ports, wire: usize
     let mut room = [0; MAX_HEAD];
     let head = &mut room[..chain.len().min(MAX_HEAD)];
     gather(chain, head);
-    let verdict = forward_frame(head, table, ports, wire);
+    let verdict = forward_frame(head, table, ports, wire, None);
     write_back(chain, head);
     verdict
 }

@@ -1,20 +1,29 @@
 //! The verdict on a frame whose header is contiguous.
-ghost use Rattle.std.specs.Prelude.{◌≡◌, ◌≤◌, ◌==◌, length};
+ghost use Rattle.std.specs.Prelude.{◌≡◌, ◌≤◌, ◌==◌, IfSome, length};
 ghost use Rattle.ipv4.specs.Checksum.{ones_complement_sum};
 ghost use Rattle.ipv4.specs.Fields.{header_len, header_of};
 ghost use Rattle.ipv4.specs.Forwarding.{judged, way_from};
+ghost use Rattle.ipv4.specs.Prefetched.{IsPrefetched};
 
 use crate::checksum::sum16;
 use crate::fields::{ETHERNET, IPV4, SHORTEST, destination_of, header_len, offset_of, word_at};
 use crate::ports::{Ports, Way};
+use crate::prefetched::{Prefetched, next_hop};
 use crate::verdicts::Reason;
 use lpm::Table;
 
 /// The way of the frame, or why it is dropped, tested in the order of the table of reasons.
 #[inline]
 #[tactic(auto, unfolding(crate::specs::Forwarding::judged))]
-pub(crate) fn judge(frame: &[u8], table: &Table, ports: &Ports, wire: usize) -> Result<Way, Reason>
-    requires { length frame.now ≤ wire }
+pub(crate) fn judge(
+    frame: &[u8],
+    table: &Table,
+    ports: &Ports,
+    wire: usize,
+    prefetched: Option<Prefetched>,
+) -> Result<Way, Reason>
+    requires wire { length frame.now ≤ wire }
+    requires prefetched { IfSome prefetched (IsPrefetched table.now.members) }
     ensures { result ≡ judged table.now.members ports.now frame.now wire }
 {
     if frame.len() < ETHERNET {
@@ -54,7 +63,7 @@ pub(crate) fn judge(frame: &[u8], table: &Table, ports: &Ports, wire: usize) -> 
     if packet[8] < 2 {
         return Err(Reason::Expired);
     }
-    way_from(packet, table, ports).ok_or(Reason::NoRoute)
+    way_from(packet, table, ports, prefetched).ok_or(Reason::NoRoute)
 }
 
 /// Whether the header's checksum is right.
@@ -69,10 +78,16 @@ fn is_summed(packet: &[u8], len: usize) -> bool
 
 /// Where the longest match of the packet's destination leads.
 #[inline(always)]
-fn way_from(packet: &[u8], table: &Table, ports: &Ports) -> Option<Way>
-    requires { 20 ≤ length packet.now }
+fn way_from(
+    packet: &[u8],
+    table: &Table,
+    ports: &Ports,
+    prefetched: Option<Prefetched>,
+) -> Option<Way>
+    requires whole { 20 ≤ length packet.now }
+    requires prefetched { IfSome prefetched (IsPrefetched table.now.members) }
     ensures { result ≡ way_from table.now.members ports.now packet.now }
 {
-    let hop = table.lookup(destination_of(packet))?;
+    let hop = next_hop(table, prefetched, destination_of(packet))?;
     ports.way(hop)
 }

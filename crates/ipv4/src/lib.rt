@@ -22,12 +22,14 @@ mod head;
 mod judge;
 mod laws;
 mod ports;
+mod prefetched;
 mod rewrite;
 mod verdicts;
 
-pub use chains::{forward, verdict};
+pub use chains::{forward, forward_prefetched, verdict};
 pub use checksum::sum16;
 pub use frame::forward_frame;
 pub use laws::{a_frame_is_sent_by_a_port, a_sent_frame_is_right, a_sent_frame_is_sent_again};
 pub use ports::{Hop, MAX_PORTS, Ports};
+pub use prefetched::{LOOKUPS, Lookups, Prefetched, presumed_destination};
 pub use verdicts::{Reason, Verdict};

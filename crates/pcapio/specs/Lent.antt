@@ -17,6 +17,10 @@ pub record IsBuffered {R : Type 0} (r : Reader R) : Type 0 where
   pub pending : pending_of r ≡ Some head
   pub whole : 16 + head.captured ≤ length (items r.ahead)
 
+-- the bytes in the reader's buffer that are still to come
+abbrev pub buffered_of : {R : Type 0} → Reader R → List ℕ
+buffered_of r = items r.ahead
+
 -- the reader after it lent the bytes of the pending record, where these were written
 abbrev pub after_lent : {R : Type 0} → Reader R → List ℕ → Reader R
 after_lent r written =

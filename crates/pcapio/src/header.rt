@@ -20,9 +20,9 @@ fn short_field(order: ByteOrder, bytes: &[u8], offset: usize) -> u16
     }
 }
 
-/// The number in four bytes.
+/// The number in four bytes, from byte `offset` on.
 #[inline]
-pub(crate) fn field(order: ByteOrder, bytes: &[u8], offset: usize) -> u32
+pub fn field(order: ByteOrder, bytes: &[u8], offset: usize) -> u32
     requires { offset + 4 ≤ length bytes.now }
     ensures { result ≡ field order offset bytes.now }
 {

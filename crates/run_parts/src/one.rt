@@ -11,6 +11,7 @@ ghost use Rattle.run_parts.specs.Tallies.{fates_of};
 ghost use Rattle.run_parts.specs.Whole.{IsRun, IsBegun, IsUntouched, WhyStoppedAt, WhyNoSummary};
 
 mod lent;
+mod lookahead;
 mod record_chain;
 mod single;
 

@@ -1,9 +1,10 @@
 //! A worker of a run: it gives each packet its verdict.
-ghost use Rattle.std.specs.Prelude.{◌≡◌, ◌<◌, ◌≤◌, [], length, take, vec_len, IfOk, IfErr, true, false};
+ghost use Rattle.std.specs.Prelude.{◌≡◌, ◌<◌, ◌≤◌, [], length, take, vec_len, IfOk, IfErr, IfSome, true, false};
 ghost use Rattle.geom.specs.declared.plan.Side.TheVariants.{Take};
 ghost use Rattle.fabric.specs.Hands.{IsHandOf, rings_of, view};
 ghost use Rattle.fabric.specs.Views.{IsWornAt};
 ghost use Rattle.ipv4.specs.Forwarding.{forwarded};
+ghost use Rattle.ipv4.specs.Prefetched.{AreLookedUp, IsPrefetched};
 ghost use Rattle.list_calls.specs.Holdings.{HasMore};
 ghost use Rattle.list_calls.specs.Views.{HasSettled};
 ghost use Rattle.worker.specs.Judging.{AllPairs, HasWorked, IsJudged, has_mark, is_mark, until_mark};
@@ -18,7 +19,7 @@ use crate::rings::{INPUT, OUTPUT, SPAN};
 use burst::{Burst, Tagged};
 use fabric::{Fabric, Hand, StartFault, Stored};
 use geom::How;
-use ipv4::Ports;
+use ipv4::{LOOKUPS, Lookups, Ports, Prefetched, presumed_destination};
 use list_calls::peek_take_into;
 use lpm::Table;
 use stages_laws::Run;
@@ -35,7 +36,14 @@ pub struct Worked<T: Tagged, S: Stored<T> = Option<T>> {
 }
 
 /// What becomes of a packet.
-fn judge<J: Run, G: Gate>(gate: &G, packet: Packet<J>, table: &Table, ports: &Ports) -> Packet<J>
+fn judge<J: Run, G: Gate>(
+    gate: &G,
+    packet: Packet<J>,
+    table: &Table,
+    ports: &Ports,
+    prefetched: Option<Prefetched>,
+) -> Packet<J>
+    requires prefetched { IfSome prefetched (IsPrefetched table.now.members) }
     requires rules { forwarded table.now.members ports.now ≡ J.forwarding }
     requires ports { vec_len ports.now.sources ≡ length J.before }
     ensures judged { IsJudged J.forwarding packet result }
@@ -45,7 +53,7 @@ fn judge<J: Run, G: Gate>(gate: &G, packet: Packet<J>, table: &Table, ports: &Po
         Packet::Before(packet) => {
             let seq = packet.seq;
             gate.enter(seq);
-            let judged = packet.judge(table, ports);
+            let judged = packet.judge(table, ports, prefetched);
             gate.leave(seq);
             Packet::After(judged)
         }
@@ -124,6 +132,23 @@ fn take_batch<J: Run, R: Wait + Clock>(
     unreachable!()
 }
 
+/// Looks up the destinations of packets that have no verdict yet, as far as they are where an untagged frame has them.
+fn look_up<J: Run>(items: &Burst<Packet<J>, SPAN>, table: &Table) -> Lookups
+    ensures { AreLookedUp table.now.members result }
+{
+    let mut addresses = [0; LOOKUPS];
+    for i in 0..LOOKUPS {
+        match items.get(i) {
+            Some(Packet::Before(packet)) => {
+                prove!(packet.chain.segments() > 0);
+                addresses[i] = presumed_destination(packet.chain.part(0));
+            }
+            _ => (),
+        }
+    }
+    Lookups::of(table, addresses)
+}
+
 /// Judges packets, in order, into an empty list. Returns whether one of them is an end mark.
 fn judge_all<J: Run, G: Gate>(
     gate: &G,
@@ -142,9 +167,11 @@ fn judge_all<J: Run, G: Gate>(
     let mut ended = false;
     items.reverse();
     prove!(items.len() <= SPAN);
+    let lookups = look_up(items, table);
     while let Some(packet) = items.pop() {
+        let earlier = lookups.get(items.len());
         ended = ended | is_end(&packet);
-        out.push(judge(gate, packet, table, ports));
+        out.push(judge(gate, packet, table, ports, earlier));
     }
     ended
 }

@@ -1,7 +1,7 @@
 //! The bytes of the pending record, lent in place if the reader has all of them in its buffer.
 ghost use Rattle.std.specs.Prelude.{◌≡◌, ◌↔◌, IsTrue, IfSome};
 ghost use Rattle.std.specs.Borrow.{sem};
-ghost use Rattle.pcapio.specs.Lent.{IsBuffered, LendsBody, TakesInPlace};
+ghost use Rattle.pcapio.specs.Lent.{IsBuffered, LendsBody, TakesInPlace, buffered_of};
 ghost use Rattle.pcapio.specs.Reader.{pending_of};
 
 use crate::reader::Reader;
@@ -19,6 +19,14 @@ impl<R: Read> Reader<R> {
             ReaderState::Pending(head) => self.ahead.len() >= HEAD + head.captured as usize,
             _ => false,
         }
+    }
+
+    /// The bytes in the reader's buffer that are still to come: if a head is pending, from its record's header on.
+    #[inline]
+    pub fn buffered(&self) -> &[u8]
+        ensures { result.now ≡ buffered_of self.now }
+    {
+        self.ahead.as_slice()
     }
 
     /// Takes the pending record, and lends its bytes where they are, in the reader's buffer: they may be changed there,

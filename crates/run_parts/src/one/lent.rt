@@ -2,6 +2,7 @@
 ghost use Rattle.std.specs.Prelude.{◌≡◌, ◌≤◌, ◌<◌, ◌*◌, ◌+◌, ◌-◌, ◌^◌, None, length, vec_len};
 ghost use Rattle.counters.specs.Tally.{records_of};
 ghost use Rattle.ipv4.specs.Forwarding.{forwarded};
+ghost use Rattle.ipv4.specs.Prefetched.{AreLookedUp};
 ghost use Rattle.pcapio.specs.Counted.{HasNotFailed};
 ghost use Rattle.pcapio.specs.Lent.{IsBuffered};
 ghost use Rattle.pcapio.specs.Reader.{state_of, source_of};
@@ -9,6 +10,7 @@ ghost use Rattle.pcapio.specs.declared.reader_state.ReaderState.TheVariants.{Bet
 ghost use Rattle.run_parts.specs.SoFar.{HasRead};
 ghost use Rattle.run_parts.specs.Turns.{IsVacant};
 
+use crate::one::lookahead::Lookahead;
 use crate::records::read_state::ReadState;
 use crate::sink::Sink;
 use ipv4::{Ports, forward_frame};
@@ -26,6 +28,7 @@ pub(crate) fn forward_lent<J: Run, R: Read, W: Write + Drop>(
     head: Head,
     table: &Table,
     ports: &Ports,
+    ahead: &mut Lookahead,
 )
     requires pending { state_of reader.old ≡ Pending head }
     requires buffered { IsBuffered reader.old }
@@ -37,6 +40,7 @@ pub(crate) fn forward_lent<J: Run, R: Read, W: Write + Drop>(
     requires turn { sink.old.window.next ≡ progress.old.count }
     requires vacant { IsVacant sink.old.window }
     requires no_failure { sink.old.outputs.failed ≡ None }
+    requires looked_up { AreLookedUp table.now.members ahead.old.lookups }
     ensures read { HasRead R.remaining J.input J.room (length J.before) reader.new progress.new }
     ensures between { state_of reader.new ≡ Between }
     ensures count { progress.new.count ≡ progress.old.count + 1 }
@@ -45,9 +49,12 @@ pub(crate) fn forward_lent<J: Run, R: Read, W: Write + Drop>(
     ensures turn { sink.new.window.next ≡ progress.new.count }
     ensures vacant { IsVacant sink.new.window }
     ensures length { vec_len sink.new.outputs.writers ≡ vec_len sink.old.outputs.writers }
+    ensures looked_up { AreLookedUp table.now.members ahead.new.lookups }
 {
+    let order = reader.order();
+    let earlier = ahead.next(reader.buffered(), order, table);
     let frame = reader.lend();
-    let verdict = forward_frame(frame, table, ports, head.wire as usize);
+    let verdict = forward_frame(frame, table, ports, head.wire as usize, earlier);
     sink.forward_frame(progress.count, head, verdict, frame);
     progress.count += 1;
 }

@@ -11,6 +11,7 @@ ghost use Rattle.run_parts.specs.Turns.{IsVacant, WhyStopped};
 
 use crate::fault::RunFault;
 use crate::one::lent::forward_lent;
+use crate::one::lookahead::Lookahead;
 use crate::one::record_chain::RecordChains;
 use crate::records::input_totals::InputTotals;
 use crate::records::next_record::NextRecord;
@@ -51,6 +52,7 @@ pub(crate) fn forward_all<J: Run, R: Read, W: Write + Drop>(
     ensures cause { IfErr result (WhyStopped J.input reader.old reader.new sink.new.outputs.failed) }
 {
     let mut progress = ReadState::new(ports.sources.len());
+    let mut ahead = Lookahead::new(table);
     // one record per turn: the result for an input with 2^64 - 1 records or more is `Window`
     for _turn in 0..u64::MAX {
         let head = match look::<J, R>(reader, &mut progress, room) {
@@ -60,7 +62,7 @@ pub(crate) fn forward_all<J: Run, R: Read, W: Write + Drop>(
             Err(fault) => return Err(fault),
         };
         if reader.is_buffered() {
-            forward_lent(reader, sink, &mut progress, head, table, ports);
+            forward_lent(reader, sink, &mut progress, head, table, ports, &mut ahead);
             if let Some(port) = sink.outputs.failed {
                 return Err(RunFault::Write(port));
             }
@@ -72,7 +74,7 @@ pub(crate) fn forward_all<J: Run, R: Read, W: Write + Drop>(
             Ok(None) => return Ok(progress.into_totals(true)),
             Err(fault) => return Err(fault),
         };
-        let back = sink.forward(packet.judge(table, ports));
+        let back = sink.forward(packet.judge(table, ports, None));
         chains = RecordChains::rejoin(back, other, is_long);
         if let Some(port) = sink.outputs.failed {
             return Err(RunFault::Write(port));

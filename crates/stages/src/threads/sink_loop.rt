@@ -84,6 +84,26 @@ fn handle<J: Run, W: Write + Drop, T: Wait + Clock>(
     }
 }
 
+/// Reads a byte of each packet. Another thread wrote these bytes, so the processor waits for memory here: for all of
+/// them together, and not again and again when each packet is copied. What it returns has no meaning, but if it weren't
+/// looked at, the compiler would leave the reads out.
+fn fetch<J: Run>(items: &Burst<Packet<J>, SPAN>) -> u64 {
+    let mut bytes = 0u64;
+    for i in 0..items.len() {
+        match items.get(i) {
+            Some(Packet::After(packet)) => {
+                prove!(packet.chain.segments() > 0);
+                match packet.chain.part(0).first() {
+                    Some(byte) => bytes = (bytes << 1) ^ u64::from(*byte),
+                    None => (),
+                }
+            }
+            _ => (),
+        }
+    }
+    bytes
+}
+
 /// Handles what was received, in order; returns the number of end marks, and the first fault.
 fn handle_all<J: Run, W: Write + Drop, T: Wait + Clock>(
     rt: &T,
@@ -146,6 +166,9 @@ pub(crate) fn drain<J: Run, W: Write + Drop, T: Wait + Clock>(
             continue;
         }
         backoff.reset();
+        if fetch(&items) == u64::MAX {
+            backoff.snooze();
+        }
         let (marks, found) = handle_all(rt, ring_port, sink, &mut items, &mut free);
         // a worker passes one mark on; no clause states that there are no more of them than workers
         left = left.saturating_sub(marks);

@@ -6,8 +6,8 @@ use Rattle.run_parts.specs.Turns.{IsVacant}
 use Rattle.run_parts.proofs.LentTurn.{lent_wire, lent_read, lent_fate}
 use Rattle.run_parts.proofs.one.lent.forward_lent.Goals as goal
 
-pub forward_frame-verdict-requires : goal.forward_frame-verdict-requires
-forward_frame-verdict-requires g c =
+pub forward_frame-verdict-requires-clause-wire : goal.forward_frame-verdict-requires-clause-wire
+forward_frame-verdict-requires-clause-wire g c =
     lent_wire g.R.Read.remaining c.args.reader.now _ c.args.head c.lend-frame.result.now c.requires.pending (c.lend-frame.ensures.record c.lend-frame.result.now refl)
 
 pub forward_frame-requires-clause-is : goal.forward_frame-requires-clause-is

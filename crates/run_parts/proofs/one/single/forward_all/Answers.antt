@@ -27,6 +27,7 @@ loop-turn-init g c =
       space = search rules;
       writers = refl;
       well = c.requires.no_failure;
+      looked_up = c.new-ahead.ensures;
     }
 
 pub returns-in-Err-clause-cause : goal.returns-in-Err-clause-cause
@@ -67,6 +68,7 @@ loop-turn-preserved g c =
           omega (arith, long, i.space);
       writers = c.forward-back.ensures.length ∙ i.writers;
       well = c.in_default-failed.is;
+      looked_up = i.looked_up;
     }
 
 pub returns-clause-cause : goal.returns-clause-cause

@@ -1,6 +1,7 @@
 use Rattle.std.proofs.Common.{◌≡◌, ◌≤◌, ◌+◌, ◌*◌, None, length, vec_len}
 use Rattle.std.specs.Prelude.{min}
 use Rattle.counters.specs.Tally.{records_of}
+use Rattle.ipv4.specs.Prefetched.{AreLookedUp}
 use Rattle.mbuf.specs.Chain.{space_of}
 use Rattle.pcapio.specs.Counted.{HasNotFailed}
 use Rattle.pcapio.specs.Reader.{state_of, source_of}
@@ -20,4 +21,5 @@ invariant-loop-turn g l = record {
   space : min (64 * l.room) 262144 ≤ space_of l.chains.long;
   writers : vec_len l.sink.outputs.writers ≡ vec_len l.fn.sink.outputs.writers;
   well : l.sink.outputs.failed ≡ None;
+  looked_up : AreLookedUp l.table.members l.ahead.lookups;
 }

@@ -12,14 +12,14 @@ pub invariant_of-result : goal.invariant_of-result
 invariant_of-result g c =
     let x = c.args.self in
     let bytes = bytes_of x.chain in
-    let frame = c.forward-verdict.ensures.frame ∙ ap (λ f. (f bytes x.wire).frame) c.requires.rules in
+    let frame = c.forward_prefetched-verdict.ensures.frame ∙ ap (λ f. (f bytes x.wire).frame) c.requires.rules in
     let many : length c.args.ports.now.sources.items ≡ length g.J.Run.before = omega (arith, c.args.ports.now.sources.ok.0, c.requires.ports) in
     record {
       is = judged_is g.J.Run.forwarding g.J.Run.room g.J.Run.input x.seq (packet_in x.seconds x.fraction x.wire x.chain)
-          (packet_in x.seconds x.fraction x.wire c.forward-verdict.new.chain) c.forward-verdict.result x.is
-          (c.forward-verdict.ensures.verdict ∙ ap (λ f. (f bytes x.wire).verdict) c.requires.rules)
+          (packet_in x.seconds x.fraction x.wire c.forward_prefetched-verdict.new.chain) c.forward_prefetched-verdict.result x.is
+          (c.forward_prefetched-verdict.ensures.verdict ∙ ap (λ f. (f bytes x.wire).verdict) c.requires.rules)
           (λ k. record { seconds = x.seconds; fraction = x.fraction; wire = x.wire; bytes = frame k });
-      port = subst (HasPort (length g.J.Run.before)) (sym c.forward-verdict.ensures.verdict)
+      port = subst (HasPort (length g.J.Run.before)) (sym c.forward_prefetched-verdict.ensures.verdict)
           (subst (λ n. HasPort n (forwarded c.args.table.now.members c.args.ports.now bytes x.wire).verdict) many
           (sent_by_a_port c.args.table.now.members c.args.ports.now bytes x.wire));
     }
@@ -28,10 +28,10 @@ pub returns-clause-judged : goal.returns-clause-judged
 returns-clause-judged g c =
     let x = c.args.self in
     let bytes = bytes_of x.chain in
-    let frame = c.forward-verdict.ensures.frame ∙ ap (λ f. (f bytes x.wire).frame) c.requires.rules in
-    let verdict = c.forward-verdict.ensures.verdict ∙ ap (λ f. (f bytes x.wire).verdict) c.requires.rules in
+    let frame = c.forward_prefetched-verdict.ensures.frame ∙ ap (λ f. (f bytes x.wire).frame) c.requires.rules in
+    let verdict = c.forward_prefetched-verdict.ensures.verdict ∙ ap (λ f. (f bytes x.wire).verdict) c.requires.rules in
     record {
       seq = refl;
       fate = λ k. fate_with (verdict k) (record { seconds = x.seconds; fraction = x.fraction; wire = x.wire; bytes = frame k });
-      numbers = numbers_kept _ _ c.forward-verdict.ensures.kept;
+      numbers = numbers_kept _ _ c.forward_prefetched-verdict.ensures.kept;
     }

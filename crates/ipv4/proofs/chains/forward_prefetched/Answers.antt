@@ -2,7 +2,7 @@ use Rattle.std.proofs.Common.{◌≡◌, ℕ, List, ◌++◌, length, drop, refl
 use Rattle.mbuf.specs.Chain.{bytes_of}
 use Rattle.ipv4.proofs.Heads.{IsEnough, verdict_of_front, frame_of_front}
 use Rattle.ipv4.proofs.Fronts.{shape_rewritten}
-use Rattle.ipv4.proofs.chains.forward.Goals as goal
+use Rattle.ipv4.proofs.chains.forward_prefetched.Goals as goal
 
 pub returns-then-is_enough-clause-verdict : goal.returns-then-is_enough-clause-verdict
 returns-then-is_enough-clause-verdict c =
