@@ -169,6 +169,7 @@ fn judge_all<J: Run, G: Gate>(
     prove!(items.len() <= SPAN);
     let lookups = look_up(items, table);
     while let Some(packet) = items.pop() {
+        // the index that the packet had in the list
         let earlier = lookups.get(items.len());
         ended = ended | is_end(&packet);
         out.push(judge(gate, packet, table, ports, earlier));
