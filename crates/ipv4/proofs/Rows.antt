@@ -1,8 +1,11 @@
 -- Worked frames, computed by the definitions: each row of the table of drops, each pair of tests that both hold, and
 -- what is sent.
-use Rattle.std.proofs.Common.{◌≡◌, ℕ, List, [], ◌∷◌, ◌++◌, true, false, take, replicate, Option, Some, None, slice_get, refl, ap}
+use Rattle.std.proofs.Common.{◌≡◌, ℕ, List, [], ◌∷◌, ◌++◌, true, false, take, replicate, Option, Some, None, slice_get, get_or, refl, sym, ap, ◌∙◌, arith}
+use Rattle.std.proofs.lemmas.Option.{none-some, same_Some}
 use Rattle.std.specs.Option.{option_map, option_and_then}
+use Rattle.lpm.specs.Match.{lookup_in}
 use Rattle.lpm.specs.Prefixes.{Members}
+use Rattle.ipv4.specs.Prefetched.{AreLookedUp, IsPrefetched}
 use Rattle.ipv4.specs.declared.ports.Hop.{Hop}
 use Rattle.ipv4.specs.declared.ports.Ports.{Ports}
 use Rattle.ipv4.specs.declared.ports.Way.{Way}
@@ -201,3 +204,18 @@ expired : (routes : Members) (ports : Ports) → let frame =
     plain (header 0x45 0x14 0x01 0xa3 0xd5) in forwarded routes ports frame 34 ≡ record { verdict = Verdict.Drop Reason.Expired; frame = frame }
 unfolding ones_complement_sum header plain judged
 expired routes ports = refl
+
+-- lookups ahead, where 10.1.2.3 has a route by hop 7, and 11.1.2.3 none
+ahead : (routes : Members) → lookup_in routes 0x0a010203 ≡ Some 7 → IsPrefetched routes (record { address = 0x0a010203; hop = Some 7 })
+ahead routes found = sym found
+
+another_hop : (routes : Members) → lookup_in routes 0x0a010203 ≡ Some 7 → ¬ IsPrefetched routes (record { address = 0x0a010203; hop = Some 8 })
+another_hop routes found is = let same = same_Some 8 7 (is ∙ found) in absurd (omega arith)
+
+both_ahead : (routes : Members) → lookup_in routes 0x0a010203 ≡ Some 7 → lookup_in routes 0x0b010203 ≡ None
+    → AreLookedUp routes (record { addresses = 0x0a010203 ∷ 0x0b010203 ∷ []; hops = Some 7 ∷ None ∷ [] })
+both_ahead routes found none = sym (ap (λ hop. hop ∷ lookup_in routes 0x0b010203 ∷ []) found ∙ ap (λ hop. Some 7 ∷ hop ∷ []) none)
+
+exchanged : (routes : Members) → lookup_in routes 0x0a010203 ≡ Some 7
+    → ¬ AreLookedUp routes (record { addresses = 0x0a010203 ∷ 0x0b010203 ∷ []; hops = None ∷ Some 7 ∷ [] })
+exchanged routes found are = absurd (none-some 7 (ap (λ (hops : List (Option ℕ)). get_or hops 0 None) are ∙ found))

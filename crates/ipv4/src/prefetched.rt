@@ -1,6 +1,6 @@
 //! Lookups that are made before their frames are judged, several together, so that the memory of the route table is
 //! waited for once for all of them.
-ghost use Rattle.std.specs.Prelude.{◌≡◌, ◌≤◌, IfSome, drop, length};
+ghost use Rattle.std.specs.Prelude.{◌≡◌, ◌≤◌, ◌<◌, ◌↔◌, IfSome, IsSome, drop, length, slice_index_or};
 ghost use Rattle.lpm.specs.Prefixes.{Members};
 ghost use Rattle.lpm.specs.Match.{lookup_in};
 ghost use Rattle.ipv4.specs.Fields.{destination_of};
@@ -37,10 +37,12 @@ impl Lookups {
         Lookups { addresses, hops }
     }
 
-    /// The lookup at this index; `None` if there are fewer.
+    /// The lookup at this index; `None` from `LOOKUPS` on.
     #[inline]
     pub fn get(&self, i: usize) -> Option<Prefetched>
-        ensures { (routes : Members) → AreLookedUp routes self.now → IfSome result (IsPrefetched routes) }
+        ensures there { IsSome result ↔ (i < 64) }
+        ensures address { IfSome result (λ earlier. earlier.address ≡ slice_index_or self.now.addresses i 0) }
+        ensures looked_up { (routes : Members) → AreLookedUp routes self.now → IfSome result (IsPrefetched routes) }
     {
         if i >= LOOKUPS {
             return None;

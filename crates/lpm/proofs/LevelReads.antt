@@ -38,16 +38,13 @@ pub read_is : (xs : List TableEntry) (i : ℕ) (x : TableEntry) → i < length x
 read_is xs i x h e = get_or_read xs i x h e (entry_of 0 0)
 
 -- what a read of an entry that names no group, or of a place in its group, shows about the place
-pub read_plain : (p : TwoLevels) (i low : ℕ) (entry : TableEntry) → i < length p.first → entry ≡ get_or p.first i entry → is_group entry ≡ false
-    → entry ≡ entry_at p i low
-read_plain p i low entry h e plain =
-    let is : entry ≡ first_at p i = read_is p.first i entry h e in
+pub read_plain : (p : TwoLevels) (i low : ℕ) (entry : TableEntry) → entry ≡ first_at p i → is_group entry ≡ false → entry ≡ entry_at p i low
+read_plain p i low entry is plain =
     is ∙ sym (entry_at-plain p i low (ap is_group (sym is) ∙ plain))
 
-pub read_grouped : (p : TwoLevels) (i low k : ℕ) (entry x : TableEntry) → i < length p.first → entry ≡ get_or p.first i entry → is_group entry ≡ true
+pub read_grouped : (p : TwoLevels) (i low k : ℕ) (entry x : TableEntry) → entry ≡ first_at p i → is_group entry ≡ true
     → k ≡ entry.number * size_of p.bits + low → k < length p.groups → x ≡ get_or p.groups k x → x ≡ entry_at p i low
-read_grouped p i low k entry x h e grouped at fits read =
-    let is : entry ≡ first_at p i = read_is p.first i entry h e in
+read_grouped p i low k entry x is grouped at fits read =
     read_is p.groups k x fits read ∙ ap (λ n. get_or p.groups n (entry_of 0 0)) (at ∙ ap (λ (s : TableEntry). s.number * size_of p.bits + low) is)
     ∙ sym (entry_at-grouped p i low (ap is_group (sym is) ∙ grouped))
 
@@ -65,8 +62,6 @@ addressed p a bits i low form at_first at_low =
     ∙ ap (entry_at p (first_bits a p.bits)) (at_low ∙ ap (λ n. a % size_of n) (sym form))
 
 pub number_made : {bits limit cap : ℕ} {first groups : List TableEntry} {free : List ℕ} → GroupsAreAllocated bits limit first groups free cap
-    → (i : ℕ) (entry : TableEntry) → i < length first → entry ≡ get_or first i entry
-    → is_group entry ≡ true → entry.number < made_of first free
-number_made {bits} {limit} {cap} {first} {groups} {free} allocated i entry h e grouped =
-    let is : entry ≡ get_or first i (entry_of 0 0) = read_is first i entry h e in
+    → (i : ℕ) (entry : TableEntry) → entry ≡ get_or first i (entry_of 0 0) → is_group entry ≡ true → entry.number < made_of first free
+number_made {bits} {limit} {cap} {first} {groups} {free} allocated i entry is grouped =
     subst (λ (s : TableEntry). s.number < made_of first free) (sym is) (allocated.named i (ap is_group (sym is) ∙ grouped))

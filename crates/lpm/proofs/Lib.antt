@@ -11,6 +11,7 @@ pub mod GroupOverwrites
 pub mod EntryOverwrites
 pub mod Cover
 pub mod LevelOverwrites
+pub mod Blocks
 pub mod Allocating
 pub mod Regroup
 pub mod Spans

@@ -1,9 +1,12 @@
 -- Worked rows of prefixes, entries and levels, computed by the definitions. Addresses are written as numbers: 10.1.9.9 is 167840009
-use Rattle.std.proofs.Common.{◌≡◌, refl, false, arith}
+use Rattle.std.proofs.Common.{◌≡◌, List, [], ◌∷◌, refl, false, arith}
 use Rattle.std.specs.Prelude.{Some, None}
+use Rattle.lpm.specs.Blocks.{numbers_of, own_of, place_in}
+use Rattle.lpm.specs.FirstLevel.{entries_in}
 use Rattle.lpm.specs.NextHop.{word_of_hop, hop_in_word}
 use Rattle.lpm.specs.Prefixes.{IsDepth, first_bits, masked, prefix_of, size_of}
-use Rattle.lpm.specs.TableEntry.{entry_in, entry_of, group_of, hop_of, is_group, overwritten, word_of}
+use Rattle.lpm.specs.declared.first_level.FirstLevel.TheVariants as form
+use Rattle.lpm.specs.TableEntry.{TableEntry, entry_in, entry_of, group_of, hop_of, is_group, overwritten, word_of}
 
 -- 10.1.0.0 is 167837696
 pub masked_to_16 : prefix_of 167840009 16 ≡ record { address = 167837696; depth = 16 }
@@ -61,3 +64,19 @@ a_group = (refl, refl)
 pub answers : (hop_in_word (word_of_hop (Some 0)) ≡ Some 0) × (hop_in_word (word_of_hop (Some 16777215)) ≡ Some 16777215)
     × (hop_in_word (word_of_hop None) ≡ None)
 answers = (refl, refl, refl)
+
+-- a first level of three blocks of which only the last was written: it is block 1 in memory, and the others share block 0
+three_blocks : numbers_of (0 ∷ 4294966272 ∷ 4294966272 ∷ []) ≡ 0 ∷ 0 ∷ 1 ∷ []
+unfolding numbers_of
+three_blocks = refl
+
+one_of_its_own : own_of (0 ∷ 0 ∷ 1 ∷ []) ≡ 1
+one_of_its_own = refl
+
+-- where entries 2, 1026 and 2050 are
+places : (place_in (0 ∷ 0 ∷ 1 ∷ []) 2 ≡ 2) × (place_in (0 ∷ 0 ∷ 1 ∷ []) 1026 ≡ 2) × (place_in (0 ∷ 0 ∷ 1 ∷ []) 2050 ≡ 1026)
+places = (refl, refl, refl)
+
+-- entries in blocks are seen as the list of them
+in_blocks : (entries : List TableEntry) → entries_in (form.Sparse entries) ≡ entries
+in_blocks entries = refl

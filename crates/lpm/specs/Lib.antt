@@ -1,6 +1,8 @@
 pub mod TableEntry
 pub mod Fault
 pub mod Groups
+pub mod Blocks
+pub mod FirstLevel
 pub mod Allocated
 pub mod Match
 pub mod TwoLevels

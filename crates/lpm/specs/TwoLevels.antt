@@ -1,7 +1,7 @@
 -- The levels of a table: a first level with an entry for each value of an address's first bits, and groups with an
 -- entry for each address that has the first bits of one first-level entry (Longest Prefix Match Library chapter of
 -- DPDK's guide: tbl24 and tbl8).
-use Rattle.std.specs.Prelude.{◌≡◌, ◌≢◌, ℕ, ◌+◌, ◌*◌, ◌%◌, ◌<◌, ◌≤◌, ◌^◌, Bool, List, slice_index_or, if◌then◌else◌}
+use Rattle.std.specs.Prelude.{◌≡◌, ◌≢◌, ℕ, ◌+◌, ◌*◌, ◌%◌, ◌<◌, ◌≤◌, ◌^◌, Bool, List, [], replicate, slice_index_or, if◌then◌else◌}
 use Rattle.std.specs.List.{count_by}
 use Rattle.lpm.specs.declared.prefix.Prefix.{Prefix}
 use Rattle.lpm.specs.TableEntry.{TableEntry, entry_of, is_group, overwritten}
@@ -17,6 +17,16 @@ pub record TwoLevels : Type 0 where
   pub groups : List TableEntry
   -- how many groups have memory and belong to no first-level entry
   pub free : ℕ
+
+-- entries without a route, and no groups
+abbrev pub no_routes : ℕ → ℕ → TwoLevels
+no_routes bits limit = record {
+  bits = bits;
+  limit = limit;
+  first = replicate (2 ^ bits) (entry_of 0 0);
+  groups = [];
+  free = 0;
+}
 
 abbrev pub first_at : TwoLevels → ℕ → TableEntry
 first_at p i = slice_index_or p.first i (entry_of 0 0)

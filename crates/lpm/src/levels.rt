@@ -1,10 +1,12 @@
 //! The two levels of a table: entries for the first bits of an address (rte_lpm's tbl24), and groups of entries for
 //! deeper routes (its tbl8). A group's memory is kept when no entry names it any more.
 
-ghost use Rattle.std.specs.Prelude.{◌≡◌, ◌+◌, ◌≤◌, ◌^◌, ◌↔◌, ◌⊎◌, [], replicate, IfOk, IsTrue};
+ghost use Rattle.std.specs.Prelude.{◌≡◌, ◌+◌, ◌≤◌, ◌^◌, ◌↔◌, ◌⊎◌, replicate, IfOk, IsTrue};
 ghost use Rattle.lpm.specs.TableEntry.{entry_of};
-ghost use Rattle.lpm.specs.TwoLevels.{used_of};
+ghost use Rattle.lpm.specs.FirstLevel.{entries_in};
+ghost use Rattle.lpm.specs.TwoLevels.{no_routes, used_of};
 
+use crate::first_level::FirstLevel;
 use crate::packed_entry::PackedEntry;
 use std::alloc::{AllocError, Global};
 use std::marker::Model;
@@ -18,7 +20,7 @@ mod reading;
 pub struct Levels {
     bits: u8,
     limit: u32,
-    first: Vec<PackedEntry>,
+    first: FirstLevel,
     groups: Vec<PackedEntry>,
     free: Vec<u32>,
 }
@@ -27,42 +29,54 @@ impl Model for Levels {
     ghost use Rattle.std.specs.Prelude.{length, vec_capacity};
     ghost use Rattle.lpm.specs.TwoLevels.{TwoLevels};
     ghost use Rattle.lpm.specs.Allocated.{GroupsAreAllocated};
+    ghost use Rattle.lpm.specs.FirstLevel.{entries_in};
 
     ghost Value = { TwoLevels };
 
     ghost view = { λ l. record {
       bits = l.bits;
       limit = l.limit;
-      first = l.first.items;
+      first = entries_in l.first;
       groups = l.groups.items;
       free = length l.free.items;
     } };
 
     ghost invariant = { λ l.
-        GroupsAreAllocated l.bits l.limit l.first.items l.groups.items l.free.items (vec_capacity l.free) };
+        GroupsAreAllocated l.bits l.limit (entries_in l.first) l.groups.items l.free.items (vec_capacity l.free) };
 }
 
 impl Levels {
-    /// Entries without a route, and no groups. Takes the memory of the first level.
-    pub fn new(alloc: Global, bits: u8, limit: u32) -> Result<Levels, AllocError>
+    /// Entries without a route, and no groups. Takes the memory of the first level and writes all of it.
+    pub fn whole(alloc: Global, bits: u8, limit: u32) -> Result<Levels, AllocError>
         requires { (bits ≡ 16) ⊎ (bits ≡ 24) }
-        ensures { IfOk result (λ l. l
-            ≡ record {
-              bits = bits;
-              limit = limit;
-              first = replicate (2 ^ bits) (entry_of 0 0);
-              groups = [];
-              free = 0;
-            }) }
+        ensures { IfOk result (λ l. l ≡ no_routes bits limit) }
     {
-        let size = 1usize << bits;
-        Ok(Levels {
+        let first = FirstLevel::whole(alloc, bits)?;
+        Ok(Levels::below(alloc, bits, limit, first))
+    }
+
+    /// The same with a first level in blocks, of which one is written.
+    pub fn sparse(alloc: Global, bits: u8, limit: u32) -> Result<Levels, AllocError>
+        requires { (bits ≡ 16) ⊎ (bits ≡ 24) }
+        ensures { IfOk result (λ l. l ≡ no_routes bits limit) }
+    {
+        let first = FirstLevel::sparse(alloc, bits)?;
+        Ok(Levels::below(alloc, bits, limit, first))
+    }
+
+    /// No groups, below this first level.
+    fn below(alloc: Global, bits: u8, limit: u32, first: FirstLevel) -> Levels
+        requires form { (bits ≡ 16) ⊎ (bits ≡ 24) }
+        requires first { entries_in first ≡ replicate (2 ^ bits) (entry_of 0 0) }
+        ensures { result ≡ no_routes bits limit }
+    {
+        Levels {
             bits,
             limit,
-            first: vec![in alloc; PackedEntry::none(); size]?,
+            first,
             groups: Vec::new(alloc),
             free: Vec::new(alloc),
-        })
+        }
     }
 
     /// How many of an address's first bits select its entry.

@@ -8,6 +8,7 @@ ghost use Rattle.lpm.specs.Match.{IsLongestMatch, lookup_in};
 ghost use Rattle.lpm.specs.Groups.{HasDeeper};
 ghost use Rattle.lpm.specs.Routes.{address_of, group_at, IsInUse, IsNew};
 ghost use Rattle.lpm.specs.Shown.{group_in, hop_in};
+ghost use Rattle.lpm.specs.TwoLevels.{no_routes};
 
 use crate::entry::Entry;
 use crate::levels::Levels;
@@ -58,10 +59,31 @@ impl Table {
         requires { (bits ≡ 16) ⊎ (bits ≡ 24) }
         ensures { IfOk result (λ t. IsNew t bits groups) }
     {
-        Ok(Table {
+        let levels = Levels::whole(alloc, bits, groups)?;
+        Ok(Table::over(alloc, levels))
+    }
+
+    /// The same, but the first level's memory is only reserved here. It is written in blocks of 1,024 entries, each
+    /// when a route first comes into it, so such a table is made quicker and takes less memory; a lookup reads one word
+    /// more. Returns `Err` only if out of memory.
+    pub fn sparse(alloc: Global, bits: u8, groups: u32) -> Result<Table, AllocError>
+        requires { (bits ≡ 16) ⊎ (bits ≡ 24) }
+        ensures { IfOk result (λ t. IsNew t bits groups) }
+    {
+        let levels = Levels::sparse(alloc, bits, groups)?;
+        Ok(Table::over(alloc, levels))
+    }
+
+    /// An empty table over these levels.
+    fn over(alloc: Global, levels: Levels) -> Table
+        requires form { (levels.bits ≡ 16) ⊎ (levels.bits ≡ 24) }
+        requires none { levels ≡ no_routes levels.bits levels.limit }
+        ensures { IsNew result levels.bits levels.limit }
+    {
+        Table {
             members: Members::new(alloc),
-            levels: Levels::new(alloc, bits, groups)?,
-        })
+            levels,
+        }
     }
 
     /// How many of an address's first bits select its first-level entry: 16 or 24, as the table was made.

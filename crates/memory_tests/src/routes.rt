@@ -3,6 +3,7 @@
 use crate::callers::routes::read;
 use lpm::{NextHop, RouteFault, Table};
 use oom::taken;
+use std::alloc::Global;
 use std::process::Abort;
 use std::test::Fail;
 
@@ -113,16 +114,27 @@ fn take_apart(rt: &impl Abort, table: &mut Table, there: &mut [bool; 33]) {
 
 /// Every request for memory is refused once every second depth has its route: lookups, bursts and removals still work,
 /// since they make none.
-#[test]
-fn goes_on_without_memory(rt: HostRuntime) -> Result<(), Fail> {
-    let mut table = Table::new(rt.alloc(), 16, 8)?;
+fn go_on_without_memory(rt: &impl Abort, alloc: Global, mut table: Table) -> Result<(), Fail> {
     let mut there = [false; 33];
     for depth in (2..33).step_by(2) {
         there[depth as usize] = add(&mut table, ADDR, depth, u32::from(depth)).is_ok();
     }
-    let held = taken(rt.alloc())?;
-    take_apart(&rt, &mut table, &mut there);
+    let held = taken(alloc)?;
+    take_apart(rt, &mut table, &mut there);
     drop(held);
     assert!(rt; there[32]);
     Ok(())
+}
+
+#[test]
+fn goes_on_without_memory(rt: HostRuntime) -> Result<(), Fail> {
+    let table = Table::new(rt.alloc(), 16, 8)?;
+    go_on_without_memory(&rt, rt.alloc(), table)
+}
+
+/// Blocks of the first level are written while every request is refused, since their memory was reserved before.
+#[test]
+fn goes_on_without_memory_in_blocks(rt: HostRuntime) -> Result<(), Fail> {
+    let table = Table::sparse(rt.alloc(), 16, 8)?;
+    go_on_without_memory(&rt, rt.alloc(), table)
 }

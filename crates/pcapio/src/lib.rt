@@ -27,5 +27,5 @@ pub use counted::Counted;
 pub use header::field;
 pub use pcapio_laws::{ByteOrder, CapFault, MAX_CAPTURED, Resolution};
 pub use reader::Reader;
-pub use record::{Head, Record};
+pub use record::{HEAD, Head, Record, head_in};
 pub use writer::Writer;

@@ -30,11 +30,13 @@ pub struct Record {
 
 ghost use Rattle.pcapio.specs.Record.{IsHead};
 
-/// The length of a record's header, in bytes.
-pub(crate) const HEAD: usize = 16;
+/// The length of a record's header, in bytes (pcap-savefile(5)).
+pub const HEAD: usize = 16;
 
-/// The head of the record whose header is at the start of the bytes, if that is a record's header.
-pub(crate) fn head_in(order: ByteOrder, bytes: &[u8]) -> Option<Head>
+/// The head of the record whose header is at the start of the bytes; `None` if its captured length is above
+/// `MAX_CAPTURED`. Requires: there are at least `HEAD` bytes.
+#[inline]
+pub fn head_in(order: ByteOrder, bytes: &[u8]) -> Option<Head>
     requires { 16 ≤ length bytes.now }
     ensures head { IfSome result (IsHead order bytes.now) }
     ensures none { IfNone result (IsBad order bytes.now) }

@@ -94,6 +94,9 @@ pub fn look<J: Run, R: Read>(
 
 /// Reads the record that was looked at into a chain, under its number. `None` if the input ends inside it. Requires:
 /// the chain has space for it.
+// inlined, so that the packet isn't returned through memory: a load of several fields at once would wait there for
+// all stores before it, and thus for the lines of the frame, which another processor has
+#[inline(always)]
 pub fn read_record<J: Run, R: Read>(
     reader: &mut Reader<R>,
     progress: &mut ReadState,

@@ -37,7 +37,7 @@ pub fn read_routes(
     ensures groups { IfOk result (λ r. r.0.limit ≡ groups) }
 {
     let entries = entries(alloc, tree)?;
-    let mut table = lpm::Table::new(alloc, bits as u8, groups)?;
+    let mut table = lpm::Table::sparse(alloc, bits as u8, groups)?;
     let mut hops = Vec::new(alloc);
     add_all(alloc, ports, &mut table, &mut hops, entries.as_slice())?;
     Ok((table, hops))

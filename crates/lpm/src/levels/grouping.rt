@@ -44,8 +44,8 @@ impl Levels {
         let group = self.free.pop().unwrap();
         let start = place(group, 0, self.bits);
         let end = place(group, size(self.bits), self.bits);
-        fill(&mut self.groups, start, end, self.first[first]);
-        self.first[first] = PackedEntry::group(group);
+        fill(&mut self.groups, start, end, self.first.at(first));
+        self.first.set(first, PackedEntry::group(group));
     }
 
     /// Takes back the group of an entry, if all of its places have the same content.
@@ -58,9 +58,9 @@ impl Levels {
         ensures used { used_of self.new + 1 ≡ used_of self.old }
         ensures closes { Regroups self.old self.new first false }
     {
-        let group = self.first[first].number();
+        let group = self.first.at(first).number();
         let entry = self.in_group(group, 0);
-        self.first[first] = entry;
+        self.first.set(first, entry);
         self.free.push_reserved(group);
     }
 
@@ -76,7 +76,7 @@ impl Levels {
         ensures others { IfErr result (λ fault. (fault ≡ RouteFault.NoGroup) ⊎ (fault ≡ RouteFault.Memory)) }
         ensures err { OnErr result (self.new ≡ self.old) }
     {
-        if self.first[first].is_group() {
+        if self.first.at(first).is_group() {
             return Ok(());
         }
         if self.is_full() {
@@ -95,7 +95,7 @@ impl Levels {
         ensures used { used_of self.new ≡ used_of self.old + (if is_group (first_at self.old first) then 0 else 1) }
         ensures opens { Regroups self.old self.new first true }
     {
-        if !self.first[first].is_group() {
+        if !self.first.at(first).is_group() {
             self.open_group(first);
         }
     }

@@ -28,7 +28,7 @@ impl Levels {
         ensures keeps { KeepsGroups self.old self.new }
         ensures overwrites { OverwritesWithin self.old self.new first from to depth entry }
     {
-        let group = self.first[first].number();
+        let group = self.first.at(first).number();
         let start = place(group, from, self.bits);
         let end = place(group, to, self.bits);
         overwrite(&mut self.groups, start, end, depth, entry);
@@ -41,11 +41,11 @@ impl Levels {
         ensures keeps { KeepsGroups self.old self.new }
         ensures overwrites { OverwritesEntries self.old self.new first (first + 1) depth entry }
     {
-        let old = self.first[first];
+        let old = self.first.at(first);
         if old.is_group() {
             self.overwrite_group(first, 0, size(self.bits), depth, entry);
         } else if old.depth() <= depth {
-            self.first[first] = entry;
+            self.first.set(first, entry);
         }
     }
 

@@ -1,15 +1,10 @@
 //! Lookups ahead of the records: the destinations of the records that come next in the reader's buffer are looked up
 //! together.
-ghost use Rattle.std.specs.Prelude.{◌≡◌, ◌≤◌, IfSome};
+ghost use Rattle.std.specs.Prelude.{◌≡◌, ◌≤◌, IfSome, IsSome};
 
 use ipv4::{LOOKUPS, Lookups, Prefetched, presumed_destination};
 use lpm::Table;
-use pcapio::{ByteOrder, field};
-
-/// The bytes of a record's header, and where it has the captured length (pcap-savefile(5)).
-const HEAD: usize = 16;
-
-const CAPTURED: usize = 8;
+use pcapio::{ByteOrder, HEAD, head_in};
 
 /// Lookups, of which the first `len` are for records in the reader's buffer, and `used` of these records have had their
 /// turn.
@@ -18,6 +13,7 @@ pub(crate) struct Lookahead {
     pub(crate) lookups: Lookups,
     len: usize,
     used: usize,
+    pub ghost at_most: { len ≤ 64 },
 }
 
 impl Lookahead {
@@ -45,6 +41,7 @@ impl Lookahead {
     ) -> Option<Prefetched>
         requires known { AreLookedUp table.now.members self.old.lookups }
         ensures known { AreLookedUp table.now.members self.new.lookups }
+        ensures there { IsSome result }
         ensures value { IfSome result (IsPrefetched table.now.members) }
     {
         if self.used >= self.len {
@@ -57,13 +54,17 @@ impl Lookahead {
 
     /// Looks up the destinations of the records that begin here and are in the buffer as a whole.
     fn refill(&mut self, bytes: &[u8], order: ByteOrder, table: &Table)
-        ensures { AreLookedUp table.now.members self.new.lookups }
+        ensures known { AreLookedUp table.now.members self.new.lookups }
+        ensures begins { self.new.used ≡ 0 }
     {
         let mut addresses = [0; LOOKUPS];
         let mut rest = bytes;
         let mut len = 0;
         while len < LOOKUPS && rest.len() >= HEAD {
-            let captured = field(order, rest, CAPTURED) as usize;
+            let Some(head) = head_in(order, rest) else {
+                break;
+            };
+            let captured = head.captured as usize;
             if captured > rest.len() - HEAD {
                 break;
             }

@@ -7,7 +7,6 @@ use Rattle.lpm.specs.Allocated.{GroupsAreAllocated}
 use Rattle.lpm.specs.TwoLevels.{TwoLevels, Regroups, first_at}
 use Rattle.lpm.specs.Prefixes.{size_of}
 use Rattle.lpm.specs.contracts.levels.Levels.{the_view}
-use Rattle.lpm.proofs.LevelReads.{read_is}
 use Rattle.lpm.proofs.GroupOverwrites.{stretch_fits}
 use Rattle.lpm.proofs.Allocating.{allocated_opened, last_made, last_fits, unnamed_last}
 use Rattle.lpm.proofs.Regroup.{opens}
@@ -44,7 +43,7 @@ invariant_of-self c =
     let split = c.pop.ensures.items ∙ ap (λ o. c.pop.new.self.items ++ option_to_list o) c.unwrap-group.ensures in
     let items = with_items_is c.self.inside.groups c.fill.new.entries (omega (arith, c.deref_mut.ensures.len)) in
     let room : vec_capacity c.self.inside.free ≤ vec_capacity c.pop.new.self = omega (arith, c.pop.ensures.capacity) in
-    rw c.group.ensures
+    rw (c.set.ensures, c.group.ensures)
     (subst (λ (es : List TableEntry). GroupsAreAllocated p.bits p.limit (set p.first c.args.first (entry_of 33 c.unwrap-group.result)) es c.pop.new.self.items
     (vec_capacity c.pop.new.self)) (sym items)
     (allocated_opened c.self.invariant c.args.first fits plain (entry_of 33 c.unwrap-group.result) refl c.fill.new.entries
@@ -59,9 +58,9 @@ returns-clause-opens c =
     let fits : c.args.first < length p.first = omega (arith, c.self.invariant.whole) in
     let split = c.pop.ensures.items ∙ ap (λ o. c.pop.new.self.items ++ option_to_list o) c.unwrap-group.ensures in
     let items = with_items_is c.self.inside.groups c.fill.new.entries (omega (arith, c.deref_mut.ensures.len)) in
-    let entry = read_is p.first c.args.first _ fits c.index.ensures in
+    let entry = c.at.ensures in
     let filled = rw (c.deref_mut.ensures.value, c.place-start.ensures, c.place-end.ensures, c.size.ensures, entry) at c.fill.ensures in
-    rw (← c.self.view_is, c.group.ensures)
+    rw (← c.self.view_is, c.set.ensures, c.group.ensures)
     (subst (λ (es : List TableEntry). Regroups p (record p
     { first = set p.first c.args.first (entry_of 33 c.unwrap-group.result); groups = es; free = length c.pop.new.self.items }) c.args.first
     true) (sym items)

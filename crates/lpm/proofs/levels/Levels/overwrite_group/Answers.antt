@@ -4,7 +4,6 @@ use Rattle.lpm.specs.TableEntry.{TableEntry, is_group}
 use Rattle.lpm.specs.TwoLevels.{TwoLevels, OverwritesWithin, first_at}
 use Rattle.lpm.specs.Prefixes.{size_of}
 use Rattle.lpm.specs.contracts.levels.Levels.{the_view}
-use Rattle.lpm.proofs.LevelReads.{read_is}
 use Rattle.lpm.proofs.GroupOverwrites.{overwrites_within, stretch_fits}
 use Rattle.lpm.proofs.levels.Levels.overwrite_group.Goals as goal
 
@@ -14,7 +13,7 @@ overwrite-requires-clause-within c =
     let grouped = subst (λ (q : TwoLevels). is_group (first_at q c.args.first) ≡ true) (sym c.self.view_is) c.requires.grouped in
     let in_level = subst (λ (q : TwoLevels). c.args.first < 2 ^ q.bits) (sym c.self.view_is) c.requires.first in
     let within = subst (λ (q : TwoLevels). c.args.to ≤ size_of q.bits) (sym c.self.view_is) c.requires.within in
-    let read = read_is p.first c.args.first _ (omega (arith, c.self.invariant.whole)) c.index.ensures in
+    let read = c.at.ensures in
     let number : c.number-group.result ≡ (first_at p c.args.first).number = c.number-group.ensures.value
     ∙ ap (λ (e : TableEntry). e.number) read in
     let fits = stretch_fits c.self.invariant _ c.args.to (c.self.invariant.named c.args.first grouped) within in
@@ -28,7 +27,7 @@ returns-clause-overwrites c =
     let grouped = subst (λ (q : TwoLevels). is_group (first_at q c.args.first) ≡ true) (sym c.self.view_is) c.requires.grouped in
     let in_level = subst (λ (q : TwoLevels). c.args.first < 2 ^ q.bits) (sym c.self.view_is) c.requires.first in
     let within = subst (λ (q : TwoLevels). c.args.to ≤ size_of q.bits) (sym c.self.view_is) c.requires.within in
-    let read = read_is p.first c.args.first _ (omega (arith, c.self.invariant.whole)) c.index.ensures in
+    let read = c.at.ensures in
     let number : c.number-group.result ≡ (first_at p c.args.first).number = c.number-group.ensures.value
     ∙ ap (λ (e : TableEntry). e.number) read in
     let start = c.place-start.ensures ∙ ap (λ n. n * size_of p.bits + c.args.from) number in

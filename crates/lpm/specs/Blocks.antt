@@ -1,0 +1,41 @@
+-- The first-level entries in memory: blocks of 1,024, each of which has memory once one of its entries is written.
+use Rattle.std.specs.Prelude.{◌≡◌, ℕ, ◌+◌, ◌*◌, ◌/◌, ◌%◌, ◌<◌, ◌≤◌, List, length, map, ltb, slice_index_or}
+use Rattle.std.specs.List.{count_by, range_with_len}
+use Rattle.lpm.specs.TableEntry.{TableEntry, entry_of}
+
+-- which block in memory each block is: an offset is added to an entry's number, modulo 2^32, and gives its place
+abbrev pub number_in : List ℕ → ℕ → ℕ
+number_in offsets c = (slice_index_or offsets c 0 + c * 1024) % 4294967296 / 1024
+
+unfoldable pub numbers_of : List ℕ → List ℕ
+numbers_of offsets = map (number_in offsets) (range_with_len 0 (length offsets))
+
+-- the entries of all blocks, in their order
+abbrev pub place_in : List ℕ → ℕ → ℕ
+place_in numbers i = slice_index_or numbers (i / 1024) 0 * 1024 + i % 1024
+
+unfoldable pub entries_of : List ℕ → List TableEntry → List TableEntry
+entries_of numbers blocks =
+    map (λ i. slice_index_or blocks (place_in numbers i) (entry_of 0 0)) (range_with_len 0 (1024 * length numbers))
+
+-- how many blocks have memory of their own
+abbrev pub own_of : List ℕ → ℕ
+own_of numbers = count_by (ltb 0) numbers
+
+pub record AreNumbered (numbers : List ℕ) (blocks : List TableEntry) (capacity : ℕ) : Type 0 where
+  -- block 0 in memory has no routes, and is shared by all that were never written
+  pub empty : (k : ℕ) → k < 1024 → slice_index_or blocks k (entry_of 0 0) ≡ entry_of 0 0
+  pub made : length blocks ≡ 1024 * (own_of numbers + 1)
+  pub within : (c : ℕ) → slice_index_or numbers c 0 ≤ own_of numbers
+  pub alone : (c d : ℕ) → 0 < slice_index_or numbers c 0 → slice_index_or numbers c 0 ≡ slice_index_or numbers d 0 → c ≡ d
+  -- there is room for every block without taking memory
+  pub room : 1024 * (length numbers + 1) ≤ capacity
+  pub few : length numbers ≤ 16384
+
+pub record AreBlocks (offsets : List ℕ) (blocks : List TableEntry) (capacity : ℕ) : Type 0 where
+  pub numbered : AreNumbered (numbers_of offsets) blocks capacity
+  -- an offset leads to the first entry of a block in memory
+  pub exact : (c : ℕ) → c < length offsets → (slice_index_or offsets c 0 + c * 1024) % 4294967296 % 1024 ≡ 0
+
+abbrev pub HasBlocks : List ℕ → List TableEntry → Type 0
+HasBlocks offsets blocks = (capacity : ℕ) × AreBlocks offsets blocks capacity

@@ -1,0 +1,62 @@
+//! The first-level entries (rte_lpm's tbl24): one after another, or in blocks.
+
+ghost use Rattle.std.specs.Prelude.{◌≡◌, ◌<◌, ◌^◌, ◌⊎◌, length, replicate, slice_index_or, slice_set, IfOk};
+ghost use Rattle.lpm.specs.TableEntry.{entry_of};
+ghost use Rattle.lpm.specs.FirstLevel.{entries_in};
+
+pub mod blocks;
+
+use crate::first_level::blocks::Blocks;
+use crate::packed_entry::PackedEntry;
+use std::alloc::{AllocError, Global};
+
+/// An entry for each value of an address's first bits.
+#[derive(Drop)]
+pub enum FirstLevel {
+    /// One after another, all written when the level is made: a lookup is quickest.
+    Whole(Vec<PackedEntry>),
+    /// In blocks that are written when a route first comes into them: such a level is made quickest.
+    Sparse(Blocks),
+}
+
+impl FirstLevel {
+    /// 2^`bits` entries without a route, which are written here.
+    pub fn whole(alloc: Global, bits: u8) -> Result<FirstLevel, AllocError>
+        requires { (bits ≡ 16) ⊎ (bits ≡ 24) }
+        ensures { IfOk result (λ f. entries_in f ≡ replicate (2 ^ bits) (entry_of 0 0)) }
+    {
+        let size = 1usize << bits;
+        Ok(FirstLevel::Whole(vec![in alloc; PackedEntry::none(); size]?))
+    }
+
+    /// 2^`bits` entries without a route. All of their memory is reserved here, and one block of it written.
+    pub fn sparse(alloc: Global, bits: u8) -> Result<FirstLevel, AllocError>
+        requires { (bits ≡ 16) ⊎ (bits ≡ 24) }
+        ensures { IfOk result (λ f. entries_in f ≡ replicate (2 ^ bits) (entry_of 0 0)) }
+    {
+        Ok(FirstLevel::Sparse(Blocks::new(alloc, bits)?))
+    }
+
+    /// One entry.
+    #[inline(always)]
+    pub fn at(&self, first: usize) -> PackedEntry
+        requires { first < length (entries_in self.now) }
+        ensures { result ≡ slice_index_or (entries_in self.now) first (entry_of 0 0) }
+    {
+        match self {
+            FirstLevel::Whole(entries) => entries[first],
+            FirstLevel::Sparse(blocks) => blocks.at(first),
+        }
+    }
+
+    /// Overwrites one entry. Takes no memory.
+    pub fn set(&mut self, first: usize, entry: PackedEntry)
+        requires { first < length (entries_in self.old) }
+        ensures { entries_in self.new ≡ slice_set (entries_in self.old) first entry }
+    {
+        match self {
+            FirstLevel::Whole(entries) => entries[first] = entry,
+            FirstLevel::Sparse(blocks) => blocks.set(first, entry),
+        }
+    }
+}

@@ -1,0 +1,117 @@
+//! First-level entries in blocks. A block takes memory when one of its entries is first written.
+
+ghost use Rattle.std.specs.Prelude.{◌≡◌, ◌+◌, ◌*◌, ◌%◌, ◌<◌, ◌^◌, ◌⊎◌, length, replicate, slice_index_or, slice_set};
+ghost use Rattle.std.specs.Prelude.{vec_len, vec_capacity, IfOk};
+ghost use Rattle.lpm.specs.TableEntry.{entry_of};
+ghost use Rattle.lpm.specs.Blocks.{entries_of, numbers_of, AreBlocks, HasBlocks};
+
+use crate::packed_entry::PackedEntry;
+use std::alloc::{AllocError, Global};
+use std::marker::Model;
+
+/// How many entries a block has: a page of 4 KiB of them.
+const BLOCK: usize = 1024;
+
+/// Entries, as many as a first level has. The operating system gives a page memory when it is first written, so a table
+/// takes memory and time for the blocks that have routes, and not for the others.
+#[derive(Drop)]
+pub struct Blocks {
+    /// For each block: what to add to the number of one of its entries, modulo 2^32, for the entry's place in `places`.
+    /// So a read takes one addition. Blocks that were never written share the first one there, which has no routes.
+    offsets: Vec<u32>,
+    /// Block after block, in the order in which they were first written. There is room for all of them.
+    places: Vec<PackedEntry>,
+}
+
+impl Model for Blocks {
+    ghost use Rattle.std.specs.Prelude.{List, vec_capacity};
+    ghost use Rattle.lpm.specs.TableEntry.{TableEntry};
+    ghost use Rattle.lpm.specs.Blocks.{entries_of, numbers_of, AreBlocks};
+
+    ghost Value = { List TableEntry };
+
+    ghost view = { λ b. entries_of (numbers_of b.offsets.items) b.places.items };
+
+    ghost invariant = { λ b. AreBlocks b.offsets.items b.places.items (vec_capacity b.places) };
+}
+
+impl Blocks {
+    /// 2^`bits` entries without a route. All of their memory is reserved here, and one block of it written.
+    pub fn new(alloc: Global, bits: u8) -> Result<Blocks, AllocError>
+        requires { (bits ≡ 16) ⊎ (bits ≡ 24) }
+        ensures { IfOk result (λ b. b ≡ replicate (2 ^ bits) (entry_of 0 0)) }
+    {
+        let count = (1usize << bits) / BLOCK;
+        let mut offsets = Vec::with_capacity(alloc, count)?;
+        for block in 0..count {
+            offsets.push_reserved(((block * BLOCK) as u32).wrapping_neg());
+        }
+        let mut places = Vec::with_capacity(alloc, (count + 1) * BLOCK)?;
+        places.resize(BLOCK, PackedEntry::none())?;
+        Ok(Blocks { offsets, places })
+    }
+
+    /// One entry.
+    #[inline(always)]
+    pub fn at(&self, first: usize) -> PackedEntry
+        requires { first < length self.now }
+        ensures { result ≡ slice_index_or self.now first (entry_of 0 0) }
+    {
+        let (offsets, places) = self.parts();
+        entry_at(offsets, places, first)
+    }
+
+    /// The offsets and the places, for `entry_at`: a loop that reads entries loads their addresses once.
+    #[inline(always)]
+    pub fn parts(&self) -> (&[u32], &[PackedEntry])
+        ensures are { HasBlocks result.0.now result.1.now }
+        ensures same { entries_of (numbers_of result.0.now) result.1.now ≡ self.now }
+    {
+        (self.offsets.as_slice(), self.places.as_slice())
+    }
+
+    /// Overwrites one entry. Takes no memory.
+    pub fn set(&mut self, first: usize, entry: PackedEntry)
+        requires { first < length self.old }
+        ensures { self.new ≡ slice_set self.old first entry }
+    {
+        let offset = own_block(&mut self.offsets, &mut self.places, first / BLOCK);
+        self.places[offset.wrapping_add(first as u32) as usize] = entry;
+    }
+}
+
+/// One entry of the blocks that have these parts.
+#[inline(always)]
+pub fn entry_at(offsets: &[u32], places: &[PackedEntry], first: usize) -> PackedEntry
+    requires are { HasBlocks offsets.now places.now }
+    requires there { first < length (entries_of (numbers_of offsets.now) places.now) }
+    ensures { result ≡ slice_index_or (entries_of (numbers_of offsets.now) places.now) first (entry_of 0 0) }
+{
+    let offset = offsets[first / BLOCK];
+    places[offset.wrapping_add(first as u32) as usize]
+}
+
+/// The offset of a block, which gets a place of its own if it shares the first one. Takes no memory.
+fn own_block(offsets: &mut Vec<u32>, places: &mut Vec<PackedEntry>, block: usize) -> u32
+    requires are { AreBlocks offsets.old.items places.old.items (vec_capacity places.old) }
+    requires there { block < vec_len offsets.old }
+    ensures are { AreBlocks offsets.new.items places.new.items (vec_capacity places.new) }
+    ensures same { entries_of (numbers_of offsets.new.items) places.new.items
+        ≡ entries_of (numbers_of offsets.old.items) places.old.items }
+    ensures long { vec_len offsets.new ≡ vec_len offsets.old }
+    ensures offset { result ≡ slice_index_or offsets.new.items block 0 }
+    ensures own { 0 < (result + block * 1024) % 4294967296 }
+{
+    let start = (block * BLOCK) as u32;
+    let offset = offsets[block];
+    if offset.wrapping_add(start) != 0 {
+        return offset;
+    }
+    let place = places.len();
+    let Ok(()) = places.resize(place + BLOCK, PackedEntry::none()) else {
+        unreachable!();
+    };
+    let offset = (place as u32).wrapping_sub(start);
+    offsets[block] = offset;
+    offset
+}
