@@ -1,9 +1,9 @@
 -- Overwriting one entry, whether it names a group or not.
-use Rattle.std.proofs.Common.{◌≡◌, ◌≢◌, ℕ, ◌+◌, ◌*◌, ◌<◌, ◌≤◌, Bool, true, false, cond, List, length, get_or, set, refl, sym, ap, ◌∙◌, subst, inl, inr, arith}
+use Rattle.std.proofs.Common.{◌≡◌, ◌≢◌, ℕ, suc, [], ◌∷◌, ◌+◌, ◌*◌, ◌<◌, ◌≤◌, Bool, true, false, cond, List, length, get_or, set, refl, sym, ap, ◌∙◌, subst, inl, inr, arith}
 use Rattle.std.proofs.Common.{get_or-set_same, get_or-set_other}
 use Rattle.std.proofs.lemmas.Bool.{cases_eq}
 use Rattle.std.proofs.lemmas.List.{length-set}
-use Rattle.std.proofs.lemmas.List.Sums.{sum_by-set}
+use Rattle.std.proofs.lemmas.List.Sums.{sum_by-set, sum_by-cons}
 use Rattle.std.specs.List.{count_by}
 use Rattle.lpm.specs.TableEntry.{TableEntry, entry_of, is_group, overwritten}
 use Rattle.lpm.specs.Prefixes.{size_of}
@@ -14,6 +14,47 @@ use Rattle.lpm.proofs.LevelReads.{entry_at-plain}
 
 abbrev pub one_if : Bool → ℕ
 one_if b = cond b 1 0
+
+-- as many entries name a group in two lists of the same kinds
+pub count_alike : (es fs : List TableEntry) → length fs ≡ length es
+    → ((j : ℕ) → is_group (get_or fs j (entry_of 0 0)) ≡ is_group (get_or es j (entry_of 0 0))) → count_by is_group fs ≡ count_by is_group es
+count_alike [] [] long kinds = refl
+count_alike [] (f ∷ fs) long kinds = absurd (omega arith)
+count_alike (e ∷ es) [] long kinds = absurd (omega arith)
+count_alike (e ∷ es) (f ∷ fs) long kinds =
+    omega (
+      arith,
+      sum_by-cons (λ (x : TableEntry). cond (is_group x) 1 0) f fs,
+      sum_by-cons (λ (x : TableEntry). cond (is_group x) 1 0) e es,
+      ap one_if (kinds 0),
+      count_alike es fs (omega arith) (λ j. kinds (suc j)),
+    )
+
+-- entries of the same kinds, of which those that name a group are the same
+module _ (es fs : List TableEntry) (long : length fs ≡ length es)
+    (kinds : (j : ℕ) → is_group (get_or fs j (entry_of 0 0)) ≡ is_group (get_or es j (entry_of 0 0)))
+    (groups : (j : ℕ) → is_group (get_or fs j (entry_of 0 0)) ≡ true → get_or fs j (entry_of 0 0) ≡ get_or es j (entry_of 0 0)) where
+  pub allocated_alike : {bits limit cap : ℕ} {grouped : List TableEntry} {free : List ℕ} → GroupsAreAllocated bits limit es grouped free cap
+      → GroupsAreAllocated bits limit fs grouped free cap
+  allocated_alike {bits} {limit} {cap} {grouped} {free} allocated =
+      let count = count_alike es fs long kinds in
+      let made : made_of fs free ≡ made_of es free = omega arith in
+      let number : (j : ℕ) → is_group (get_or fs j (entry_of 0 0)) ≡ true
+      → (get_or fs j (entry_of 0 0)).number ≡ (get_or es j (entry_of 0 0)).number = λ j e. ap (λ (x : TableEntry). x.number) (groups j e) in
+      let old : (j : ℕ) → is_group (get_or fs j (entry_of 0 0)) ≡ true → is_group (get_or es j (entry_of 0 0)) ≡ true = λ j e. sym (kinds j) ∙ e in
+      record {
+        form = allocated.form;
+        whole = long ∙ allocated.whole;
+        made = allocated.made ∙ ap (λ n. n * size_of bits) (sym made);
+        within = omega (arith, allocated.within);
+        fits = omega (arith, allocated.fits);
+        named = λ j e. omega (arith, allocated.named j (old j e), number j e);
+        alone = λ j k e f same. allocated.alone j k (old j e) (old k f) (sym (number j e) ∙ same ∙ number k f);
+        idle = λ k h. omega (arith, allocated.idle k h);
+        once = allocated.once;
+        unnamed = λ k j h e same. allocated.unnamed k j h (old j e) (sym (number j e) ∙ same);
+        room = omega (arith, allocated.room);
+      }
 
 -- an entry as it was read and an entry to write
 module _ (es : List TableEntry) (i : ℕ) (c : TableEntry) (fits : i < length es) where
@@ -53,27 +94,7 @@ module _ (es : List TableEntry) (i : ℕ) (c : TableEntry) (fits : i < length es
 
   pub allocated_plain : {bits limit cap : ℕ} {groups : List TableEntry} {free : List ℕ} → GroupsAreAllocated bits limit es groups free cap
       → GroupsAreAllocated bits limit (set es i c) groups free cap
-  allocated_plain {bits} {limit} {cap} {groups} {free} allocated =
-      let count = count_plain in
-      let made : made_of (set es i c) free ≡ made_of es free = omega arith in
-      let number : (j : ℕ) → is_group (get_or (set es i c) j (entry_of 0 0)) ≡ true
-      → (get_or (set es i c) j (entry_of 0 0)).number ≡ (get_or es j (entry_of 0 0)).number =
-      λ j e. ap (λ (x : TableEntry). x.number) (groups_plain j e) in
-      let old : (j : ℕ) → is_group (get_or (set es i c) j (entry_of 0 0)) ≡ true
-      → is_group (get_or es j (entry_of 0 0)) ≡ true = λ j e. sym (kinds_plain j) ∙ e in
-      record {
-        form = allocated.form;
-        whole = length-set es i c ∙ allocated.whole;
-        made = allocated.made ∙ ap (λ n. n * size_of bits) (sym made);
-        within = omega (arith, allocated.within);
-        fits = omega (arith, allocated.fits);
-        named = λ j e. omega (arith, allocated.named j (old j e), number j e);
-        alone = λ j k e f same. allocated.alone j k (old j e) (old k f) (sym (number j e) ∙ same ∙ number k f);
-        idle = λ k h. omega (arith, allocated.idle k h);
-        once = allocated.once;
-        unnamed = λ k j h e same. allocated.unnamed k j h (old j e) (sym (number j e) ∙ same);
-        room = omega (arith, allocated.room);
-      }
+  allocated_plain = allocated_alike es (set es i c) (length-set es i c) kinds_plain groups_plain
 
 module _ (p : TwoLevels) (i d : ℕ) (c : TableEntry) where
   -- a whole group

@@ -9,6 +9,7 @@ pub mod LevelReads
 pub mod Overwriting
 pub mod GroupOverwrites
 pub mod EntryOverwrites
+pub mod BlockOverwrites
 pub mod Cover
 pub mod LevelOverwrites
 pub mod Blocks

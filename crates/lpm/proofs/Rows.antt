@@ -1,9 +1,10 @@
 -- Worked rows of prefixes, entries and levels, computed by the definitions. Addresses are written as numbers: 10.1.9.9 is 167840009
-use Rattle.std.proofs.Common.{◌≡◌, List, [], ◌∷◌, refl, false, arith}
+use Rattle.std.proofs.Common.{◌≡◌, zero, suc, List, [], ◌∷◌, refl, false, arith}
 use Rattle.std.specs.Prelude.{Some, None}
-use Rattle.lpm.specs.Blocks.{numbers_of, own_of, place_in}
+use Rattle.lpm.specs.Blocks.{inherited, numbers_of, own_of, place_in}
 use Rattle.lpm.specs.FirstLevel.{entries_in}
 use Rattle.lpm.specs.NextHop.{word_of_hop, hop_in_word}
+use Rattle.lpm.specs.Overwrite.{AreNoGroups}
 use Rattle.lpm.specs.Prefixes.{IsDepth, first_bits, masked, prefix_of, size_of}
 use Rattle.lpm.specs.declared.first_level.FirstLevel.TheVariants as form
 use Rattle.lpm.specs.TableEntry.{TableEntry, entry_in, entry_of, group_of, hop_of, is_group, overwritten, word_of}
@@ -80,3 +81,15 @@ places = (refl, refl, refl)
 -- entries in blocks are seen as the list of them
 in_blocks : (entries : List TableEntry) → entries_in (form.Sparse entries) ≡ entries
 in_blocks entries = refl
+
+-- an entry of its own, and one that its block has for all addresses
+one_for_all : (inherited (entry_of 24 3) (entry_of 0 0) ≡ entry_of 24 3) × (inherited (entry_of 0 0) (entry_of 8 7) ≡ entry_of 8 7)
+one_for_all = (refl, refl)
+
+-- the second of two entries names a group
+one_without_a_group : AreNoGroups (entry_of 8 1 ∷ entry_of 33 0 ∷ []) 0 1
+one_without_a_group zero from to = refl
+one_without_a_group (suc k) from to = absurd (omega arith)
+
+two_with_a_group : ¬ AreNoGroups (entry_of 8 1 ∷ entry_of 33 0 ∷ []) 0 2
+two_with_a_group are = let named = are 1 (omega arith) (omega arith) in cc

@@ -1,6 +1,8 @@
 //! The first-level entries (rte_lpm's tbl24): one after another, or in blocks.
 
-ghost use Rattle.std.specs.Prelude.{◌≡◌, ◌<◌, ◌^◌, ◌⊎◌, length, replicate, slice_index_or, slice_set, IfOk};
+ghost use Rattle.std.specs.Prelude.{◌≡◌, ◌+◌, ◌≤◌, ◌<◌, ◌^◌, ◌⊎◌, length, replicate, slice_index_or, slice_set, IfOk};
+ghost use Rattle.std.specs.Prelude.{IsTrue, false};
+ghost use Rattle.lpm.specs.Overwrite.{AreNoGroups, OverwritesFrom};
 ghost use Rattle.lpm.specs.TableEntry.{entry_of};
 ghost use Rattle.lpm.specs.FirstLevel.{entries_in};
 
@@ -15,7 +17,7 @@ use std::alloc::{AllocError, Global};
 pub enum FirstLevel {
     /// One after another, all written when the level is made: a lookup is quickest.
     Whole(Vec<PackedEntry>),
-    /// In blocks that are written when a route first comes into them: such a level is made quickest.
+    /// In blocks, each of which is written once its entries differ: such a level is made quickest.
     Sparse(Blocks),
 }
 
@@ -57,6 +59,22 @@ impl FirstLevel {
         match self {
             FirstLevel::Whole(entries) => entries[first] = entry,
             FirstLevel::Sparse(blocks) => blocks.set(first, entry),
+        }
+    }
+
+    /// Overwrites the entries of the block that begins with this one, if they are in blocks, and it has one for all of
+    /// them, which names no group. Returns whether it has; otherwise nothing changes. Takes no memory.
+    pub fn overwrite_block(&mut self, first: usize, depth: u8, entry: PackedEntry) -> bool
+        requires { first + 1024 ≤ length (entries_in self.old) }
+        ensures done { IsTrue result
+            → OverwritesFrom (entries_in self.old) (entries_in self.new) first (first + 1024) depth entry }
+        ensures plain { IsTrue result → AreNoGroups (entries_in self.old) first (first + 1024) }
+        ensures long { length (entries_in self.new) ≡ length (entries_in self.old) }
+        ensures kept { result ≡ false → entries_in self.new ≡ entries_in self.old }
+    {
+        match self {
+            FirstLevel::Whole(_) => false,
+            FirstLevel::Sparse(blocks) => blocks.overwrite_block(first, depth, entry),
         }
     }
 }

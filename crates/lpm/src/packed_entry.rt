@@ -1,6 +1,6 @@
 //! One entry of the first level or of a group, in 4 bytes.
 
-ghost use Rattle.std.specs.Prelude.{◌≡◌, ◌≤◌, ◌<◌, ◌^◌, IfSome};
+ghost use Rattle.std.specs.Prelude.{◌≡◌, ◌≤◌, ◌<◌, ◌^◌, IfSome, IsTrue, nat_eq};
 ghost use Rattle.lpm.specs.TableEntry.{entry_of, hop_of, is_group};
 
 use crate::next_hop::{FLAG, NextHop};
@@ -62,6 +62,15 @@ impl PackedEntry {
         PackedEntry {
             word: GROUP << 25 | FLAG | number,
         }
+    }
+
+    /// Whether there is no member.
+    #[inline]
+    pub fn is_none(self) -> bool
+        ensures value { result ≡ nat_eq self.depth 0 }
+        ensures none { IsTrue result → self ≡ entry_of 0 0 }
+    {
+        self.word == 0
     }
 
     /// Whether it names a group.

@@ -3,12 +3,14 @@
 use crate::callers::routes::read;
 use lpm::{NextHop, RouteFault, Table};
 use oom::taken;
-use std::alloc::Global;
 use std::process::Abort;
 use std::test::Fail;
 
-/// The address that each route of these tests covers.
+/// The address that each route of most tests covers.
 const ADDR: u32 = 0x0a01_0203;
+
+/// An address in another block of a sparse table.
+const FAR: u32 = 0xc0a8_0101;
 
 /// The number of addresses of a burst.
 const BURST: usize = 4;
@@ -114,27 +116,31 @@ fn take_apart(rt: &impl Abort, table: &mut Table, there: &mut [bool; 33]) {
 
 /// Every request for memory is refused once every second depth has its route: lookups, bursts and removals still work,
 /// since they make none.
-fn go_on_without_memory(rt: &impl Abort, alloc: Global, mut table: Table) -> Result<(), Fail> {
+#[test]
+fn goes_on_without_memory(rt: HostRuntime) -> Result<(), Fail> {
+    let mut table = Table::new(rt.alloc(), 16, 8)?;
     let mut there = [false; 33];
     for depth in (2..33).step_by(2) {
         there[depth as usize] = add(&mut table, ADDR, depth, u32::from(depth)).is_ok();
     }
-    let held = taken(alloc)?;
-    take_apart(rt, &mut table, &mut there);
+    let held = taken(rt.alloc())?;
+    take_apart(&rt, &mut table, &mut there);
     drop(held);
     assert!(rt; there[32]);
     Ok(())
 }
 
+/// A sparse table writes another block while every request is refused, since its memory was reserved before.
 #[test]
-fn goes_on_without_memory(rt: HostRuntime) -> Result<(), Fail> {
-    let table = Table::new(rt.alloc(), 16, 8)?;
-    go_on_without_memory(&rt, rt.alloc(), table)
-}
-
-/// Blocks of the first level are written while every request is refused, since their memory was reserved before.
-#[test]
-fn goes_on_without_memory_in_blocks(rt: HostRuntime) -> Result<(), Fail> {
-    let table = Table::sparse(rt.alloc(), 16, 8)?;
-    go_on_without_memory(&rt, rt.alloc(), table)
+fn writes_a_block_without_memory(rt: HostRuntime) -> Result<(), Fail> {
+    let mut table = Table::sparse(rt.alloc(), 16, 8)?;
+    let first = add(&mut table, ADDR, 16, 1);
+    let held = taken(rt.alloc())?;
+    let second = add(&mut table, FAR, 16, 2);
+    drop(held);
+    assert!(rt; first.is_ok());
+    assert!(rt; second.is_ok());
+    look_up(&rt, &table, ADDR, Some(1));
+    look_up(&rt, &table, FAR, Some(2));
+    Ok(())
 }

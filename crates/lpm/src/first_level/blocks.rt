@@ -1,24 +1,28 @@
-//! First-level entries in blocks. A block takes memory when one of its entries is first written.
+//! First-level entries in blocks. A block whose entries are all the same takes the memory of one entry.
 
-ghost use Rattle.std.specs.Prelude.{◌≡◌, ◌+◌, ◌*◌, ◌%◌, ◌<◌, ◌^◌, ◌⊎◌, length, replicate, slice_index_or, slice_set};
-ghost use Rattle.std.specs.Prelude.{vec_len, vec_capacity, IfOk};
+ghost use Rattle.std.specs.Prelude.{◌≡◌, ◌+◌, ◌*◌, ◌%◌, ◌≤◌, ◌<◌, ◌^◌, ◌⊎◌, length, replicate, slice_index_or, slice_set};
+ghost use Rattle.std.specs.Prelude.{vec_len, vec_capacity, IfOk, IsTrue, false};
 ghost use Rattle.lpm.specs.TableEntry.{entry_of};
 ghost use Rattle.lpm.specs.Blocks.{entries_of, numbers_of, AreBlocks, HasBlocks};
+ghost use Rattle.lpm.specs.Overwrite.{AreNoGroups, OverwritesFrom};
 
 use crate::packed_entry::PackedEntry;
 use std::alloc::{AllocError, Global};
 use std::marker::Model;
 
 /// How many entries a block has: a page of 4 KiB of them.
-const BLOCK: usize = 1024;
+pub const BLOCK: usize = 1024;
 
-/// Entries, as many as a first level has. The operating system gives a page memory when it is first written, so a table
-/// takes memory and time for the blocks that have routes, and not for the others.
+/// Entries, as many as a first level has. A block takes memory and time only once its entries differ, since the
+/// operating system gives a page memory when it is first written.
 #[derive(Drop)]
 pub struct Blocks {
     /// For each block: what to add to the number of one of its entries, modulo 2^32, for the entry's place in `places`.
-    /// So a read takes one addition. Blocks that were never written share the first one there, which has no routes.
+    /// So a read takes one addition. Blocks whose entries are all the same share the first block there, which has no
+    /// routes.
     offsets: Vec<u32>,
+    /// For each block the entry that all of its entries have, or none if they have places of their own.
+    uniform: Vec<PackedEntry>,
     /// Block after block, in the order in which they were first written. There is room for all of them.
     places: Vec<PackedEntry>,
 }
@@ -30,9 +34,9 @@ impl Model for Blocks {
 
     ghost Value = { List TableEntry };
 
-    ghost view = { λ b. entries_of (numbers_of b.offsets.items) b.places.items };
+    ghost view = { λ b. entries_of (numbers_of b.offsets.items) b.uniform.items b.places.items };
 
-    ghost invariant = { λ b. AreBlocks b.offsets.items b.places.items (vec_capacity b.places) };
+    ghost invariant = { λ b. AreBlocks b.offsets.items b.uniform.items b.places.items (vec_capacity b.places) };
 }
 
 impl Blocks {
@@ -46,9 +50,15 @@ impl Blocks {
         for block in 0..count {
             offsets.push_reserved(((block * BLOCK) as u32).wrapping_neg());
         }
+        let mut uniform = Vec::with_capacity(alloc, count)?;
+        uniform.resize(count, PackedEntry::none())?;
         let mut places = Vec::with_capacity(alloc, (count + 1) * BLOCK)?;
         places.resize(BLOCK, PackedEntry::none())?;
-        Ok(Blocks { offsets, places })
+        Ok(Blocks {
+            offsets,
+            uniform,
+            places,
+        })
     }
 
     /// One entry.
@@ -57,17 +67,21 @@ impl Blocks {
         requires { first < length self.now }
         ensures { result ≡ slice_index_or self.now first (entry_of 0 0) }
     {
-        let (offsets, places) = self.parts();
-        entry_at(offsets, places, first)
+        let (offsets, uniform, places) = self.parts();
+        entry_at(offsets, uniform, places, first)
     }
 
-    /// The offsets and the places, for `entry_at`: a loop that reads entries loads their addresses once.
+    /// The parts, for `entry_at`: a loop that reads entries loads their addresses once.
     #[inline(always)]
-    pub fn parts(&self) -> (&[u32], &[PackedEntry])
-        ensures are { HasBlocks result.0.now result.1.now }
-        ensures same { entries_of (numbers_of result.0.now) result.1.now ≡ self.now }
+    pub fn parts(&self) -> (&[u32], &[PackedEntry], &[PackedEntry])
+        ensures are { HasBlocks result.0.now result.1.now result.2.now }
+        ensures same { entries_of (numbers_of result.0.now) result.1.now result.2.now ≡ self.now }
     {
-        (self.offsets.as_slice(), self.places.as_slice())
+        (
+            self.offsets.as_slice(),
+            self.uniform.as_slice(),
+            self.places.as_slice(),
+        )
     }
 
     /// Overwrites one entry. Takes no memory.
@@ -75,29 +89,79 @@ impl Blocks {
         requires { first < length self.old }
         ensures { self.new ≡ slice_set self.old first entry }
     {
-        let offset = own_block(&mut self.offsets, &mut self.places, first / BLOCK);
+        // read for the proof: an entry of depth 0 has no hop
+        let _none = entry.is_none();
+        let offset = own_block(
+            &mut self.offsets,
+            &mut self.uniform,
+            &mut self.places,
+            first / BLOCK,
+        );
         self.places[offset.wrapping_add(first as u32) as usize] = entry;
+    }
+
+    /// Overwrites the entries of the block that begins with this one, if it has one for all of them, which names no
+    /// group. Returns whether it has; otherwise nothing changes. Takes no memory.
+    pub fn overwrite_block(&mut self, first: usize, depth: u8, entry: PackedEntry) -> bool
+        requires { first + 1024 ≤ length self.old }
+        ensures done { IsTrue result → OverwritesFrom self.old self.new first (first + 1024) depth entry }
+        ensures plain { IsTrue result → AreNoGroups self.old first (first + 1024) }
+        ensures long { length self.new ≡ length self.old }
+        ensures kept { result ≡ false → self.new ≡ self.old }
+    {
+        let block = first / BLOCK;
+        if first % BLOCK != 0 {
+            return false;
+        }
+        if self.offsets[block].wrapping_add(first as u32) != 0 {
+            return false;
+        }
+        let old = self.uniform[block];
+        if old.is_group() {
+            return false;
+        }
+        if old.depth() > depth {
+            return true;
+        }
+        self.uniform[block] = entry;
+        true
     }
 }
 
 /// One entry of the blocks that have these parts.
 #[inline(always)]
-pub fn entry_at(offsets: &[u32], places: &[PackedEntry], first: usize) -> PackedEntry
-    requires are { HasBlocks offsets.now places.now }
-    requires there { first < length (entries_of (numbers_of offsets.now) places.now) }
-    ensures { result ≡ slice_index_or (entries_of (numbers_of offsets.now) places.now) first (entry_of 0 0) }
+pub fn entry_at(
+    offsets: &[u32],
+    uniform: &[PackedEntry],
+    places: &[PackedEntry],
+    first: usize,
+) -> PackedEntry
+    requires are { HasBlocks offsets.now uniform.now places.now }
+    requires there { first < length (entries_of (numbers_of offsets.now) uniform.now places.now) }
+    ensures { result
+        ≡ slice_index_or (entries_of (numbers_of offsets.now) uniform.now places.now) first (entry_of 0 0) }
 {
-    let offset = offsets[first / BLOCK];
-    places[offset.wrapping_add(first as u32) as usize]
+    let block = first / BLOCK;
+    let entry = places[offsets[block].wrapping_add(first as u32) as usize];
+    if entry.is_none() {
+        uniform[block]
+    } else {
+        entry
+    }
 }
 
-/// The offset of a block, which gets a place of its own if it shares the first one. Takes no memory.
-fn own_block(offsets: &mut Vec<u32>, places: &mut Vec<PackedEntry>, block: usize) -> u32
-    requires are { AreBlocks offsets.old.items places.old.items (vec_capacity places.old) }
+/// The offset of a block, which gets places of its own if it shares the first ones. Takes no memory.
+fn own_block(
+    offsets: &mut Vec<u32>,
+    uniform: &mut Vec<PackedEntry>,
+    places: &mut Vec<PackedEntry>,
+    block: usize,
+) -> u32
+    requires are { AreBlocks offsets.old.items uniform.old.items places.old.items (vec_capacity places.old) }
     requires there { block < vec_len offsets.old }
-    ensures are { AreBlocks offsets.new.items places.new.items (vec_capacity places.new) }
-    ensures same { entries_of (numbers_of offsets.new.items) places.new.items
-        ≡ entries_of (numbers_of offsets.old.items) places.old.items }
+    ensures are { AreBlocks offsets.new.items uniform.new.items places.new.items (vec_capacity places.new) }
+    ensures same { entries_of (numbers_of offsets.new.items) uniform.new.items places.new.items
+        ≡ entries_of (numbers_of offsets.old.items) uniform.old.items places.old.items }
     ensures long { vec_len offsets.new ≡ vec_len offsets.old }
     ensures offset { result ≡ slice_index_or offsets.new.items block 0 }
     ensures own { 0 < (result + block * 1024) % 4294967296 }
@@ -108,9 +172,13 @@ fn own_block(offsets: &mut Vec<u32>, places: &mut Vec<PackedEntry>, block: usize
         return offset;
     }
     let place = places.len();
-    let Ok(()) = places.resize(place + BLOCK, PackedEntry::none()) else {
+    let entry = uniform[block];
+    // read for the proof: an entry of depth 0 has no hop
+    let _none = entry.is_none();
+    let Ok(()) = places.resize(place + BLOCK, entry) else {
         unreachable!();
     };
+    uniform[block] = PackedEntry::none();
     let offset = (place as u32).wrapping_sub(start);
     offsets[block] = offset;
     offset

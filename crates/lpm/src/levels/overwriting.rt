@@ -1,11 +1,12 @@
 //! Writes to the places that a prefix covers: whole entries, or a range of one entry's group.
 
-ghost use Rattle.std.specs.Prelude.{◌≡◌, ◌+◌, ◌≤◌, ◌<◌, ◌^◌, true, false};
+ghost use Rattle.std.specs.Prelude.{◌≡◌, ◌+◌, ◌≤◌, ◌<◌, ◌^◌, IsTrue, true, false};
 ghost use Rattle.lpm.specs.TableEntry.{is_group};
 ghost use Rattle.lpm.specs.TwoLevels.{first_at, KeepsGroups, Overwrites, OverwritesWithin, OverwritesEntries};
 ghost use Rattle.lpm.specs.Prefixes.{IsDepth, first_bits, masked, size_of};
 
 use super::Levels;
+use crate::first_level::blocks::BLOCK;
 use crate::overwrite::overwrite;
 use crate::packed_entry::PackedEntry;
 use crate::places::{first_of, low_of, place, size};
@@ -49,6 +50,38 @@ impl Levels {
         }
     }
 
+    /// Overwrites every place of the entries of the block that begins with this one, if the first level has one entry
+    /// for all of them. Returns whether it has; otherwise nothing changes.
+    fn overwrite_block(&mut self, first: usize, depth: u8, entry: PackedEntry) -> bool
+        requires within { first + 1024 ≤ 2 ^ self.old.bits }
+        requires plain { is_group entry ≡ false }
+        ensures keeps { IsTrue result → KeepsGroups self.old self.new }
+        ensures overwrites { IsTrue result → OverwritesEntries self.old self.new first (first + 1024) depth entry }
+        ensures kept { result ≡ false → self.new ≡ self.old }
+    {
+        self.first.overwrite_block(first, depth, entry)
+    }
+
+    /// Overwrites every place of some entries, from `first` on, but none from `to` on. Returns how many: a block, if
+    /// that is one step, or one.
+    fn overwrite_some(&mut self, first: usize, to: usize, depth: u8, entry: PackedEntry) -> usize
+        requires some { first < to }
+        requires within { to ≤ 2 ^ self.old.bits }
+        requires plain { is_group entry ≡ false }
+        ensures some { 0 < result }
+        ensures within { first + result ≤ to }
+        ensures keeps { KeepsGroups self.old self.new }
+        ensures overwrites { OverwritesEntries self.old self.new first (first + result) depth entry }
+    {
+        if to - first >= BLOCK {
+            if self.overwrite_block(first, depth, entry) {
+                return BLOCK;
+            }
+        }
+        self.overwrite_entry(first, depth, entry);
+        1
+    }
+
     /// Overwrites every place of the entries from `from` up to `to`, exclusive.
     fn overwrite_entries(&mut self, from: usize, to: usize, depth: u8, entry: PackedEntry)
         requires ordered { from ≤ to }
@@ -57,8 +90,9 @@ impl Levels {
         ensures keeps { KeepsGroups self.old self.new }
         ensures overwrites { OverwritesEntries self.old self.new from to depth entry }
     {
-        for first in from..to {
-            self.overwrite_entry(first, depth, entry);
+        let mut first = from;
+        while first < to {
+            first += self.overwrite_some(first, to, depth, entry);
         }
     }
 

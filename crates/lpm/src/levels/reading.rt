@@ -73,8 +73,8 @@ impl Levels {
                 self.hops_in_whole::<BITS>(entries.as_slice(), addresses, hops)
             }
             FirstLevel::Sparse(blocks) => {
-                let (offsets, places) = blocks.parts();
-                self.hops_in_blocks::<BITS>(offsets, places, addresses, hops)
+                let (offsets, uniform, places) = blocks.parts();
+                self.hops_in_blocks::<BITS>(offsets, uniform, places, addresses, hops)
             }
         }
     }
@@ -104,21 +104,22 @@ impl Levels {
     fn hops_in_blocks<const BITS: u8>(
         &self,
         offsets: &[u32],
+        uniform: &[PackedEntry],
         places: &[PackedEntry],
         addresses: &[u32],
         hops: &mut [NextHop],
     )
         requires bits { self.now.bits ≡ BITS }
         requires form { (BITS ≡ 16) ⊎ (BITS ≡ 24) }
-        requires are { HasBlocks offsets.now places.now }
-        requires entries { entries_of (numbers_of offsets.now) places.now ≡ self.now.first }
+        requires are { HasBlocks offsets.now uniform.now places.now }
+        requires entries { entries_of (numbers_of offsets.now) uniform.now places.now ≡ self.now.first }
         requires all { length self.now.first ≡ 2 ^ BITS }
         requires long { length addresses.now ≡ length hops.old }
         ensures { hops.new ≡ map (λ address. hop_of (entry_for self.now address)) addresses.now }
     {
         for i in 0..addresses.len() {
             let address = addresses[i];
-            let entry = entry_at(offsets, places, first_of(address, BITS));
+            let entry = entry_at(offsets, uniform, places, first_of(address, BITS));
             hops[i] = self.entry_below::<BITS>(entry, address).next_hop();
         }
     }

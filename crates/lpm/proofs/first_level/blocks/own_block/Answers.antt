@@ -3,7 +3,7 @@ use Rattle.std.proofs.lemmas.List.{take_all, get_or_default}
 use Rattle.std.specs.Vec.{vec_capacity, vec_len}
 use Rattle.lpm.specs.TableEntry.{TableEntry, entry_of}
 use Rattle.lpm.specs.Blocks.{numbers_of, entries_of, AreBlocks}
-use Rattle.lpm.proofs.Blocks.{numbers_length, room_left, place_small, same_opened, are_opened}
+use Rattle.lpm.proofs.Blocks.{numbers_length, room_left, place_small, same_opened, are_opened, there_uniform}
 use Rattle.lpm.proofs.first_level.blocks.own_block.Goals as goal
 
 pub overflow_mul-start : goal.overflow_mul-start
@@ -31,17 +31,20 @@ returns-clause-are c =
     let blocks = c.args.places.now.items in
     let whole : take (c.len-place.result + 1024) blocks ≡ blocks = take_all (c.len-place.result + 1024) blocks (omega arith) in
     let more : c.len-place.result + 1024 - vec_len c.args.places.now ≡ 1024 = omega arith in
-    let items : c.resize.new.self.items ≡ blocks ++ replicate 1024 (entry_of 0 0) = c.in-Ok.ensures.items
-    ∙ ap (λ (es : List TableEntry). es ++ replicate (c.len-place.result + 1024 - vec_len c.args.places.now) c.none.result) whole
-    ∙ ap (λ n. blocks ++ replicate n c.none.result) more
-    ∙ ap (λ (e : TableEntry). blocks ++ replicate 1024 e) c.none.ensures in
+    let u = c.index-entry.result.now in
+    let items : c.resize.new.self.items ≡ blocks ++ replicate 1024 u = c.in-Ok.ensures.items
+    ∙ ap (λ (es : List TableEntry). es ++ replicate (c.len-place.result + 1024 - vec_len c.args.places.now) u) whole
+    ∙ ap (λ n. blocks ++ replicate n u) more in
     let few : c.args.block < 16384 = omega (arith, c.requires.are.numbered.few, numbers_length offsets) in
     let small = place_small c.requires.are c.args.block there shared in
     let next : ((c.len-place.result + (4294967296 - c.args.block * 1024)) % 4294967296 + c.args.block * 1024) % 4294967296 ≡ length blocks
     = omega arith in
-    subst (λ (es : List TableEntry). AreBlocks (set offsets c.args.block ((c.len-place.result + (4294967296 - c.args.block * 1024)) % 4294967296))
-    es (vec_capacity c.resize.new.self)) (sym items)
-    (are_opened c.requires.are c.args.block there shared _ next (vec_capacity c.resize.new.self) (omega (arith, c.resize.ensures.capacity)))
+    let moved = set offsets c.args.block ((c.len-place.result + (4294967296 - c.args.block * 1024)) % 4294967296) in
+    subst (λ (e : TableEntry). AreBlocks moved (set c.args.uniform.now.items c.args.block e) c.resize.new.self.items (vec_capacity c.resize.new.self))
+    (sym c.none.ensures)
+    (subst (λ (es : List TableEntry). AreBlocks moved (set c.args.uniform.now.items c.args.block (entry_of 0 0)) es (vec_capacity c.resize.new.self))
+    (sym items)
+    (are_opened c.requires.are c.args.block there shared _ next (vec_capacity c.resize.new.self) (omega (arith, c.resize.ensures.capacity)) u))
 
 pub returns-clause-same : goal.returns-clause-same
 returns-clause-same c =
@@ -53,16 +56,22 @@ returns-clause-same c =
     let blocks = c.args.places.now.items in
     let whole : take (c.len-place.result + 1024) blocks ≡ blocks = take_all (c.len-place.result + 1024) blocks (omega arith) in
     let more : c.len-place.result + 1024 - vec_len c.args.places.now ≡ 1024 = omega arith in
-    let items : c.resize.new.self.items ≡ blocks ++ replicate 1024 (entry_of 0 0) = c.in-Ok.ensures.items
-    ∙ ap (λ (es : List TableEntry). es ++ replicate (c.len-place.result + 1024 - vec_len c.args.places.now) c.none.result) whole
-    ∙ ap (λ n. blocks ++ replicate n c.none.result) more
-    ∙ ap (λ (e : TableEntry). blocks ++ replicate 1024 e) c.none.ensures in
+    let u = c.index-entry.result.now in
+    let items : c.resize.new.self.items ≡ blocks ++ replicate 1024 u = c.in-Ok.ensures.items
+    ∙ ap (λ (es : List TableEntry). es ++ replicate (c.len-place.result + 1024 - vec_len c.args.places.now) u) whole
+    ∙ ap (λ n. blocks ++ replicate n u) more in
     let few : c.args.block < 16384 = omega (arith, c.requires.are.numbered.few, numbers_length offsets) in
     let small = place_small c.requires.are c.args.block there shared in
     let next : ((c.len-place.result + (4294967296 - c.args.block * 1024)) % 4294967296 + c.args.block * 1024) % 4294967296 ≡ length blocks
     = omega arith in
-    ap (entries_of (numbers_of (set offsets c.args.block ((c.len-place.result + (4294967296 - c.args.block * 1024)) % 4294967296)))) items
-    ∙ same_opened c.requires.are c.args.block there shared _ next (vec_capacity c.resize.new.self) (omega (arith, c.resize.ensures.capacity))
+    let moved = set offsets c.args.block ((c.len-place.result + (4294967296 - c.args.block * 1024)) % 4294967296) in
+    let uniform = c.args.uniform.now.items in
+    let at : u ≡ get_or uniform c.args.block (entry_of 0 0) = c.index-entry.ensures
+    ∙ get_or_default uniform c.args.block _ (entry_of 0 0) (there_uniform c.requires.are c.args.block there shared) in
+    ap (λ (e : TableEntry). entries_of (numbers_of moved) (set uniform c.args.block e) c.resize.new.self.items) c.none.ensures
+    ∙ ap (entries_of (numbers_of moved) (set uniform c.args.block (entry_of 0 0))) items
+    ∙ same_opened c.requires.are c.args.block there shared _ next (vec_capacity c.resize.new.self) (omega (arith, c.resize.ensures.capacity)) u at
+    (λ zero. c.is_none-none.ensures.none (c.is_none-none.ensures.value ∙ zero))
 
 pub returns-clause-own : goal.returns-clause-own
 returns-clause-own c =

@@ -27,4 +27,5 @@ returns c =
     let own = ap (λ o. (o + c.args.first / 1024 * 1024) % 4294967296) known in
     entries_written are c.args.first ((c.own_block-offset.result + c.args.first) % 4294967296) fits at
     (omega (arith, own, c.own_block-offset.ensures.own)) c.args.entry
+    (λ zero. c.is_none-none.ensures.none (c.is_none-none.ensures.value ∙ zero))
     ∙ ap (λ (es : List TableEntry). set es c.args.first c.args.entry) same
