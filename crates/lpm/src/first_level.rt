@@ -15,9 +15,9 @@ use std::alloc::{AllocError, Global};
 /// An entry for each value of an address's first bits.
 #[derive(Drop)]
 pub enum FirstLevel {
-    /// One after another, all written when the level is made: a lookup is quickest.
+    /// One after another, all written when the level is made: a lookup reads one word.
     Whole(Vec<PackedEntry>),
-    /// In blocks, each of which is written once its entries differ: such a level is made quickest.
+    /// In blocks, each of which is written when it is first overwritten in part: such a level is made faster.
     Sparse(Blocks),
 }
 
@@ -62,13 +62,13 @@ impl FirstLevel {
         }
     }
 
-    /// Overwrites the entries of the block that begins with this one, if they are in blocks, and it has one for all of
-    /// them, which names no group. Returns whether it has; otherwise nothing changes. Takes no memory.
+    /// Overwrites the entries of the block that begins with this one, or returns false and changes nothing, as it
+    /// always does if they aren't in blocks. Takes no memory.
     pub fn overwrite_block(&mut self, first: usize, depth: u8, entry: PackedEntry) -> bool
-        requires { first + 1024 ≤ length (entries_in self.old) }
+        requires { first + 256 ≤ length (entries_in self.old) }
         ensures done { IsTrue result
-            → OverwritesFrom (entries_in self.old) (entries_in self.new) first (first + 1024) depth entry }
-        ensures plain { IsTrue result → AreNoGroups (entries_in self.old) first (first + 1024) }
+            → OverwritesFrom (entries_in self.old) (entries_in self.new) first (first + 256) depth entry }
+        ensures plain { IsTrue result → AreNoGroups (entries_in self.old) first (first + 256) }
         ensures long { length (entries_in self.new) ≡ length (entries_in self.old) }
         ensures kept { result ≡ false → entries_in self.new ≡ entries_in self.old }
     {

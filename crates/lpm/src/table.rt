@@ -63,7 +63,7 @@ impl Table {
         Ok(Table::over(alloc, levels))
     }
 
-    /// The same, but the first level's memory is only reserved here. A block of 1,024 entries is written once a route
+    /// The same, but the first level's memory is only reserved here. A block of 256 entries is written once a route
     /// comes into it that doesn't cover all of it. So such a table is made quicker and takes less memory, and a lookup
     /// reads one word more, or two. Returns `Err` only if out of memory.
     pub fn sparse(alloc: Global, bits: u8, groups: u32) -> Result<Table, AllocError>

@@ -1,4 +1,4 @@
-//! First-level entries in blocks. A block whose entries are all the same takes the memory of one entry.
+//! First-level entries in blocks. A block that no route has covered in part takes the memory of one entry.
 
 ghost use Rattle.std.specs.Prelude.{◌≡◌, ◌+◌, ◌*◌, ◌%◌, ◌≤◌, ◌<◌, ◌^◌, ◌⊎◌, length, replicate, slice_index_or, slice_set};
 ghost use Rattle.std.specs.Prelude.{vec_len, vec_capacity, IfOk, IsTrue, false};
@@ -10,15 +10,17 @@ use crate::packed_entry::PackedEntry;
 use std::alloc::{AllocError, Global};
 use std::marker::Model;
 
-/// How many entries a block has: a page of 4 KiB of them.
-pub const BLOCK: usize = 1024;
+/// How many entries a block has. With fewer, the words that each block takes in `offsets` and `uniform` are more; with
+/// more, a route that covers part of a block writes more entries.
+pub const BLOCK: usize = 256;
 
-/// Entries, as many as a first level has. A block takes memory and time only once its entries differ, since the
-/// operating system gives a page memory when it is first written.
+/// Entries, as many as a first level has. A block gets memory of its own when one of its entries is overwritten alone,
+/// and keeps it. Until then it takes neither memory nor time, since the operating system gives a page memory when it is
+/// first written.
 #[derive(Drop)]
 pub struct Blocks {
     /// For each block: what to add to the number of one of its entries, modulo 2^32, for the entry's place in `places`.
-    /// So a read takes one addition. Blocks whose entries are all the same share the first block there, which has no
+    /// So a read takes one addition. Blocks without places of their own share the first block there, which has no
     /// routes.
     offsets: Vec<u32>,
     /// For each block the entry that all of its entries have, or none if they have places of their own.
@@ -100,12 +102,13 @@ impl Blocks {
         self.places[offset.wrapping_add(first as u32) as usize] = entry;
     }
 
-    /// Overwrites the entries of the block that begins with this one, if it has one for all of them, which names no
-    /// group. Returns whether it has; otherwise nothing changes. Takes no memory.
+    /// Overwrites the entries of the block that begins with this one, or returns false and changes nothing. It is one
+    /// step if the block has one entry for all of them, which names no group; the contract allows false then, too.
+    /// Takes no memory.
     pub fn overwrite_block(&mut self, first: usize, depth: u8, entry: PackedEntry) -> bool
-        requires { first + 1024 ≤ length self.old }
-        ensures done { IsTrue result → OverwritesFrom self.old self.new first (first + 1024) depth entry }
-        ensures plain { IsTrue result → AreNoGroups self.old first (first + 1024) }
+        requires { first + 256 ≤ length self.old }
+        ensures done { IsTrue result → OverwritesFrom self.old self.new first (first + 256) depth entry }
+        ensures plain { IsTrue result → AreNoGroups self.old first (first + 256) }
         ensures long { length self.new ≡ length self.old }
         ensures kept { result ≡ false → self.new ≡ self.old }
     {
@@ -164,7 +167,7 @@ fn own_block(
         ≡ entries_of (numbers_of offsets.old.items) uniform.old.items places.old.items }
     ensures long { vec_len offsets.new ≡ vec_len offsets.old }
     ensures offset { result ≡ slice_index_or offsets.new.items block 0 }
-    ensures own { 0 < (result + block * 1024) % 4294967296 }
+    ensures own { 0 < (result + block * 256) % 4294967296 }
 {
     let start = (block * BLOCK) as u32;
     let offset = offsets[block];

@@ -50,13 +50,13 @@ impl Levels {
         }
     }
 
-    /// Overwrites every place of the entries of the block that begins with this one, if the first level has one entry
-    /// for all of them. Returns whether it has; otherwise nothing changes.
+    /// Overwrites every place of the entries of the block that begins with this one, or returns false and changes
+    /// nothing.
     fn overwrite_block(&mut self, first: usize, depth: u8, entry: PackedEntry) -> bool
-        requires within { first + 1024 ≤ 2 ^ self.old.bits }
+        requires within { first + 256 ≤ 2 ^ self.old.bits }
         requires plain { is_group entry ≡ false }
         ensures keeps { IsTrue result → KeepsGroups self.old self.new }
-        ensures overwrites { IsTrue result → OverwritesEntries self.old self.new first (first + 1024) depth entry }
+        ensures overwrites { IsTrue result → OverwritesEntries self.old self.new first (first + 256) depth entry }
         ensures kept { result ≡ false → self.new ≡ self.old }
     {
         self.first.overwrite_block(first, depth, entry)

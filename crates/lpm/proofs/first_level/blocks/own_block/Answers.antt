@@ -18,7 +18,7 @@ unreachable-requires c =
     let there : c.args.block < length offsets = omega (arith, c.requires.there) in
     let read : c.index-offset.result.now ≡ get_or offsets c.args.block 0 =
     c.index-offset.ensures ∙ get_or_default offsets c.args.block _ 0 there in
-    let shared : (get_or offsets c.args.block 0 + c.args.block * 1024) % 4294967296 ≡ 0 = omega (arith, read) in
+    let shared : (get_or offsets c.args.block 0 + c.args.block * 256) % 4294967296 ≡ 0 = omega (arith, read) in
     omega (arith, c.in_default.ensures.full, room_left c.requires.are c.args.block there shared)
 
 pub returns-clause-are : goal.returns-clause-are
@@ -27,19 +27,19 @@ returns-clause-are c =
     let there : c.args.block < length offsets = omega (arith, c.requires.there) in
     let read : c.index-offset.result.now ≡ get_or offsets c.args.block 0 =
     c.index-offset.ensures ∙ get_or_default offsets c.args.block _ 0 there in
-    let shared : (get_or offsets c.args.block 0 + c.args.block * 1024) % 4294967296 ≡ 0 = omega (arith, read) in
+    let shared : (get_or offsets c.args.block 0 + c.args.block * 256) % 4294967296 ≡ 0 = omega (arith, read) in
     let blocks = c.args.places.now.items in
-    let whole : take (c.len-place.result + 1024) blocks ≡ blocks = take_all (c.len-place.result + 1024) blocks (omega arith) in
-    let more : c.len-place.result + 1024 - vec_len c.args.places.now ≡ 1024 = omega arith in
+    let whole : take (c.len-place.result + 256) blocks ≡ blocks = take_all (c.len-place.result + 256) blocks (omega arith) in
+    let more : c.len-place.result + 256 - vec_len c.args.places.now ≡ 256 = omega arith in
     let u = c.index-entry.result.now in
-    let items : c.resize.new.self.items ≡ blocks ++ replicate 1024 u = c.in-Ok.ensures.items
-    ∙ ap (λ (es : List TableEntry). es ++ replicate (c.len-place.result + 1024 - vec_len c.args.places.now) u) whole
+    let items : c.resize.new.self.items ≡ blocks ++ replicate 256 u = c.in-Ok.ensures.items
+    ∙ ap (λ (es : List TableEntry). es ++ replicate (c.len-place.result + 256 - vec_len c.args.places.now) u) whole
     ∙ ap (λ n. blocks ++ replicate n u) more in
-    let few : c.args.block < 16384 = omega (arith, c.requires.are.numbered.few, numbers_length offsets) in
+    let few : c.args.block < 65536 = omega (arith, c.requires.are.numbered.few, numbers_length offsets) in
     let small = place_small c.requires.are c.args.block there shared in
-    let next : ((c.len-place.result + (4294967296 - c.args.block * 1024)) % 4294967296 + c.args.block * 1024) % 4294967296 ≡ length blocks
+    let next : ((c.len-place.result + (4294967296 - c.args.block * 256)) % 4294967296 + c.args.block * 256) % 4294967296 ≡ length blocks
     = omega arith in
-    let moved = set offsets c.args.block ((c.len-place.result + (4294967296 - c.args.block * 1024)) % 4294967296) in
+    let moved = set offsets c.args.block ((c.len-place.result + (4294967296 - c.args.block * 256)) % 4294967296) in
     subst (λ (e : TableEntry). AreBlocks moved (set c.args.uniform.now.items c.args.block e) c.resize.new.self.items (vec_capacity c.resize.new.self))
     (sym c.none.ensures)
     (subst (λ (es : List TableEntry). AreBlocks moved (set c.args.uniform.now.items c.args.block (entry_of 0 0)) es (vec_capacity c.resize.new.self))
@@ -52,19 +52,19 @@ returns-clause-same c =
     let there : c.args.block < length offsets = omega (arith, c.requires.there) in
     let read : c.index-offset.result.now ≡ get_or offsets c.args.block 0 =
     c.index-offset.ensures ∙ get_or_default offsets c.args.block _ 0 there in
-    let shared : (get_or offsets c.args.block 0 + c.args.block * 1024) % 4294967296 ≡ 0 = omega (arith, read) in
+    let shared : (get_or offsets c.args.block 0 + c.args.block * 256) % 4294967296 ≡ 0 = omega (arith, read) in
     let blocks = c.args.places.now.items in
-    let whole : take (c.len-place.result + 1024) blocks ≡ blocks = take_all (c.len-place.result + 1024) blocks (omega arith) in
-    let more : c.len-place.result + 1024 - vec_len c.args.places.now ≡ 1024 = omega arith in
+    let whole : take (c.len-place.result + 256) blocks ≡ blocks = take_all (c.len-place.result + 256) blocks (omega arith) in
+    let more : c.len-place.result + 256 - vec_len c.args.places.now ≡ 256 = omega arith in
     let u = c.index-entry.result.now in
-    let items : c.resize.new.self.items ≡ blocks ++ replicate 1024 u = c.in-Ok.ensures.items
-    ∙ ap (λ (es : List TableEntry). es ++ replicate (c.len-place.result + 1024 - vec_len c.args.places.now) u) whole
+    let items : c.resize.new.self.items ≡ blocks ++ replicate 256 u = c.in-Ok.ensures.items
+    ∙ ap (λ (es : List TableEntry). es ++ replicate (c.len-place.result + 256 - vec_len c.args.places.now) u) whole
     ∙ ap (λ n. blocks ++ replicate n u) more in
-    let few : c.args.block < 16384 = omega (arith, c.requires.are.numbered.few, numbers_length offsets) in
+    let few : c.args.block < 65536 = omega (arith, c.requires.are.numbered.few, numbers_length offsets) in
     let small = place_small c.requires.are c.args.block there shared in
-    let next : ((c.len-place.result + (4294967296 - c.args.block * 1024)) % 4294967296 + c.args.block * 1024) % 4294967296 ≡ length blocks
+    let next : ((c.len-place.result + (4294967296 - c.args.block * 256)) % 4294967296 + c.args.block * 256) % 4294967296 ≡ length blocks
     = omega arith in
-    let moved = set offsets c.args.block ((c.len-place.result + (4294967296 - c.args.block * 1024)) % 4294967296) in
+    let moved = set offsets c.args.block ((c.len-place.result + (4294967296 - c.args.block * 256)) % 4294967296) in
     let uniform = c.args.uniform.now.items in
     let at : u ≡ get_or uniform c.args.block (entry_of 0 0) = c.index-entry.ensures
     ∙ get_or_default uniform c.args.block _ (entry_of 0 0) (there_uniform c.requires.are c.args.block there shared) in
@@ -79,6 +79,6 @@ returns-clause-own c =
     let there : c.args.block < length offsets = omega (arith, c.requires.there) in
     let read : c.index-offset.result.now ≡ get_or offsets c.args.block 0 =
     c.index-offset.ensures ∙ get_or_default offsets c.args.block _ 0 there in
-    let shared : (get_or offsets c.args.block 0 + c.args.block * 1024) % 4294967296 ≡ 0 = omega (arith, read) in
-    let few : c.args.block < 16384 = omega (arith, c.requires.are.numbered.few, numbers_length offsets) in
+    let shared : (get_or offsets c.args.block 0 + c.args.block * 256) % 4294967296 ≡ 0 = omega (arith, read) in
+    let few : c.args.block < 65536 = omega (arith, c.requires.are.numbered.few, numbers_length offsets) in
     omega (arith, place_small c.requires.are c.args.block there shared, c.requires.are.numbered.made)

@@ -19,8 +19,8 @@ invariant_of-self c =
           let wrote = c.overwrite_block.ensures.done done in
           let were = c.overwrite_block.ensures.plain done in
           allocated_alike level.first after c.overwrite_block.ensures.long
-          (kinds_block level.first after c.args.first (c.args.first + 1024) c.args.depth c.args.entry wrote were c.requires.plain)
-          (groups_block level.first after c.args.first (c.args.first + 1024) c.args.depth c.args.entry wrote were c.requires.plain)
+          (kinds_block level.first after c.args.first (c.args.first + 256) c.args.depth c.args.entry wrote were c.requires.plain)
+          (groups_block level.first after c.args.first (c.args.first + 256) c.args.depth c.args.entry wrote were c.requires.plain)
           c.self.invariant
       | inr kept ↦
           subst (λ (es : List TableEntry). GroupsAreAllocated c.self.inside.bits c.self.inside.limit es c.self.inside.groups.items c.self.inside.free.items
@@ -32,7 +32,7 @@ returns-clause-keeps c done =
     let p : TwoLevels = the_view c.self.inside in
     let wrote = c.overwrite_block.ensures.done done in
     let were = c.overwrite_block.ensures.plain done in
-    rw (← c.self.view_is) (keeps_block p (entries_in c.overwrite_block.new.self) c.args.first (c.args.first + 1024) c.args.depth c.args.entry wrote were
+    rw (← c.self.view_is) (keeps_block p (entries_in c.overwrite_block.new.self) c.args.first (c.args.first + 256) c.args.depth c.args.entry wrote were
     c.requires.plain c.overwrite_block.ensures.long)
 
 pub returns-clause-overwrites : goal.returns-clause-overwrites
@@ -40,5 +40,5 @@ returns-clause-overwrites c done =
     let p : TwoLevels = the_view c.self.inside in
     let wrote = c.overwrite_block.ensures.done done in
     let were = c.overwrite_block.ensures.plain done in
-    rw (← c.self.view_is) (block_written p (entries_in c.overwrite_block.new.self) c.args.first (c.args.first + 1024) c.args.depth c.args.entry wrote were
+    rw (← c.self.view_is) (block_written p (entries_in c.overwrite_block.new.self) c.args.first (c.args.first + 256) c.args.depth c.args.entry wrote were
     c.requires.plain)

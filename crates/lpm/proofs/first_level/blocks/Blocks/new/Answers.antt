@@ -6,9 +6,9 @@ use Rattle.lpm.specs.Blocks.{entries_of, numbers_of, AreNumbered}
 use Rattle.lpm.proofs.Blocks.{entries_none, blocks_none, numbers_none, zero_at}
 use Rattle.lpm.proofs.first_level.blocks.Blocks.new.Goals as goal
 
--- a first level has 64 blocks or 16,384
+-- a first level has 64 blocks or 65,536
 abbrev count_of : ℕ → ℕ
-count_of bits = 1 * 2 ^ bits % 18446744073709551616 / 1024
+count_of bits = 1 * 2 ^ bits % 18446744073709551616 / 256
 
 take_none : (n : ℕ) → take {A = TableEntry} n [] ≡ []
 take_none zero = refl
@@ -17,13 +17,13 @@ take_none (suc n) = refl
 less_none : (n : ℕ) → n - 0 ≡ n
 less_none n = omega arith
 
-few : (bits : ℕ) → (bits ≡ 16) ⊎ (bits ≡ 24) → count_of bits ≤ 16384
-few bits (inl narrow) = subst (λ n. count_of n ≤ 16384) (sym narrow) (omega arith)
-few bits (inr wide) = subst (λ n. count_of n ≤ 16384) (sym wide) (omega arith)
+few : (bits : ℕ) → (bits ≡ 16) ⊎ (bits ≡ 24) → count_of bits ≤ 65536
+few bits (inl narrow) = subst (λ n. count_of n ≤ 65536) (sym narrow) (omega arith)
+few bits (inr wide) = subst (λ n. count_of n ≤ 65536) (sym wide) (omega arith)
 
-all : (bits : ℕ) → (bits ≡ 16) ⊎ (bits ≡ 24) → 1024 * count_of bits ≡ 2 ^ bits
-all bits (inl narrow) = subst (λ n. 1024 * count_of n ≡ 2 ^ n) (sym narrow) refl
-all bits (inr wide) = subst (λ n. 1024 * count_of n ≡ 2 ^ n) (sym wide) refl
+all : (bits : ℕ) → (bits ≡ 16) ⊎ (bits ≡ 24) → 256 * count_of bits ≡ 2 ^ bits
+all bits (inl narrow) = subst (λ n. 256 * count_of n ≡ 2 ^ n) (sym narrow) refl
+all bits (inr wide) = subst (λ n. 256 * count_of n ≡ 2 ^ n) (sym wide) refl
 
 pub invariant_of-result : goal.invariant_of-result
 invariant_of-result c =
@@ -31,10 +31,10 @@ invariant_of-result c =
     let long : length offsets ≡ count_of c.args.bits = omega (arith, c.loop-block.invariant.0, c.loop-block.auto.block-end) in
     let numbers : numbers_of offsets ≡ replicate (count_of c.args.bits) 0 =
     numbers_none offsets (λ k h. c.loop-block.invariant.2 k (omega (arith, c.loop-block.invariant.0))) ∙ ap (λ n. replicate {A = ℕ} n 0) long in
-    let blocks : c.resize-2.new.self.items ≡ replicate 1024 (entry_of 0 0) = c.in_ok-resize-2.ensures.items
-    ∙ ap (λ (es : List TableEntry). take 1024 es ++ replicate (1024 - vec_len c.in_ok-places.places) c.none-2.result) c.in_ok-places.ensures.items
-    ∙ ap (λ n. replicate (1024 - n) c.none-2.result) c.in_ok-places.ensures.len
-    ∙ ap (replicate 1024) c.none-2.ensures in
+    let blocks : c.resize-2.new.self.items ≡ replicate 256 (entry_of 0 0) = c.in_ok-resize-2.ensures.items
+    ∙ ap (λ (es : List TableEntry). take 256 es ++ replicate (256 - vec_len c.in_ok-places.places) c.none-2.result) c.in_ok-places.ensures.items
+    ∙ ap (λ n. replicate (256 - n) c.none-2.result) c.in_ok-places.ensures.len
+    ∙ ap (replicate 256) c.none-2.ensures in
     let uniform : c.resize.new.self.items ≡ replicate (count_of c.args.bits) (entry_of 0 0) = c.in_ok-resize.ensures.items
     ∙ ap (λ (es : List TableEntry). take (count_of c.args.bits) es ++ replicate (count_of c.args.bits - vec_len c.in_ok-uniform.uniform) c.none.result)
     c.in_ok-uniform.ensures.items
@@ -48,7 +48,7 @@ invariant_of-result c =
           (subst (λ (es : List TableEntry). AreNumbered (replicate (count_of c.args.bits) 0) es cap) (sym blocks)
           (blocks_none (count_of c.args.bits) cap (omega (arith, c.in_ok-places.ensures.exact, c.in_ok-resize-2.ensures.capacity))
           (few c.args.bits c.requires)));
-      exact = λ k h. ap (λ n. n % 1024) (c.loop-block.invariant.2 k (omega (arith, h, c.loop-block.invariant.0)));
+      exact = λ k h. ap (λ n. n % 256) (c.loop-block.invariant.2 k (omega (arith, h, c.loop-block.invariant.0)));
       each = ap length uniform ∙ length-replicate (count_of c.args.bits) (entry_of 0 0) ∙ sym long;
       cleared = λ k own. absurd (omega (arith, own, ap (λ ns. get_or ns k 0) numbers, zero_at (count_of c.args.bits) k));
     }
@@ -59,10 +59,10 @@ returns c =
     let long : length offsets ≡ count_of c.args.bits = omega (arith, c.loop-block.invariant.0, c.loop-block.auto.block-end) in
     let numbers : numbers_of offsets ≡ replicate (count_of c.args.bits) 0 =
     numbers_none offsets (λ k h. c.loop-block.invariant.2 k (omega (arith, c.loop-block.invariant.0))) ∙ ap (λ n. replicate {A = ℕ} n 0) long in
-    let blocks : c.resize-2.new.self.items ≡ replicate 1024 (entry_of 0 0) = c.in_ok-resize-2.ensures.items
-    ∙ ap (λ (es : List TableEntry). take 1024 es ++ replicate (1024 - vec_len c.in_ok-places.places) c.none-2.result) c.in_ok-places.ensures.items
-    ∙ ap (λ n. replicate (1024 - n) c.none-2.result) c.in_ok-places.ensures.len
-    ∙ ap (replicate 1024) c.none-2.ensures in
+    let blocks : c.resize-2.new.self.items ≡ replicate 256 (entry_of 0 0) = c.in_ok-resize-2.ensures.items
+    ∙ ap (λ (es : List TableEntry). take 256 es ++ replicate (256 - vec_len c.in_ok-places.places) c.none-2.result) c.in_ok-places.ensures.items
+    ∙ ap (λ n. replicate (256 - n) c.none-2.result) c.in_ok-places.ensures.len
+    ∙ ap (replicate 256) c.none-2.ensures in
     let uniform : c.resize.new.self.items ≡ replicate (count_of c.args.bits) (entry_of 0 0) = c.in_ok-resize.ensures.items
     ∙ ap (λ (es : List TableEntry). take (count_of c.args.bits) es ++ replicate (count_of c.args.bits - vec_len c.in_ok-uniform.uniform) c.none.result)
     c.in_ok-uniform.ensures.items

@@ -24,7 +24,7 @@ returns c =
     let fits = in_level are c.args.first _ same c.requires in
     let known = c.own_block-offset.ensures.offset in
     let at = ap (λ o. (o + c.args.first) % 4294967296) known ∙ place_is are c.args.first fits in
-    let own = ap (λ o. (o + c.args.first / 1024 * 1024) % 4294967296) known in
+    let own = ap (λ o. (o + c.args.first / 256 * 256) % 4294967296) known in
     entries_written are c.args.first ((c.own_block-offset.result + c.args.first) % 4294967296) fits at
     (omega (arith, own, c.own_block-offset.ensures.own)) c.args.entry
     (λ zero. c.is_none-none.ensures.none (c.is_none-none.ensures.value ∙ zero))
