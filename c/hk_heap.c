@@ -30,7 +30,8 @@ HK_INNER void rattle_dealloc(void *at);
 
 struct hk_memory rattle_alloc(size_t size, size_t align) {
     (void)align;
-    return found(size > SIZE_MAX - LINE ? NULL : aligned_alloc(LINE, (size / LINE + 1) * LINE));
+    size_t lines = size == 0 ? 1 : (size - 1) / LINE + 1;
+    return found(lines > SIZE_MAX / LINE ? NULL : aligned_alloc(LINE, lines * LINE));
 }
 
 /* The first `kept` bytes, which are at most `size`, stay as they are. */

@@ -57,6 +57,8 @@ impl<W: Write + Drop> Outputs<W> {
     }
 
     /// `put`, unless something has failed before.
+    // inlined, as `Sink::pass` is
+    #[inline(always)]
     pub(crate) fn put_unless_failed(
         &mut self,
         verdict: Verdict,

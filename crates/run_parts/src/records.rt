@@ -94,8 +94,8 @@ pub fn look<J: Run, R: Read>(
 
 /// Reads the record that was looked at into a chain, under its number. `None` if the input ends inside it. Requires:
 /// the chain has space for it.
-// inlined, so that the packet isn't returned through memory: a load of several fields at once would wait there for
-// all stores before it, and thus for the lines of the frame, which another processor has
+// inlined, so that the packet isn't returned through memory: a profile showed the reader waiting where its fields were
+// loaded again
 #[inline(always)]
 pub fn read_record<J: Run, R: Read>(
     reader: &mut Reader<R>,

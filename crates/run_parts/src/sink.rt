@@ -105,6 +105,8 @@ impl<J: Run, W: Write + Drop> Sink<J, W> {
 
     /// Releases a packet at once if it is its turn and no other has its number, and returns its chain: what `accept`
     /// and `give` do, without moving the packet into the window. Any other packet comes back.
+    // inlined, so that neither the packet nor its chain is passed through memory
+    #[inline(always)]
     pub fn pass(&mut self, packet: Judged<J>) -> Result<Chain, Judged<J>>
         ensures passed { IsOk result ↔ ((packet.seq ≡ self.old.window.next) × IsFree self.old.window packet.seq) }
         ensures chain { IfOk result (λ chain. chain ≡ packet.chain) }

@@ -35,6 +35,8 @@ pub(crate) fn link<J: Run>(got: &mut Burst<Packet<J>, SPAN>) -> Option<Chain>
 
 /// Appends the segments of a packet to those that are to be freed, which are freed if the list has no room for more.
 /// After an error the rest of these are lost.
+// inlined, so that the chain isn't passed through memory
+#[inline(always)]
 pub(crate) fn release<J: Run, R: Wait + Clock>(
     rt: &R,
     ring_port: &mut RingPort<'_, Packet<J>>,
