@@ -10,12 +10,15 @@ const NAP: u64 = 1;
 /// How many pauses are spins, each twice as long as the one before.
 const SPINS: u32 = 7;
 
-/// The pauses of a thread that waits for others: it spins, and then sleeps for a moment each time, so that a processor
-/// is left to those that have work. It doesn't yield: a thread that wakes from a sleep can be put on another processor.
+/// How many pauses the thread makes without a sleep that the others wait for: some milliseconds on Linux.
+const YIELDS: u32 = 8192;
+
+/// The pauses of a thread that waits for others. After some of them it sleeps for a moment each time, so that a
+/// processor is left to those that have work.
 #[derive(Drop)]
 pub struct Idle {
     backoff: Backoff,
-    spins: Cell<u32>,
+    awake: Cell<u32>,
 }
 
 impl Idle {
@@ -24,18 +27,49 @@ impl Idle {
     pub fn new() -> Idle {
         Idle {
             backoff: Backoff::new(),
-            spins: Cell::new(0),
+            awake: Cell::new(0),
         }
     }
 
-    /// A pause: spins that grow, then a sleep each time.
+    /// A pause: spins that grow, then a sleep each time. It doesn't yield: a thread that wakes from a sleep can be put
+    /// on another processor.
     pub fn wait<R: Clock>(&self, rt: &R) {
-        let spins = self.spins.get();
-        if spins < SPINS {
-            self.spins.set(spins + 1);
+        if self.is_awake(SPINS) {
             self.backoff.spin();
         } else {
-            thread::sleep(rt, Duration::from_micros(NAP));
+            nap(rt);
         }
     }
+
+    /// A pause of the thread that the others wait for: spins that grow, then yields, and a sleep each time only after a
+    /// long wait, as for an input that is slow.
+    pub fn wait_longer<R: Clock>(&self, rt: &R) {
+        if self.is_awake(YIELDS) {
+            self.backoff.snooze();
+        } else {
+            nap(rt);
+        }
+    }
+
+    /// Whether this is one of the first pauses.
+    fn is_awake(&self, first: u32) -> bool {
+        let awake = self.awake.get();
+        if awake < first {
+            self.awake.set(awake + 1);
+            true
+        } else {
+            false
+        }
+    }
+
+    /// The next pause is the first one again.
+    pub fn reset(&self) {
+        self.backoff.reset();
+        self.awake.set(0);
+    }
+}
+
+/// Sleeps for a moment.
+fn nap<R: Clock>(rt: &R) {
+    thread::sleep(rt, Duration::from_micros(NAP));
 }

@@ -5,13 +5,12 @@ use crate::stage_fault::StageFault;
 use crate::threads::ring_port::RingPort;
 use crate::threads::segments::{give_back, release};
 use burst::Burst;
-use crossbeam_utils::Backoff;
 use run_parts::{Judged, Sink};
 use stages_laws::Run;
 use std::io::Write;
 use std::sync::Wait;
 use std::time::Clock;
-use worker::{OUTPUT, Packet, SPAN};
+use worker::{Idle, OUTPUT, Packet, SPAN};
 
 /// Releases all packets whose turn it is, and frees their segments.
 fn let_go<J: Run, W: Write + Drop, T: Wait + Clock>(
@@ -154,7 +153,7 @@ pub(crate) fn drain<J: Run, W: Write + Drop, T: Wait + Clock>(
     let mut free = Burst::<Packet<J>, SPAN>::new();
     let mut left = workers;
     let mut told = Ok(());
-    let backoff = Backoff::new();
+    let idle = Idle::new();
     for _ in rt.forever() {
         if left == 0 {
             return told;
@@ -162,12 +161,12 @@ pub(crate) fn drain<J: Run, W: Write + Drop, T: Wait + Clock>(
         items.clear();
         ring_port.receive(rt, OUTPUT, burst, &mut items)?;
         if items.is_empty() {
-            backoff.snooze();
+            idle.wait_longer(rt);
             continue;
         }
-        backoff.reset();
+        idle.reset();
         if fetch(&items) == u64::MAX {
-            backoff.snooze();
+            idle.wait_longer(rt);
         }
         let (marks, found) = handle_all(rt, ring_port, sink, &mut items, &mut free);
         // a worker passes one mark on; no clause states that there are no more of them than workers
