@@ -71,7 +71,7 @@ Examples:
 
 Workers:
   N workers are N + 2 threads, each of which wants a processor of its own.
-  On four processors 0 to 3 workers take about the same time, with the settings of examples/fast.toml.
+  On four processors 1 or 2 workers take a little less time than 0, with the settings of examples/fast.toml.
   On two processors 0 is the fastest.
 
 Exit status:

@@ -31,7 +31,8 @@ impl FirstLevel {
         Ok(FirstLevel::Whole(vec![in alloc; PackedEntry::none(); size]?))
     }
 
-    /// 2^`bits` entries without a route. All of their memory is reserved here, and one block of it written.
+    /// 2^`bits` entries without a route. All of their memory is reserved here; one block of it is written, and two words
+    /// for each block.
     pub fn sparse(alloc: Global, bits: u8) -> Result<FirstLevel, AllocError>
         requires { (bits ≡ 16) ⊎ (bits ≡ 24) }
         ensures { IfOk result (λ f. entries_in f ≡ replicate (2 ^ bits) (entry_of 0 0)) }
@@ -52,6 +53,7 @@ impl FirstLevel {
     }
 
     /// Overwrites one entry. Takes no memory.
+    #[inline(always)]
     pub fn set(&mut self, first: usize, entry: PackedEntry)
         requires { first < length (entries_in self.old) }
         ensures { entries_in self.new ≡ slice_set (entries_in self.old) first entry }

@@ -63,9 +63,9 @@ impl Table {
         Ok(Table::over(alloc, levels))
     }
 
-    /// The same, but the first level's memory is only reserved here. A block of 256 entries is written once a route
-    /// comes into it that doesn't cover all of it. So such a table is made quicker and takes less memory, and a lookup
-    /// reads one word more, or two. Returns `Err` only if out of memory.
+    /// The same, but the memory of the entries is only reserved here, and 8 bytes are written for each 256 of them. A
+    /// block of 256 entries is written once a route comes into it that doesn't cover all of it. So such a table is made
+    /// faster and takes less memory, and a lookup reads one word more, or two. Returns `Err` only if out of memory.
     pub fn sparse(alloc: Global, bits: u8, groups: u32) -> Result<Table, AllocError>
         requires { (bits ≡ 16) ⊎ (bits ≡ 24) }
         ensures { IfOk result (λ t. IsNew t bits groups) }

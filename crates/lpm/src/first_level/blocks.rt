@@ -42,7 +42,8 @@ impl Model for Blocks {
 }
 
 impl Blocks {
-    /// 2^`bits` entries without a route. All of their memory is reserved here, and one block of it written.
+    /// 2^`bits` entries without a route. All of their memory is reserved here; one block of it is written, and two words
+    /// for each block.
     pub fn new(alloc: Global, bits: u8) -> Result<Blocks, AllocError>
         requires { (bits ≡ 16) ⊎ (bits ≡ 24) }
         ensures { IfOk result (λ b. b ≡ replicate (2 ^ bits) (entry_of 0 0)) }

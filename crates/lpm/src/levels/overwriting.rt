@@ -36,6 +36,7 @@ impl Levels {
     }
 
     /// Overwrites every place of one entry.
+    #[inline(always)]
     fn overwrite_entry(&mut self, first: usize, depth: u8, entry: PackedEntry)
         requires first { first < 2 ^ self.old.bits }
         requires plain { is_group entry ≡ false }
@@ -64,6 +65,7 @@ impl Levels {
 
     /// Overwrites every place of some entries, from `first` on, but none from `to` on. Returns how many: a block, if
     /// that is one step, or one.
+    #[inline(always)]
     fn overwrite_some(&mut self, first: usize, to: usize, depth: u8, entry: PackedEntry) -> usize
         requires some { first < to }
         requires within { to ≤ 2 ^ self.old.bits }
