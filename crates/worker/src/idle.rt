@@ -10,7 +10,7 @@ const NAP: u64 = 1;
 /// How many pauses are spins, each twice as long as the one before.
 const SPINS: u32 = 7;
 
-/// How many pauses the thread makes without a sleep that the others wait for: some milliseconds on Linux.
+/// How many pauses the thread that the others wait for makes before it sleeps. On Linux they take some milliseconds.
 const YIELDS: u32 = 8192;
 
 /// The pauses of a thread that waits for others. After some of them it sleeps for a moment each time, so that a
@@ -18,6 +18,7 @@ const YIELDS: u32 = 8192;
 #[derive(Drop)]
 pub struct Idle {
     backoff: Backoff,
+    /// How many pauses there were without a sleep.
     awake: Cell<u32>,
 }
 
@@ -34,7 +35,7 @@ impl Idle {
     /// A pause: spins that grow, then a sleep each time. It doesn't yield: a thread that wakes from a sleep can be put
     /// on another processor.
     pub fn wait<R: Clock>(&self, rt: &R) {
-        if self.is_awake(SPINS) {
+        if self.is_among_first(SPINS) {
             self.backoff.spin();
         } else {
             nap(rt);
@@ -44,17 +45,17 @@ impl Idle {
     /// A pause of the thread that the others wait for: spins that grow, then yields, and a sleep each time only after a
     /// long wait, as for an input that is slow.
     pub fn wait_longer<R: Clock>(&self, rt: &R) {
-        if self.is_awake(YIELDS) {
+        if self.is_among_first(YIELDS) {
             self.backoff.snooze();
         } else {
             nap(rt);
         }
     }
 
-    /// Whether this is one of the first pauses.
-    fn is_awake(&self, first: u32) -> bool {
+    /// Counts a pause, and returns whether it is among the first `count`.
+    fn is_among_first(&self, count: u32) -> bool {
         let awake = self.awake.get();
-        if awake < first {
+        if awake < count {
             self.awake.set(awake + 1);
             true
         } else {

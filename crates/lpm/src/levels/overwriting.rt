@@ -36,6 +36,7 @@ impl Levels {
     }
 
     /// Overwrites every place of one entry.
+    // inlined, as what it calls is: a route of few bits has millions of entries
     #[inline(always)]
     fn overwrite_entry(&mut self, first: usize, depth: u8, entry: PackedEntry)
         requires first { first < 2 ^ self.old.bits }
