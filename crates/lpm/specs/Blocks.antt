@@ -41,8 +41,8 @@ pub record AreBlocks (offsets : List ℕ) (uniform places : List TableEntry) (ca
   pub numbered : AreNumbered (numbers_of offsets) places capacity
   -- an offset leads to the first entry of a block in memory
   pub exact : (c : ℕ) → c < length offsets → (slice_index_or offsets c 0 + c * 256) % 4294967296 % 256 ≡ 0
-  -- a block with memory of its own has no one entry
   pub each : length uniform ≡ length offsets
+  -- a block with memory of its own has no one entry
   pub cleared : (c : ℕ) → 0 < slice_index_or (numbers_of offsets) c 0 → slice_index_or uniform c (entry_of 0 0) ≡ entry_of 0 0
 
 abbrev pub HasBlocks : List ℕ → List TableEntry → List TableEntry → Type 0

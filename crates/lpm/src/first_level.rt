@@ -31,8 +31,8 @@ impl FirstLevel {
         Ok(FirstLevel::Whole(vec![in alloc; PackedEntry::none(); size]?))
     }
 
-    /// 2^`bits` entries without a route. All of their memory is reserved here; one block of it is written, and two words
-    /// for each block.
+    /// 2^`bits` entries without a route. All of their memory is reserved here. One block of it is written, and two
+    /// words for each block.
     pub fn sparse(alloc: Global, bits: u8) -> Result<FirstLevel, AllocError>
         requires { (bits ≡ 16) ⊎ (bits ≡ 24) }
         ensures { IfOk result (λ f. entries_in f ≡ replicate (2 ^ bits) (entry_of 0 0)) }

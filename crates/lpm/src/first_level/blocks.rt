@@ -10,12 +10,12 @@ use crate::packed_entry::PackedEntry;
 use std::alloc::{AllocError, Global};
 use std::marker::Model;
 
-/// How many entries a block has. With fewer, the words that each block takes in `offsets` and `uniform` are more; with
-/// more, a route that covers part of a block writes more entries.
+/// How many entries a block has. With fewer, `offsets` and `uniform` are longer; with more, a route that covers part of
+/// a block writes more entries.
 pub const BLOCK: usize = 256;
 
 /// Entries, as many as a first level has. A block gets memory of its own when one of its entries is overwritten alone,
-/// and keeps it. Until then it takes neither memory nor time, since the operating system gives a page memory when it is
+/// and keeps it. Until then it takes two words and no more, since the operating system gives a page memory when it is
 /// first written.
 #[derive(Drop)]
 pub struct Blocks {
@@ -42,8 +42,8 @@ impl Model for Blocks {
 }
 
 impl Blocks {
-    /// 2^`bits` entries without a route. All of their memory is reserved here; one block of it is written, and two words
-    /// for each block.
+    /// 2^`bits` entries without a route. All of their memory is reserved here. One block of it is written, and two
+    /// words for each block.
     pub fn new(alloc: Global, bits: u8) -> Result<Blocks, AllocError>
         requires { (bits ≡ 16) ⊎ (bits ≡ 24) }
         ensures { IfOk result (λ b. b ≡ replicate (2 ^ bits) (entry_of 0 0)) }
