@@ -176,34 +176,42 @@ module _ {T : Type 0} (tags : T → List ℕ) (plans : List RingPlan) (pool : �
 -- the same for the moment of a step
 module _ {T : Type 0} (tags : T → List ℕ) (ring : ℕ) (side : Side) (plan : RingPlan) (v : View T) (at : slice_get v.plans ring ≡ Some plan) where
   pub was_taken : (x : ℕ) → v.party.span ≡ None → mode_of plan side ≡ Hts → x % RESERVED_RANGE ≢ 0 → Was tags v (own_at ring side) x → WasTaken tags ring side v x
-  was_taken x idle hts some_reserved was = (
-    was,
-    taken tags v.plans v.pool was.state was.consistent was.id v was.here idle ring side plan at hts
-        (λ e. some_reserved (ap (λ n. n % RESERVED_RANGE) (sym was.found) ∙ e)),
-  )
+  was_taken x idle hts some_reserved was = record {
+    was = was;
+    always = λ any.
+        taken tags v.plans v.pool any.state any.consistent any.id v any.here idle ring side plan at hts
+        (λ e. some_reserved (ap (λ n. n % RESERVED_RANGE) (sym any.found) ∙ e));
+  }
 
   pub was_made : (x : ℕ) → Was tags v (own_at ring side) x → WasMade tags ring side plan v x
-  was_made x was = (was, sym was.found ∙ made tags v.plans v.pool was.state was.consistent was.id v was.here ring side plan at)
+  was_made x was = record {
+    was = was;
+    always = λ any. sym any.found ∙ made tags v.plans v.pool any.state any.consistent any.id v any.here ring side plan at;
+  }
 
   pub had_at_most : (word x : ℕ) → 0 < v.parts → v.observed ≡ Some record { ring = ring; side = side; looked_at = word; tail_seen = None }
       → Was tags v (settled_word_at (mode_of plan (other_side side)) ring (other_side side)) x
-      → HadAtMost tags ring side plan v
+      → HadAtMost tags ring side plan v (position_of (mode_of plan (other_side side)) x)
       (room_by_look side plan.geometry.capacity (position_of (mode_of plan side) word) (position_of (mode_of plan (other_side side)) x))
   had_at_most word x alive looked was = (
-    settled_word_at (mode_of plan (other_side side)) ring (other_side side),
     x,
-    was,
-    subst (λ n. room_on plan was.state.views ring side
-        ≤ room_by_look side plan.geometry.capacity (position_of (mode_of plan side) word) (position_of (mode_of plan (other_side side)) n)) was.found
-        (at_most tags v.plans v.pool was.state was.consistent was.id v was.here alive side
-        record { ring = ring; side = side; looked_at = word; tail_seen = None } plan looked refl at),
+    refl,
+    record {
+      was = was;
+      always = λ any.
+          subst (λ n. room_on plan any.state.views ring side
+          ≤ room_by_look side plan.geometry.capacity (position_of (mode_of plan side) word) (position_of (mode_of plan (other_side side)) n)) any.found
+          (at_most tags v.plans v.pool any.state any.consistent any.id v any.here alive side
+          record { ring = ring; side = side; looked_at = word; tail_seen = None } plan looked refl at);
+    },
   )
 
   pub was_earlier : (start count x : ℕ) → 0 < v.parts → v.party.span ≡ Some record { ring = ring; side = side; start = start; count = count }
       → mode_of plan side ≡ Multi → x ≢ start
       → Was tags v (tail_at ring side) x → WasEarlier tags record { ring = ring; side = side; start = start; count = count } v x
-  was_earlier start count x alive busy multi miss was = (
-    was,
-    earlier tags v.plans v.pool was.state was.consistent was.id v was.here alive record { ring = ring; side = side; start = start; count = count } plan busy
-        at multi (λ e. miss (sym was.found ∙ e)),
-  )
+  was_earlier start count x alive busy multi miss was = record {
+    was = was;
+    always = λ any.
+        earlier tags v.plans v.pool any.state any.consistent any.id v any.here alive record { ring = ring; side = side; start = start; count = count } plan busy
+        at multi (λ e. miss (sym any.found ∙ e));
+  }

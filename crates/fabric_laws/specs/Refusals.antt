@@ -9,10 +9,10 @@ use Rattle.geom.specs.declared.plan.RingPlan.{RingPlan}
 use Rattle.geom.specs.Plan.{mode_of}
 use Rattle.ringcore_laws.specs.declared.protocol.Span.{Span}
 use Rattle.ringcore_laws.specs.RingSide.{side_of}
-use Rattle.ringcore_laws.specs.History.{own_word}
+use Rattle.ringcore_laws.specs.History.{other_side, own_word, position_of}
 use Rattle.fabric_laws.specs.declared.view.View.{View}
 use Rattle.fabric_laws.specs.Rule.{IsConsistent, parties_of_views}
-use Rattle.fabric_laws.specs.Words.{own_at, tail_at}
+use Rattle.fabric_laws.specs.Words.{own_at, settled_word_at, tail_at}
 
 module _ {T : Type 0} where
   -- the room that there is on a side
@@ -49,20 +49,28 @@ module _ {T : Type 0} (tags : T → List ℕ) where
       → Step (Option T) → Me (Option T) (View T) → ℕ → Me (Option T) (View T) → Type 0
   and_was tells st m x m' = tells st m x m' × Was m.0 st.word x
 
+  -- the word was x, and in every state that this view and this word fit, this holds: at every moment at which a step
+  -- may have found it so
+  pub record Found (v : View T) (word x : ℕ) (holds : List (View T) → ℕ → Type 0) : Type 0 where
+    pub was : Was v word x
+    pub always : (any : Was v word x) → holds any.state.views any.id
+
   -- Busy: the own word was x, and another hand's span of the side was open
   abbrev pub WasTaken : ℕ → Side → View T → ℕ → Type 0
-  WasTaken ring side v x = (was : Was v (own_at ring side) x) × IsTaken was.state.views was.id ring side
+  WasTaken ring side v x = Found v (own_at ring side) x (λ views id. IsTaken views id ring side)
 
   -- Contended: the own word was x, as the spans of all hands made it
   abbrev pub WasMade : ℕ → Side → RingPlan → View T → ℕ → Type 0
-  WasMade ring side plan v x = (was : Was v (own_at ring side) x)
-      × (x ≡ own_word (mode_of plan side) (side_of (parties_of_views was.state.views) ring side))
+  WasMade ring side plan v x = Found v (own_at ring side) x
+      (λ views id. x ≡ own_word (mode_of plan side) (side_of (parties_of_views views) ring side))
 
-  -- NoRoom: there was room for at most this many
-  abbrev pub HadAtMost : ℕ → Side → RingPlan → View T → ℕ → Type 0
-  HadAtMost ring side plan v left =
-      (word x : ℕ) × (was : Was v word x) × (room_on plan was.state.views ring side ≤ left)
+  -- NoRoom: the other side was settled up to `tail`, and there was room for at most this many
+  abbrev pub HadAtMost : ℕ → Side → RingPlan → View T → ℕ → ℕ → Type 0
+  HadAtMost ring side plan v tail left =
+      let other = other_side side in
+      (x : ℕ) × (position_of (mode_of plan other) x ≡ tail)
+      × Found v (settled_word_at (mode_of plan other) ring other) x (λ views id. room_on plan views ring side ≤ left)
 
   -- NotYet: the tail was x, and an earlier span of the side was open
   abbrev pub WasEarlier : Span → View T → ℕ → Type 0
-  WasEarlier span v x = (was : Was v (tail_at span.ring span.side) x) × HasEarlier was.state.views span
+  WasEarlier span v x = Found v (tail_at span.ring span.side) x (λ views id. HasEarlier views span)
