@@ -3,12 +3,13 @@ use Rattle.std.proofs.Common.{◌≡◌, ◌-◌, ◌<◌, ◌++◌, ◌∙◌, 
 use Rattle.burst.specs.declared.tagged.Tagged.{Ghosts}
 use Rattle.fabric.specs.declared.stored.Stored.{Ghosts as StoredGhosts}
 use Rattle.fabric.specs.declared.hand.StartFault.{StartFault}
+use Rattle.fabric.specs.declared.hand.StartFault.TheVariants.{Busy, Contended, NoRoom, Worn, BadCount}
 use Rattle.fabric.specs.Settles.{AreOwnBuffers}
 use Rattle.list_calls.specs.declared.answers.Moved.{Moved}
 use Rattle.word_pool.specs.declared.local_words.LocalWords.{LocalWords}
 use Rattle.pool_laws.specs.Caches.{cached_after_get, taken_by_get}
 use Rattle.word_pool.specs.Words.{HasSameHand, SameCache, SameRing, cache_of, view_of}
-use Rattle.capi_pools.specs.Calls.{HasDrawn, HasGot, RefusesGet}
+use Rattle.capi_pools.specs.Calls.{HasDrawn, HasGot, IsLastAsked, RefusesGet}
 use Rattle.capi_pools.specs.Members.{NumberRings, numbers_of}
 use Rattle.capi_pools.specs.Tries.{Filled, IsSame, Received}
 use Rattle.capi_rings.specs.Spans.{start_fault}
@@ -56,4 +57,11 @@ module _ {G : Ghosts Number} {H : StoredGhosts (Option Number) Number} (f : Numb
   pub refused_later : (n asked : ℕ) (reason : StartFault) → IsSame l k → length (cache_of l) < n
       → asked ≡ n - length (cache_of l) → Received f 0 asked k m (Err reason) [] → RefusesGet f l m n (start_fault reason)
   refused_later n asked reason first short missing is =
-      inr (short, asked, inr missing, reason, refl, received_later f 0 l k m asked (Err reason) [] first.kept is)
+      inr (short, asked, reason, last_asked reason, refl, received_later f 0 l k m asked (Err reason) [] first.kept is)
+    where
+      last_asked : (why : StartFault) → IsLastAsked l n asked why
+      last_asked (NoRoom left) = missing
+      last_asked (Busy word) = inr missing
+      last_asked (Contended word) = inr missing
+      last_asked Worn = inr missing
+      last_asked BadCount = inr missing

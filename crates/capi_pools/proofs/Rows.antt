@@ -1,7 +1,9 @@
 -- Worked cases of counts that calls on a pool of numbers take, and don't take
-use Rattle.std.proofs.Common.{◌≡◌, ℕ, arith, inl, inr, refl}
+use Rattle.std.proofs.Common.{arith, inl, inr, refl}
 use Rattle.capi_rings.specs.declared.fault.Fault.TheVariants as fault
+use Rattle.fabric.specs.declared.hand.StartFault.TheVariants.{Busy, NoRoom}
 use Rattle.capi_pools.specs.Calls.{IsBadCount, IsGoodCount}
+use Rattle.capi_pools.specs.Tries.{WasLost}
 
 one : IsGoodCount 1
 one = (omega arith, omega arith)
@@ -20,3 +22,10 @@ not_none is = absurd (omega (arith, is.0))
 
 not_above : IsGoodCount 513 → ⊥
 not_above is = absurd (omega (arith, is.1))
+
+-- another thread's open span is a reason to try again, and too little room is none
+lost : WasLost (Busy 3)
+lost = tt
+
+not_lost : WasLost (NoRoom 2) → ⊥
+not_lost h = h

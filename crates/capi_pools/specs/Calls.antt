@@ -5,6 +5,7 @@ use Rattle.burst.specs.declared.tagged.Tagged.{Ghosts}
 use Rattle.fabric_laws.specs.declared.view.View.{View}
 use Rattle.fabric.specs.declared.stored.Stored.{Ghosts as StoredGhosts}
 use Rattle.fabric.specs.declared.hand.StartFault.{StartFault}
+use Rattle.fabric.specs.declared.hand.StartFault.TheVariants.{Busy, Contended, NoRoom, Worn, BadCount}
 use Rattle.fabric.specs.Settles.{AreNotOwnBuffers, AreOwnBuffers}
 use Rattle.list_calls.specs.declared.answers.Moved.{Moved}
 use Rattle.list_calls.specs.declared.answers.Refusal.{Refusal}
@@ -32,6 +33,14 @@ module _ {G : Ghosts Number} {H : StoredGhosts (Option Number) Number}
   -- what a get of n numbers asks of the free ring: those that the cache lacks and one cache more, or these alone
   abbrev pub IsAskedFor : ℕ → ℕ → Type 0
   IsAskedFor n asked = (asked ≡ n - length (cache_of l) + cache_size l) ⊎ (asked ≡ n - length (cache_of l))
+
+  -- what a get that is refused asked for last: if the free ring has too few, the numbers that the cache lacks alone
+  abbrev pub IsLastAsked : ℕ → ℕ → StartFault → Type 0
+  IsLastAsked n asked (NoRoom left) = asked ≡ n - length (cache_of l)
+  IsLastAsked n asked (Busy word) = IsAskedFor n asked
+  IsLastAsked n asked (Contended word) = IsAskedFor n asked
+  IsLastAsked n asked Worn = IsAskedFor n asked
+  IsLastAsked n asked BadCount = IsAskedFor n asked
 
   -- the numbers are the handle's own, none twice and none cached
   abbrev pub MayPut : List Number → Type 0
@@ -72,10 +81,10 @@ module _ {G : Ghosts Number} {H : StoredGhosts (Option Number) Number} (f : Numb
     pub own : AreOwnBuffers numbers_of (view_of m) (got ++ cache_of m)
     pub ring : SameRing l m
 
-  -- why nothing was got: the count, or what the free ring answered
+  -- why nothing was got: the count, or what the free ring answered at last
   abbrev pub RefusesGet : ℕ → Fault → Type 0
   RefusesGet n why = IsBadCount n why
-      ⊎ ((length (cache_of l) < n) × (asked : ℕ) × IsAskedFor l n asked × (reason : StartFault)
+      ⊎ ((length (cache_of l) < n) × (asked : ℕ) × (reason : StartFault) × IsLastAsked l n asked reason
       × (why ≡ start_fault reason) × Received f 0 asked l m (Err reason) [])
 
   -- a get: it fills the array, or nothing is changed

@@ -9,7 +9,7 @@ ghost use Rattle.capi_pools.specs.Members.{ArePoolRings, numbers_of};
 ghost use Rattle.capi_pools.specs.Tries.{IsSame, Received};
 
 use crate::member::{MOST_NUMBERS, Number};
-use crate::tries::receive;
+use crate::tries::{Tries, receive};
 use capi_rings::{Fault, fault_of};
 use fabric::{Fabric, StartFault};
 use slot::Slot;
@@ -61,7 +61,7 @@ fn draw(
 {
     let mut places = [Number { value: 0 }; 1024];
     let taken = &mut places[..asked];
-    match receive(f, local, 0, taken) {
+    match receive(f, local, 0, taken, &mut Tries::new()) {
         Ok(_) => {
             deal(local, taken, into);
             Ok(())

@@ -6,7 +6,7 @@ ghost use Rattle.capi_pools.specs.Calls.{PassesOn, TakesOver};
 ghost use Rattle.capi_pools.specs.Members.{ArePoolRings};
 
 use crate::member::{MOST_NUMBERS, Number};
-use crate::tries::{receive, refused, send};
+use crate::tries::{Tries, receive, refused, send};
 use capi_rings::{Fault, fault_of};
 use fabric::Fabric;
 use slot::Slot;
@@ -29,7 +29,7 @@ pub fn pass_on(
     if n == 0 || n > MOST_NUMBERS {
         return Err(Fault::Count);
     }
-    match send(f, local, ring, items) {
+    match send(f, local, ring, items, &mut Tries::new()) {
         Ok(_) => Ok(n as u32),
         Err(why) => Err(refused(why)),
     }
@@ -52,7 +52,7 @@ pub fn take_over(
     if n == 0 || n > MOST_NUMBERS {
         return Err(Fault::Count);
     }
-    match receive(f, local, ring, into) {
+    match receive(f, local, ring, into, &mut Tries::new()) {
         Ok(_) => Ok(n as u32),
         Err(why) => Err(fault_of(why)),
     }

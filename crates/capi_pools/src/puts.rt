@@ -6,7 +6,7 @@ ghost use Rattle.capi_pools.specs.Calls.{Flushes, Puts};
 ghost use Rattle.capi_pools.specs.Members.{ArePoolRings};
 
 use crate::member::{MOST_NUMBERS, Number};
-use crate::tries::{refused, send};
+use crate::tries::{Tries, refused, send};
 use capi_rings::Fault;
 use fabric::Fabric;
 use pool_laws::PoolFault;
@@ -32,7 +32,7 @@ pub fn put_numbers(
     }
     match local.put_cached_from_slice(items) {
         Ok(()) => Ok(n as u32),
-        Err(PoolFault::CacheFull) => match send(f, local, 0, items) {
+        Err(PoolFault::CacheFull) => match send(f, local, 0, items, &mut Tries::new()) {
             Ok(_) => Ok(n as u32),
             Err(why) => Err(refused(why)),
         },
@@ -62,7 +62,7 @@ pub fn flush_numbers(
         Err(_) => unreachable!(),
     }
     cached.reverse();
-    match send(f, local, 0, cached) {
+    match send(f, local, 0, cached, &mut Tries::new()) {
         Ok(_) => Ok(n as u32),
         Err(why) => {
             match local.put_cached_from_slice(cached) {

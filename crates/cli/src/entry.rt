@@ -1,7 +1,9 @@
 //! The whole program, given its arguments, a reader and two writers. Files and memory belong to one runtime, threads
 //! may belong to another.
 
-ghost use Rattle.std.specs.Prelude.{◌≡◌, ◌≤◌};
+ghost use Rattle.std.specs.Prelude.{◌≡◌, ◌≤◌, IfOk, IfSome, IsOk, None, OnOk};
+ghost use Rattle.std.specs.Io.KnownBytes.{Appends};
+ghost use Rattle.cli.specs.Printed.{PrintsRingReplies, PrintsStepsReplies};
 
 use crate::fault::Fault;
 use crate::one_line::OneLine;
@@ -88,7 +90,10 @@ fn answer_ring<'a, R: Files + AllocGlobal, I: Read + Drop, O: Write>(
     file: Option<&'a str>,
     input: I,
     out: &mut O,
-) -> Result<(), Fault<'a>> {
+) -> Result<(), Fault<'a>>
+    ensures { file.entry ≡ None → OnOk result (IfSome (I.remaining input)
+        (PrintsRingReplies (O.contents out.old) (O.contents out.new))) }
+{
     let bytes = read(rt, file, input)?;
     let mut replies = Vec::new(rt.alloc());
     let answered = ring_text(rt.alloc(), bytes.as_slice(), &mut replies);
@@ -102,7 +107,10 @@ fn answer_steps<'a, R: Files + AllocGlobal, I: Read + Drop, O: Write>(
     file: Option<&'a str>,
     input: I,
     out: &mut O,
-) -> Result<(), Fault<'a>> {
+) -> Result<(), Fault<'a>>
+    ensures { file.entry ≡ None → OnOk result (IfSome (I.remaining input)
+        (PrintsStepsReplies (O.contents out.old) (O.contents out.new))) }
+{
     let bytes = read(rt, file, input)?;
     let mut replies = Vec::new(rt.alloc());
     let answered = steps_text(rt.alloc(), bytes.as_slice(), &mut replies);
@@ -111,7 +119,9 @@ fn answer_steps<'a, R: Files + AllocGlobal, I: Read + Drop, O: Write>(
 }
 
 /// The fault of a command file, if it was not answered to its end.
-fn text_result<'a>(answered: Result<(), TextFault>) -> Result<(), Fault<'a>> {
+fn text_result<'a>(answered: Result<(), TextFault>) -> Result<(), Fault<'a>>
+    ensures { OnOk result (IsOk answered) }
+{
     match answered {
         Ok(()) => Ok(()),
         Err(fault) => Err(Fault::Text(fault)),
@@ -141,7 +151,9 @@ fn read<'a, R: Files + AllocGlobal, I: Read + Drop>(
     rt: &R,
     file: Option<&'a str>,
     mut input: I,
-) -> Result<Vec<u8>, Fault<'a>> {
+) -> Result<Vec<u8>, Fault<'a>>
+    ensures { file.entry ≡ None → IfOk result (λ bytes. IfSome (I.remaining input) (λ known. bytes.items ≡ known)) }
+{
     let name = file.unwrap_or(INPUT);
     let bytes = match file {
         Some(name) => fs::read(rt, name),
@@ -157,7 +169,9 @@ fn read<'a, R: Files + AllocGlobal, I: Read + Drop>(
 }
 
 /// Writes replies, if there are any.
-fn print<'a, O: Write>(replies: &[u8], out: &mut O) -> Result<(), Fault<'a>> {
+fn print<'a, O: Write>(replies: &[u8], out: &mut O) -> Result<(), Fault<'a>>
+    ensures { OnOk result (Appends (O.contents out.old) (O.contents out.new) replies.now) }
+{
     if replies.is_empty() {
         return Ok(());
     }

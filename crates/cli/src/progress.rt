@@ -104,6 +104,9 @@ pub(crate) struct Watched<'p, 'a, D, C, E> {
 }
 
 impl<D: Read, C: Clock, E: Write> Read for Watched<'_, '_, D, C, E> {
+    // what is read is what the device has, byte for byte
+    ghost remaining = { λ w. D.remaining w.device };
+
     fn read(&mut self, buf: &mut [u8]) -> io::Result<usize> {
         let count = self.device.read(buf)?;
         self.progress.read(&buf[..count]);

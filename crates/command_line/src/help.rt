@@ -2,8 +2,11 @@
 //! statuses. `man/pktkit.1` has more.
 
 /// The version, and the logic with which this source was proved: the last word of `rt version`, which is the same for
-/// every build of the toolchain that proves by the same rules.
-pub const VERSION: &str = "0.1.0\nThis source was proved with Rattle's logic dac8208d650f15bf.";
+/// every build of the toolchain that proves by the same rules. A program can't know how it was built itself.
+pub const VERSION: &str = "\
+0.1.0
+This source was proved with Rattle's logic dac8208d650f15bf.
+A program that was built from it without proofs (make run, make try) prints this, too.";
 
 /// Below the options of the program itself.
 pub const PROGRAM: &str = "\

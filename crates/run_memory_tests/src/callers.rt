@@ -1,4 +1,4 @@
-//! A caller: a run, with one clause for any number of workers.
+//! A caller: a run, with one clause for 0 to 16 workers.
 ghost use Rattle.std.specs.Prelude.{◌≡◌, ◌≤◌, vec_len, IfOk, IfSome};
 ghost use Rattle.pcapio.specs.Counted.{to_come};
 ghost use Rattle.run_parts.specs.Whole.{IsRun};

@@ -79,3 +79,13 @@ module _ {W : Type 0} where
       let m = all q d got in
       let e : failures_of (sink_of m.0) ≡ n = so_far q (sink_of m.0) n (device_at writers q m.0 m.1) at ∙ ap (failures_after n q) well in
       m.2 ∙ ap (λ k. failures_after k q failed) e
+
+  -- closing writes to no device after one has failed
+  pub closed_once : (before : List ℕ) (failed now : Option ℕ) (writers : List (Writer W)) (devices : List (Counted W))
+      → FailedOnce before failed (devices_of writers)
+      → ((p : ℕ) → failed ≡ Some p → (now ≡ Some p) × (devices ≡ devices_of writers))
+      → (failed ≡ None → AllFailOnce writers devices now) → FailedOnce before now devices
+  closed_once before None now writers devices was still once = closed_failures before None now writers devices was refl (once refl)
+  closed_once before (Some p) now writers devices was still once =
+      let s = still p refl in
+      subst (λ f. FailedOnce before f devices) (sym s.0) (subst (FailedOnce before (Some p)) (sym s.1) was)

@@ -1,5 +1,5 @@
 -- Why a run has no summary, from the results of its parts.
-use Rattle.std.proofs.Common.{◌≡◌, ◌≢◌, ℕ, List, Option, Result, Ok, Err, IfOk, IfErr, refl, sym, subst}
+use Rattle.std.proofs.Common.{◌≡◌, ◌≢◌, ◌≤◌, ℕ, List, Option, None, Result, Ok, Err, IfOk, IfErr, refl, sym, subst, arith}
 use Rattle.pcapio.specs.Counted.{HasFailed}
 use Rattle.pcapio.specs.Reader.{source_of}
 use Rattle.pcapio.specs.declared.counted.Counted.{Counted}
@@ -7,8 +7,8 @@ use Rattle.pcapio.specs.declared.reader.Reader.{Reader}
 use Rattle.stages_laws.specs.Input.{Input}
 use Rattle.stages_laws.specs.declared.run.Run.{Ghosts}
 use Rattle.run_parts.specs.Ending.{WhyFaulted}
-use Rattle.run_parts.specs.Failing.{FailedAt}
-use Rattle.run_parts.specs.Faults.{lowest_of}
+use Rattle.run_parts.specs.Failing.{FailedAt, FailedOnce, HidesNoPort}
+use Rattle.run_parts.specs.Faults.{lowest_of, number_of}
 use Rattle.run_parts.specs.Turns.{WhyStopped}
 use Rattle.run_parts.specs.Whole.{WhyStoppedAt}
 use Rattle.run_parts.specs.declared.fault.RunFault.{RunFault}
@@ -65,3 +65,38 @@ module _ {J W : Type 0} (G : Ghosts J) where
       totals.count
       → WhyFaulted failures next (Ok totals) devices fault
   why_window failures next devices totals fault is other = subst (WhyFaulted failures next (Ok totals) devices) (sym is) (refl, other)
+
+-- a port's fault is returned in place of one of the reader only if that one has no lower number
+pub none_lower : (port p : ℕ) (fault : RunFault) → lowest_of port fault ≡ Write p → 4 ≤ number_of fault
+none_lower port p Memory is = absurd (cc is)
+none_lower port p Thread is = absurd (cc is)
+none_lower port p Read is = absurd (cc is)
+none_lower port p (Write q) is = omega arith
+none_lower port p (Capture f) is = omega arith
+none_lower port p Window is = omega arith
+none_lower port p Worn is = omega arith
+
+module _ {W : Type 0} (before : List ℕ) (devices : List (Counted W)) where
+  -- where a port failed, its fault or a lower one is returned
+  pub lowest_hides : (port : ℕ) (fault : RunFault) → HidesNoPort before devices (lowest_of port fault)
+  lowest_hides port Memory = tt
+  lowest_hides port Thread = tt
+  lowest_hides port Read = tt
+  lowest_hides port (Write q) = tt
+  lowest_hides port (Capture f) = tt
+  lowest_hides port Window = tt
+  lowest_hides port Worn = tt
+
+  -- where none failed, any fault may be
+  pub none_hidden : FailedOnce before None devices → (fault : RunFault) → HidesNoPort before devices fault
+  none_hidden once Memory = tt
+  none_hidden once Thread = tt
+  none_hidden once Read = tt
+  none_hidden once (Write q) = tt
+  none_hidden once (Capture f) = once
+  none_hidden once Window = once
+  none_hidden once Worn = once
+
+  pub any_hidden : {X : Type 0} (r : Result X RunFault) → FailedOnce before None devices → IfErr r (HidesNoPort before devices)
+  any_hidden (Ok x) once = tt
+  any_hidden (Err fault) once = none_hidden once fault

@@ -1,10 +1,10 @@
 -- How one more record changes what was read so far, and what is reported at the end.
-use Rattle.std.proofs.Common.{◌≡◌, ◌≤◌, ◌<◌, ◌*◌, ◌+◌, ◌++◌, ◌-◌, ◌^◌, ℕ, Bool, List, [], ◌∷◌, length, Option, None, Some, refl, sym, ap, ◌∙◌, subst, arith}
+use Rattle.std.proofs.Common.{◌≡◌, ◌≤◌, ◌<◌, ◌*◌, ◌+◌, ◌++◌, ◌-◌, ◌^◌, ℕ, Bool, List, [], ◌∷◌, length, Option, None, refl, sym, ap, ◌∙◌, subst, arith}
 use Rattle.std.proofs.Common.{length-append}
 use Rattle.counters.specs.Counted.{counts_of}
 use Rattle.counters.specs.Tally.{records_of}
 use Rattle.pcapio.specs.Counted.{HasNotFailed}
-use Rattle.pcapio.specs.Reader.{EndsSo, Fails, Takes, order_of, rest, source_of}
+use Rattle.pcapio.specs.Reader.{EndsSo, Takes, order_of, rest, source_of}
 use Rattle.pcapio.specs.declared.reader.Reader.{Reader}
 use Rattle.pcapio.proofs.Runs.{none_stand, one_stands, more-stand, ended, failed-later}
 use Rattle.pcapio_laws.specs.Capture.{Packet, end_of}

@@ -1,10 +1,12 @@
 -- How often the devices of a run's ports failed: as often as before, and the one that failed once more.
 use Rattle.std.specs.Prelude.{◌≡◌, ◌<◌, ℕ, ◌+◌, ◌-◌, ◌^◌, ◌==◌, min, List, length, Option, None, Some, slice_get}
-use Rattle.std.specs.Prelude.{if◌then◌else◌}
+use Rattle.std.specs.Prelude.{if◌then◌else◌, ⊤}
 use Rattle.pcapio.specs.Counted.{failures_of}
 use Rattle.pcapio.specs.Writer.{sink_of}
 use Rattle.pcapio.specs.declared.counted.Counted.{Counted}
 use Rattle.pcapio.specs.declared.writer.Writer.{Writer}
+use Rattle.run_parts.specs.declared.fault.RunFault.{RunFault}
+use Rattle.run_parts.specs.declared.fault.RunFault.TheVariants.{Memory, Thread, Read, Write, Capture, Window, Worn}
 
 -- how often device q failed, after n times before, if the device of this port failed
 abbrev pub failures_after : ℕ → ℕ → Option ℕ → ℕ
@@ -32,3 +34,13 @@ module _ {W : Type 0} where
   -- the device of this port failed, once, and no other one
   abbrev pub FailedAt : List ℕ → ℕ → List (Counted W) → Type 0
   FailedAt before port devices = (port < length devices) × FailedOnce before (Some port) devices
+
+  -- a fault whose number is above that of a port's fault is returned only if no port's device failed
+  abbrev pub HidesNoPort : List ℕ → List (Counted W) → RunFault → Type 0
+  HidesNoPort before devices Memory = ⊤
+  HidesNoPort before devices Thread = ⊤
+  HidesNoPort before devices Read = ⊤
+  HidesNoPort before devices (Write p) = ⊤
+  HidesNoPort before devices (Capture fault) = FailedOnce before None devices
+  HidesNoPort before devices Window = FailedOnce before None devices
+  HidesNoPort before devices Worn = FailedOnce before None devices

@@ -1,11 +1,12 @@
 //! A whole run by one thread: the input is opened, each of its records goes to the ports, and everything is closed.
-ghost use Rattle.std.specs.Prelude.{◌≡◌, ◌≤◌, ◌*◌, List, Some, IfErr, IfOk, IfSome, OnOk};
+ghost use Rattle.std.specs.Prelude.{◌≡◌, ◌≤◌, ◌*◌, List, Some, IfErr, IfOk, IfSome, OnOk, map as mapped};
 ghost use Rattle.std.specs.Prelude.{length, min, vec_len, vec_capacity};
 ghost use Rattle.mbuf.specs.Chain.{space_of};
-ghost use Rattle.pcapio.specs.Counted.{to_come, told};
+ghost use Rattle.pcapio.specs.Counted.{failures_of, to_come, told};
 ghost use Rattle.stages_laws.specs.Output.{Fate};
 ghost use Rattle.run_parts.specs.Begun.{AreReady, GoesBy, HasInput};
 ghost use Rattle.run_parts.specs.Ending.{Sums};
+ghost use Rattle.run_parts.specs.Failing.{HidesNoPort};
 ghost use Rattle.run_parts.specs.Ports.{AreOutputs, AreBeginnings};
 ghost use Rattle.run_parts.specs.Tallies.{fates_of};
 ghost use Rattle.run_parts.specs.Whole.{IsRun, IsBegun, IsUntouched, WhyStoppedAt, WhyNoSummary};
@@ -39,7 +40,7 @@ use std::marker::Brand;
 /// All devices are handed back, the ports' in their order. Errors: 1 `Memory`; 3 `Read` and 4 `Write(port)`, if that
 /// device failed in this call; 5 `Capture`, if the input is refused; 6 `Window`, if it has 2^64 - 1 records or more. A
 /// prefix of its output has then been written to each port's device, and after a port's device failed nothing more was
-/// written to any port. 2 `Thread` and 7 `Worn` are never returned.
+/// written to any port. 2 `Thread` and 7 `Worn` are never returned. Of several faults the one with the lowest number is.
 pub fn run_one<R: Read, W: Write + Drop>(
     alloc: Global,
     reader: Counted<R>,
@@ -55,6 +56,7 @@ pub fn run_one<R: Read, W: Write + Drop>(
     ensures untouched { IfSome (to_come R.remaining reader) (λ bytes.
         IsUntouched W.contents settings.now bytes writers.items result.1.items) }
     ensures cause { IfErr result.2 (WhyNoSummary R.remaining reader result.0 writers.items result.1.items) }
+    ensures ports { IfErr result.2 (HidesNoPort (mapped failures_of writers.items) result.1.items) }
 {
     let reader = match Reader::open(alloc, reader) {
         Ok(reader) => reader,
@@ -92,6 +94,7 @@ fn run_opened<J: Run, R: Read, W: Write + Drop>(
         → AreBeginnings W.contents J.before J.resolution all result.1.items }
     ensures counts { IfOk result.2 (Sums J.input (length J.before) J.room J.forwarding) }
     ensures cause { IfErr result.2 (WhyStoppedAt J.input J.failures reader result.0 result.1.items) }
+    ensures ports { IfErr result.2 (HidesNoPort J.failures result.1.items) }
 {
     let mut sink: Sink<J, W> = match Sink::new(alloc, 1, outputs) {
         Ok(sink) => sink,

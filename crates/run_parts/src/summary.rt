@@ -4,8 +4,10 @@ ghost use Rattle.counters.specs.Tally.{records_of};
 ghost use Rattle.stages_laws.specs.Output.{Fate};
 ghost use Rattle.run_parts.specs.Ports.{AreOutputs, AreBeginnings};
 ghost use Rattle.run_parts.specs.Tallies.{IsTally, fates_of};
-ghost use Rattle.run_parts.specs.Faults.{lowest_of};
+ghost use Rattle.run_parts.specs.Failing.{HidesNoPort};
+ghost use Rattle.run_parts.specs.Faults.{lowest_of, number_of};
 ghost use Rattle.run_parts.specs.Ending.{Sums, WhyFaulted};
+ghost use Rattle.run_parts.specs.declared.fault.RunFault.{RunFault};
 ghost use Rattle.run_parts.specs.declared.fault.RunFault.TheVariants.{Thread, Write, Window};
 
 use crate::fault::RunFault;
@@ -74,6 +76,9 @@ pub fn end<J: Run, W: Write + Drop>(
         → AreBeginnings W.contents J.before J.resolution all result.0.items }
     ensures counts { IfOk result.1 (Sums J.input (length J.before) J.room J.forwarding) }
     ensures cause { IfErr result.1 (WhyFaulted J.failures sink.window.next totals result.0.items) }
+    ensures lowest { (p : ℕ) (reason : RunFault) → result.1 ≡ Err (Write p) → totals ≡ Err reason
+        → 4 ≤ number_of reason }
+    ensures ports { IfErr result.1 (HidesNoPort J.failures result.0.items) }
 {
     let next = sink.next();
     let Sink {

@@ -1,5 +1,5 @@
 -- Why the reader of a run in threads stopped, since its start.
-use Rattle.std.proofs.Common.{◌≡◌, ℕ, Option, None, Some, sym, subst}
+use Rattle.std.proofs.Common.{◌≡◌, Option, None, Some, sym, subst}
 use Rattle.pcapio.specs.Counted.{HasNotFailed}
 use Rattle.pcapio.specs.Reader.{Fails, source_of}
 use Rattle.pcapio.specs.declared.reader.Reader.{Reader}

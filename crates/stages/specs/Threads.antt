@@ -7,6 +7,7 @@ use Rattle.pcapio_laws.specs.declared.fault.CapFault.TheVariants.{BadRecord}
 use Rattle.stages_laws.specs.Input.{Input}
 use Rattle.run_parts.specs.Failing.{FailedAt}
 use Rattle.run_parts.specs.Turns.{EndsBad}
+use Rattle.run_parts.specs.Whole.{HasSomeHeader}
 use Rattle.run_parts.specs.declared.fault.RunFault.{RunFault}
 use Rattle.run_parts.specs.declared.fault.RunFault.TheVariants.{Memory, Thread, Read, Write, Capture as Refused, Window}
 use Rattle.run_parts.specs.declared.fault.RunFault.TheVariants.{Worn}
@@ -24,8 +25,8 @@ WhyEnded input failures before device devices Thread = ⊤
 WhyEnded input failures before device devices Window = ⊤
 WhyEnded input failures before device devices Worn = ⊤
 
--- the input's device failed, or that of a port, and no other; or the input is refused. Nothing is stated about the
--- other faults
+-- the input's device failed, or that of a port, and no other; or the input is refused. The threads and their rings come
+-- into it only after the input's file header was accepted. Nothing is stated about memory
 abbrev pub WhyNoSummaryOfThreads : {R W : Type 0} → (R → Option (List ℕ)) → Counted R → Option (Counted R)
     → List (Counted W) → List (Counted W) → RunFault → Type 0
 WhyNoSummaryOfThreads {R} remaining reader device writers devices Read =
@@ -34,6 +35,6 @@ WhyNoSummaryOfThreads remaining reader device writers devices (Write p) = Failed
 WhyNoSummaryOfThreads remaining reader device writers devices (Refused fault) =
     IfSome (to_come remaining reader) (λ bytes. IsRefused bytes fault)
 WhyNoSummaryOfThreads remaining reader device writers devices Memory = ⊤
-WhyNoSummaryOfThreads remaining reader device writers devices Thread = ⊤
-WhyNoSummaryOfThreads remaining reader device writers devices Window = ⊤
-WhyNoSummaryOfThreads remaining reader device writers devices Worn = ⊤
+WhyNoSummaryOfThreads remaining reader device writers devices Thread = IfSome (to_come remaining reader) HasSomeHeader
+WhyNoSummaryOfThreads remaining reader device writers devices Window = IfSome (to_come remaining reader) HasSomeHeader
+WhyNoSummaryOfThreads remaining reader device writers devices Worn = IfSome (to_come remaining reader) HasSomeHeader

@@ -8,9 +8,9 @@ ghost use Rattle.run_parts.specs.declared.summary.Summary.{Summary};
 
 use std::io::Write;
 
-/// The number of workers makes no difference: if two runs over the same bytes with the same settings, by one thread or
-/// by any number of workers each, both return a summary, it is the same one, and each port's device received the same
-/// bytes; this holds for all ports if it is known what each device had received before.
+/// The number of workers makes no difference: if two runs over the same known bytes with the same settings, by one
+/// thread or by 1 to 16 workers each, both return a summary, it is the same one, and each port's device received the
+/// same bytes, if it is known what it had received before; this holds for all ports if it is known of each.
 pub fn workers_change_nothing<W: Write>()
     ensures summary { (settings : Settings) (bytes : List ℕ) (writers one many : List (Counted W)) (a b : Summary)
         → IsRun W.contents settings bytes writers one a → IsRun W.contents settings bytes writers many b

@@ -1,11 +1,12 @@
 //! A run in threads: a reader, workers, and the sink on the calling thread.
 ghost use Rattle.std.specs.Prelude.{◌≡◌, ◌⊎◌, ◌<◌, ◌≤◌, List, None, Some, Err, IfErr, IfOk, IfSome, OnOk};
-ghost use Rattle.std.specs.Prelude.{length, vec_len, vec_capacity};
+ghost use Rattle.std.specs.Prelude.{length, map as mapped, vec_len, vec_capacity};
 ghost use Rattle.fabric.specs.Hands.{IsHandOf, rings_of};
-ghost use Rattle.pcapio.specs.Counted.{to_come, told};
+ghost use Rattle.pcapio.specs.Counted.{failures_of, to_come, told};
 ghost use Rattle.stages_laws.specs.Output.{Fate};
 ghost use Rattle.run_parts.specs.Begun.{AreReady, GoesBy, HasInput};
 ghost use Rattle.run_parts.specs.Ending.{Sums};
+ghost use Rattle.run_parts.specs.Failing.{HidesNoPort};
 ghost use Rattle.worker.specs.Passing.{AreRings};
 ghost use Rattle.run_parts.specs.Ports.{AreOutputs, AreBeginnings};
 ghost use Rattle.run_parts.specs.Tallies.{fates_of};
@@ -69,6 +70,7 @@ pub fn run_threads<
     Vec<Counted<W>>,
     Result<Summary, RunFault>,
 )
+    requires at_least { 0 < workers }
     requires at_most { workers ≤ 16 }
     requires ports { vec_len writers ≡ vec_len settings.now.ports.sources }
     ensures length { vec_len result.1 ≡ vec_len writers }
@@ -80,6 +82,7 @@ pub fn run_threads<
     ensures untouched { IfSome (to_come R.remaining reader) (λ bytes.
         IsUntouched W.contents settings.now bytes writers.items result.1.items) }
     ensures cause { IfErr result.2 (WhyNoSummaryOfThreads R.remaining reader result.0 writers.items result.1.items) }
+    ensures ports { IfErr result.2 (HidesNoPort (mapped failures_of writers.items) result.1.items) }
 {
     let reader = match Reader::open(alloc, reader) {
         Ok(reader) => reader,
@@ -126,6 +129,7 @@ fn run_started<
         → AreBeginnings W.contents J.before J.resolution all result.1.items }
     ensures counts { IfOk result.2 (Sums J.input (length J.before) J.room J.forwarding) }
     ensures cause { IfErr result.2 (WhyEnded J.input J.failures J.read_failures result.0 result.1.items) }
+    ensures ports { IfErr result.2 (HidesNoPort J.failures result.1.items) }
 {
     let sink: Sink<J, W> = match Sink::new(alloc, settings.buffers as usize, outputs) {
         Ok(sink) => sink,

@@ -1,9 +1,8 @@
 //! The outcome of the reader of a run in threads.
-ghost use Rattle.std.specs.Prelude.{◌≡◌, ◌⊎◌, Err, Ok};
+ghost use Rattle.std.specs.Prelude.{◌≡◌, ◌⊎◌, None, Some, Err};
+ghost use Rattle.pcapio.specs.Reader.{source_of};
 ghost use Rattle.stages.specs.Feeding.{ReadFailed, IsHere, IsNoCapture, WroteNothing};
-ghost use Rattle.stages.specs.StageFaults.{fault_of_stage, lower_of};
-ghost use Rattle.stages.specs.declared.stage_fault.StageFault.{StageFault};
-ghost use Rattle.run_parts.specs.declared.fault.RunFault.{RunFault};
+ghost use Rattle.stages.specs.StageFaults.{answer_with};
 ghost use Rattle.run_parts.specs.declared.fault.RunFault.TheVariants.{Memory, Thread};
 
 use crate::stage_fault::{StageFault, lower};
@@ -27,6 +26,8 @@ impl<J: Run, R: Read> ReaderOutcome<J, R> {
     /// Nothing was read: memory was refused, or the thread of a worker couldn't be started.
     pub(crate) fn unread(reader: Reader<R>, fault: RunFault) -> ReaderOutcome<J, R>
         requires { (fault ≡ Memory) ⊎ (fault ≡ Thread) }
+        ensures answer { result.answer ≡ Err fault }
+        ensures device { result.device ≡ Some (source_of reader) }
     {
         ReaderOutcome {
             device: Some(reader.into_inner()),
@@ -35,7 +36,10 @@ impl<J: Run, R: Read> ReaderOutcome<J, R> {
     }
 
     /// The reader's own thread couldn't be started, and what was given to it is lost.
-    pub(crate) fn lost() -> ReaderOutcome<J, R> {
+    pub(crate) fn lost() -> ReaderOutcome<J, R>
+        ensures answer { result.answer ≡ Err Thread }
+        ensures device { result.device ≡ None }
+    {
         ReaderOutcome {
             device: None,
             answer: Err(RunFault::Thread),
@@ -44,8 +48,8 @@ impl<J: Run, R: Read> ReaderOutcome<J, R> {
 
     /// The same, if the sink couldn't continue.
     pub(crate) fn with(self, drained: Result<(), StageFault>) -> ReaderOutcome<J, R>
-        ensures exact { (found : StageFault) (fault : RunFault) → drained ≡ Err found → self.answer ≡ Err fault
-            → result.answer ≡ Err (lower_of fault (fault_of_stage found)) }
+        ensures answer { result.answer ≡ answer_with self.answer drained }
+        ensures device { result.device ≡ self.device }
     {
         let ReaderOutcome { device, answer, .. } = self;
         match drained {

@@ -1,15 +1,16 @@
-use Rattle.std.proofs.Common.{rules, ◌≡◌, ℕ, List, Some, None, Err, refl, sym, ap, ◌∙◌, subst, arith, length, Option, IfErr, ◌≢◌}
+use Rattle.std.proofs.Common.{rules, ◌≡◌, ◌≤◌, ℕ, List, Some, None, Err, refl, sym, ap, ◌∙◌, subst, arith, length, Option, IfErr, ◌≢◌}
 use Rattle.std.proofs.lemmas.List.{take_all}
 use Rattle.stages_laws.specs.Output.{Fate}
-use Rattle.run_parts.specs.Ports.{AreOutputs, AreBeginnings, devices_of}
+use Rattle.run_parts.specs.Ports.{AreOutputs, AreBeginnings}
 use Rattle.run_parts.specs.Tallies.{fates_of}
 use Rattle.run_parts.specs.Ending.{WhyFaulted}
-use Rattle.run_parts.specs.Faults.{lowest_of}
+use Rattle.run_parts.specs.Faults.{lowest_of, number_of}
+use Rattle.run_parts.specs.declared.fault.RunFault.TheVariants.{Write}
 use Rattle.run_parts.proofs.Devices.{outputs, begun_texts, told_begun, begun_before}
-use Rattle.run_parts.specs.Failing.{FailedOnce, FailedAt}
+use Rattle.run_parts.specs.Failing.{FailedOnce, FailedAt, HidesNoPort}
 use Rattle.run_parts.proofs.Known.{on_ok, if_err}
-use Rattle.run_parts.proofs.Failures.{closed_failures}
-use Rattle.run_parts.proofs.Reasons.{why_lowest, why_reason, why_window}
+use Rattle.run_parts.proofs.Failures.{closed_once}
+use Rattle.run_parts.proofs.Reasons.{any_hidden, lowest_hides, none_hidden, none_lower, why_lowest, why_reason, why_window}
 use Rattle.run_parts.proofs.summary.end.Goals.{in-Some-Ok, in-Some-Err, in-None-Err, in-None-Ok}
 use Rattle.run_parts.proofs.summary.end.Goals as goal
 
@@ -75,18 +76,44 @@ returns-clause-cause g c =
           because.0 (subst (λ n. n ≢ w.in-None-Ok.totals.count) c.next-next.ensures because.1)) w.summed-told.ensures.cause))
     ]
   where
-    once : (was : Option ℕ) → c.args.sink.outputs.failed ≡ was → FailedOnce g.J.Run.failures c.close-devices.result.1 c.close-devices.result.0.items
-    once None was =
-        closed_failures g.J.Run.failures c.args.sink.outputs.failed c.close-devices.result.1 c.args.sink.outputs.writers.items c.close-devices.result.0.items
-        c.args.sink.failures was (c.close-devices.ensures.failures was)
-    once (Some p) was =
-        let s = c.close-devices.ensures.still p was in
-        subst (λ f. FailedOnce g.J.Run.failures f c.close-devices.result.0.items) (sym s.0)
-        (subst (FailedOnce g.J.Run.failures (Some p)) (sym s.1) (subst
-        (λ f. FailedOnce g.J.Run.failures f (devices_of c.args.sink.outputs.writers.items)) was c.args.sink.failures))
-
     failed_at : (p : ℕ) → c.close-devices.result.1 ≡ Some p → FailedAt g.J.Run.failures p c.close-devices.result.0.items
     failed_at p is = (
       omega (arith, c.close-devices.ensures.port p is, c.close-devices.ensures.length),
-      subst (λ f. FailedOnce g.J.Run.failures f c.close-devices.result.0.items) is (once c.args.sink.outputs.failed refl),
+      subst (λ f. FailedOnce g.J.Run.failures f c.close-devices.result.0.items) is
+          (closed_once g.J.Run.failures c.args.sink.outputs.failed c.close-devices.result.1 c.args.sink.outputs.writers.items c.close-devices.result.0.items
+          c.args.sink.failures c.close-devices.ensures.still c.close-devices.ensures.failures),
     )
+
+pub returns-clause-lowest : goal.returns-clause-lowest
+returns-clause-lowest g c p reason is was =
+    elim c.match-failed.branch [
+      | in-Some-Ok w ↦ absurd (cc (sym w.in-Some-Ok.is-1 ∙ was))
+      | in-Some-Err w ↦
+          let told : Err (lowest_of w.in-Some-Err.port w.in-Some-Err.fault) ≡ Err (Write p) = ap Err (sym w.lowest.ensures) ∙ (sym w.told-is ∙ is) in
+          let same : Err w.in-Some-Err.fault ≡ Err reason = sym w.in-Some-Err.is-1 ∙ was in
+          subst (λ f. 4 ≤ number_of f) (cc same) (none_lower w.in-Some-Err.port p w.in-Some-Err.fault (cc told))
+      | in-None-Err w ↦
+          let told : Err w.in-None-Err.fault ≡ Err (Write p) = sym w.told-is ∙ is in
+          let same : Err w.in-None-Err.fault ≡ Err reason = sym w.in-None-Err.is-1 ∙ was in
+          let e : Write p ≡ reason = cc (told, same) in
+          subst (λ f. 4 ≤ number_of f) e (omega arith)
+      | in-None-Ok w ↦ absurd (cc (sym w.in-None-Ok.is-1 ∙ was))
+    ]
+
+pub returns-clause-ports : goal.returns-clause-ports
+returns-clause-ports g c =
+    elim c.match-failed.branch [
+      | in-Some-Ok w ↦ rw w.told-is tt
+      | in-Some-Err w ↦
+          rw w.told-is (subst (HidesNoPort g.J.Run.failures c.close-devices.result.0.items) (sym w.lowest.ensures)
+          (lowest_hides g.J.Run.failures c.close-devices.result.0.items w.in-Some-Err.port w.in-Some-Err.fault))
+      | in-None-Err w ↦ rw w.told-is (none_hidden g.J.Run.failures c.close-devices.result.0.items (none w.in-None-Err.is-0) w.in-None-Err.fault)
+      | in-None-Ok w ↦
+          rw w.told-is (any_hidden g.J.Run.failures c.close-devices.result.0.items w.summed-told.result (none w.in-None-Ok.is-0))
+    ]
+  where
+    none : c.close-devices.result.1 ≡ None → FailedOnce g.J.Run.failures None c.close-devices.result.0.items
+    none is =
+        subst (λ f. FailedOnce g.J.Run.failures f c.close-devices.result.0.items) is
+        (closed_once g.J.Run.failures c.args.sink.outputs.failed c.close-devices.result.1 c.args.sink.outputs.writers.items c.close-devices.result.0.items
+        c.args.sink.failures c.close-devices.ensures.still c.close-devices.ensures.failures)

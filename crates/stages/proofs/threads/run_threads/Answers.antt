@@ -1,14 +1,17 @@
-use Rattle.std.proofs.Common.{rules, ◌≡◌, ◌∙◌, refl, ap, subst, sym, map, length, List, Some, IfOk, OnOk}
+use Rattle.std.proofs.Common.{rules, ◌≡◌, ◌∙◌, refl, ap, subst, sym, map, length, List, None, Some, IfErr, IfOk, OnOk}
 use Rattle.std.proofs.lemmas.List.{length-map}
 use Rattle.pcapio.specs.Counted.{told, failures_of, to_come}
 use Rattle.pcapio.specs.Reader.{order_of, resolution_of, rest}
 use Rattle.pcapio.specs.Writer.{sink_of}
 use Rattle.stages_laws.specs.Output.{Fate}
 use Rattle.run_parts.specs.Ending.{Sums}
+use Rattle.run_parts.specs.Failing.{HidesNoPort}
 use Rattle.run_parts.specs.Ports.{AreFresh, AreOutputs, AreBeginnings, devices_of}
 use Rattle.run_parts.specs.Tallies.{fates_of}
 use Rattle.run_parts.specs.Whole.{forwarding_by}
 use Rattle.run_parts.proofs.Known.{if_err}
+use Rattle.run_parts.proofs.Failures.{fresh_failures}
+use Rattle.run_parts.proofs.Reasons.{none_hidden}
 use Rattle.run_parts.proofs.Opened.{input_of, untouched_begun, begun_whole, run_told}
 use Rattle.run_parts.specs.Whole.{WhyNoSummary}
 use Rattle.stages.proofs.Ended.{of_threads, why_of_threads}
@@ -79,3 +82,13 @@ returns-in-Err-clause-cause g c =
     let why : WhyNoSummary g.R.Read.remaining c.args.reader c.in-Err.device c.args.writers.items c.args.writers.items c.input_fault.result =
     search rules in
     of_threads g.R.Read.remaining c.args.reader c.in-Err.device c.args.writers.items c.args.writers.items c.input_fault.result why
+
+pub returns-in-Err-clause-ports : goal.returns-in-Err-clause-ports
+returns-in-Err-clause-ports g c =
+    none_hidden (map failures_of c.args.writers.items) c.args.writers.items
+    (fresh_failures (map failures_of c.args.writers.items) None c.args.writers.items refl refl) c.input_fault.result
+
+pub returns-in-Ok-open_all-clause-ports : goal.returns-in-Ok-open_all-clause-ports
+returns-in-Ok-open_all-clause-ports g c =
+    subst (λ before. IfErr c.run_started.result.2 (HidesNoPort before c.run_started.result.1.items))
+    (ap (map failures_of) c.in-Ok-open_all.ensures.devices) c.run_started.ensures.ports

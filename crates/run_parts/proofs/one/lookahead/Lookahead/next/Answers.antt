@@ -1,4 +1,4 @@
-use Rattle.std.proofs.Common.{◌≡◌, ◌<◌, ℕ, ap, ◌∙◌, arith}
+use Rattle.std.proofs.Common.{◌≡◌, ap, ◌∙◌, arith}
 use Rattle.run_parts.specs.declared.one.lookahead.Lookahead.{Lookahead}
 use Rattle.run_parts.proofs.one.lookahead.Lookahead.next.Goals as goal
 use Rattle.run_parts.proofs.one.lookahead.Lookahead.next.Goals.{then-self, else-self}
