@@ -10,7 +10,8 @@
 
 #define HK_INNER __attribute__((visibility("hidden")))
 
-/* A cache line in bytes (DPDK's RTE_CACHE_LINE_SIZE). Alignments that are asked for are 16 or less. */
+/* A cache line in bytes (DPDK's RTE_CACHE_LINE_SIZE). Each block is aligned to it. Alignments that are asked for are 16
+ * or less; a request for more than a line is refused. */
 #define LINE ((size_t)64)
 
 struct hk_memory {
@@ -29,9 +30,8 @@ HK_INNER struct hk_memory rattle_realloc(void *was, size_t kept, size_t size, si
 HK_INNER void rattle_dealloc(void *at);
 
 struct hk_memory rattle_alloc(size_t size, size_t align) {
-    (void)align;
     size_t lines = size == 0 ? 1 : (size - 1) / LINE + 1;
-    return found(lines > SIZE_MAX / LINE ? NULL : aligned_alloc(LINE, lines * LINE));
+    return found(align > LINE || lines > SIZE_MAX / LINE ? NULL : aligned_alloc(LINE, lines * LINE));
 }
 
 /* The first `kept` bytes, which are at most `size`, stay as they are. */

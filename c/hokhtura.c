@@ -11,40 +11,42 @@ struct hk_cell {
     void *at;
 };
 
-extern int64_t hkx_free(struct hk_cell *);
-extern int64_t hkx_hand_open(struct hk_cell *, const hk_ring_plan *, size_t);
-extern int64_t hkx_hand_split(struct hk_cell *, struct hk_cell *);
-extern int64_t hkx_hand_span(struct hk_cell *);
-extern int64_t hkx_hand_left(struct hk_cell *);
-extern int64_t hkx_hand_close(struct hk_cell *);
-extern int64_t hkx_hand_drain(struct hk_cell *, size_t, uint64_t *, size_t);
-extern int64_t hkx_ring_put(struct hk_cell *, size_t, const uint64_t *, size_t, bool);
-extern int64_t hkx_ring_take(struct hk_cell *, size_t, uint64_t *, size_t, bool);
-extern int64_t hkx_ring_peek_put(struct hk_cell *, size_t, size_t, bool);
-extern int64_t hkx_ring_peek_take(struct hk_cell *, size_t, uint64_t *, size_t, bool);
-extern int64_t hkx_ring_finish_put(struct hk_cell *, const uint64_t *, size_t);
-extern int64_t hkx_ring_finish_take(struct hk_cell *, size_t);
-extern int64_t hkx_ring_room(struct hk_cell *, size_t, bool);
-extern int64_t hkx_pool_open(struct hk_cell *, uint32_t, uint32_t, uint32_t);
-extern int64_t hkx_pool_split(struct hk_cell *, struct hk_cell *);
-extern int64_t hkx_pool_get(struct hk_cell *, uint32_t *, size_t);
-extern int64_t hkx_pool_put(struct hk_cell *, const uint32_t *, size_t);
-extern int64_t hkx_pool_flush(struct hk_cell *);
-extern int64_t hkx_pool_cached(struct hk_cell *);
-extern int64_t hkx_pool_owns(struct hk_cell *, uint32_t);
-extern int64_t hkx_pool_send(struct hk_cell *, size_t, const uint32_t *, size_t);
-extern int64_t hkx_pool_receive(struct hk_cell *, size_t, uint32_t *, size_t);
-extern int64_t hkx_routes_open(struct hk_cell *, uint32_t, uint32_t);
-extern int64_t hkx_routes_share(struct hk_cell *, struct hk_cell *);
-extern int64_t hkx_routes_add(struct hk_cell *, uint32_t, uint32_t, uint32_t);
-extern int64_t hkx_routes_remove(struct hk_cell *, uint32_t, uint32_t);
-extern int64_t hkx_routes_lookup(struct hk_cell *, uint32_t);
-extern int64_t hkx_routes_lookup_bulk(struct hk_cell *, const uint32_t *, size_t, uint32_t *, size_t);
-extern int64_t hkx_reorder_open(struct hk_cell *, uint32_t);
-extern int64_t hkx_reorder_insert(struct hk_cell *, uint64_t, uint64_t);
-extern int64_t hkx_reorder_drain(struct hk_cell *, uint64_t *, size_t);
-extern int64_t hkx_reorder_next(struct hk_cell *, uint64_t *);
-extern int64_t hkx_reorder_skip(struct hk_cell *, uint64_t);
+/* The exports, with the names that their parameters have there. A slice there is an array and its length here. */
+extern int64_t hkx_free(struct hk_cell *h);
+extern int64_t hkx_hand_open(struct hk_cell *h, const hk_ring_plan *asked, size_t asked_length);
+extern int64_t hkx_hand_split(struct hk_cell *h, struct hk_cell *second);
+extern int64_t hkx_hand_span(struct hk_cell *h);
+extern int64_t hkx_hand_left(struct hk_cell *h);
+extern int64_t hkx_hand_close(struct hk_cell *h);
+extern int64_t hkx_hand_drain(struct hk_cell *h, size_t ring, uint64_t *words, size_t words_length);
+extern int64_t hkx_ring_put(struct hk_cell *h, size_t ring, const uint64_t *words, size_t words_length, bool bulk);
+extern int64_t hkx_ring_take(struct hk_cell *h, size_t ring, uint64_t *words, size_t words_length, bool bulk);
+extern int64_t hkx_ring_peek_put(struct hk_cell *h, size_t ring, size_t n, bool bulk);
+extern int64_t hkx_ring_peek_take(struct hk_cell *h, size_t ring, uint64_t *words, size_t words_length, bool bulk);
+extern int64_t hkx_ring_finish_put(struct hk_cell *h, const uint64_t *words, size_t words_length);
+extern int64_t hkx_ring_finish_take(struct hk_cell *h, size_t n);
+extern int64_t hkx_ring_room(struct hk_cell *h, size_t ring, bool queued);
+extern int64_t hkx_pool_open(struct hk_cell *h, uint32_t n, uint32_t size, uint32_t rings);
+extern int64_t hkx_pool_split(struct hk_cell *h, struct hk_cell *second);
+extern int64_t hkx_pool_get(struct hk_cell *h, uint32_t *into, size_t into_length);
+extern int64_t hkx_pool_put(struct hk_cell *h, const uint32_t *items, size_t items_length);
+extern int64_t hkx_pool_flush(struct hk_cell *h);
+extern int64_t hkx_pool_cached(struct hk_cell *h);
+extern int64_t hkx_pool_owns(struct hk_cell *h, uint32_t number);
+extern int64_t hkx_pool_send(struct hk_cell *h, size_t ring, const uint32_t *items, size_t items_length);
+extern int64_t hkx_pool_receive(struct hk_cell *h, size_t ring, uint32_t *into, size_t into_length);
+extern int64_t hkx_routes_open(struct hk_cell *h, uint32_t bits, uint32_t groups);
+extern int64_t hkx_routes_share(struct hk_cell *h, struct hk_cell *second);
+extern int64_t hkx_routes_add(struct hk_cell *h, uint32_t address, uint32_t depth, uint32_t hop);
+extern int64_t hkx_routes_remove(struct hk_cell *h, uint32_t address, uint32_t depth);
+extern int64_t hkx_routes_lookup(struct hk_cell *h, uint32_t address);
+extern int64_t hkx_routes_lookup_bulk(struct hk_cell *h, const uint32_t *addresses, size_t addresses_length,
+    uint32_t *hops, size_t hops_length);
+extern int64_t hkx_reorder_open(struct hk_cell *h, uint32_t size);
+extern int64_t hkx_reorder_insert(struct hk_cell *h, uint64_t number, uint64_t word);
+extern int64_t hkx_reorder_drain(struct hk_cell *h, uint64_t *words, size_t words_length);
+extern int64_t hkx_reorder_next(struct hk_cell *h, uint64_t *number);
+extern int64_t hkx_reorder_skip(struct hk_cell *h, uint64_t number);
 
 /* An array of no words has an address, too. */
 static uint64_t no_words[1];
@@ -79,7 +81,8 @@ void hk_hand_free(hk_hand *hand) {
     (void)hkx_free(&cell);
 }
 
-/* An export tries each step once. If another thread came first, the calls below try again, this often at most. */
+/* An export tries each step once. If another thread came first, the calls below try that step again, until they have
+ * tried it this often. A put or a take that was answered HK_E_PENDING has tried to settle once. */
 enum { TURNS = 1024 };
 
 static inline void pause_a_moment(void) {
@@ -88,9 +91,8 @@ static inline void pause_a_moment(void) {
 #endif
 }
 
-/* Tries to settle the put that the hand has open until it is settled. */
-static int64_t finish_put(struct hk_cell *cell, const uint64_t *words, size_t n) {
-    int64_t code = hkx_ring_finish_put(cell, words, n);
+/* Goes on with the put that the hand has open after a first try to settle it, which returned a code. */
+static int64_t settle_put(struct hk_cell *cell, const uint64_t *words, size_t n, int64_t code) {
     for (unsigned turn = 1; code == HK_E_PENDING && turn < TURNS; turn++) {
         pause_a_moment();
         code = hkx_ring_finish_put(cell, words, n);
@@ -98,8 +100,7 @@ static int64_t finish_put(struct hk_cell *cell, const uint64_t *words, size_t n)
     return code;
 }
 
-static int64_t finish_take(struct hk_cell *cell, size_t n) {
-    int64_t code = hkx_ring_finish_take(cell, n);
+static int64_t settle_take(struct hk_cell *cell, size_t n, int64_t code) {
     for (unsigned turn = 1; code == HK_E_PENDING && turn < TURNS; turn++) {
         pause_a_moment();
         code = hkx_ring_finish_take(cell, n);
@@ -131,7 +132,7 @@ static RARELY int64_t put_again(struct put_call *call, bool bulk, int64_t code) 
         pause_a_moment();
         code = hkx_ring_put(&call->cell, call->ring, call->words, call->n, bulk);
     }
-    return code == HK_E_PENDING ? finish_put(&call->cell, call->words, call->n) : code;
+    return settle_put(&call->cell, call->words, call->n, code);
 }
 
 static RARELY int64_t take_again(struct take_call *call, bool bulk, int64_t code) {
@@ -139,7 +140,7 @@ static RARELY int64_t take_again(struct take_call *call, bool bulk, int64_t code
         pause_a_moment();
         code = hkx_ring_take(&call->cell, call->ring, call->words, call->n, bulk);
     }
-    return code == HK_E_PENDING ? finish_take(&call->cell, call->n) : code;
+    return settle_take(&call->cell, call->n, code);
 }
 
 static inline int64_t put(hk_hand *hand, size_t ring, const uint64_t *words, size_t n, bool bulk) {
@@ -219,12 +220,13 @@ int64_t hk_ring_finish_put(hk_hand *hand, const uint64_t *words, size_t n) {
     int64_t code = refused(words, n);
     if (code < 0) return code;
     struct hk_cell cell = {hand};
-    return finish_put(&cell, words ? words : no_words, n);
+    if (!words) words = no_words;
+    return settle_put(&cell, words, n, hkx_ring_finish_put(&cell, words, n));
 }
 
 int64_t hk_ring_finish_take(hk_hand *hand, size_t n) {
     struct hk_cell cell = {hand};
-    return finish_take(&cell, n);
+    return settle_take(&cell, n, hkx_ring_finish_take(&cell, n));
 }
 
 int64_t hk_hand_span(hk_hand *hand) {
@@ -402,7 +404,6 @@ int64_t hk_reorder_drain(hk_reorder *window, uint64_t *words, size_t n) {
 }
 
 int64_t hk_reorder_pop(hk_reorder *window, uint64_t *word) {
-    if (!word) return HK_E_NULL;
     int64_t count = hk_reorder_drain(window, word, 1);
     if (count < 0) return count;
     return count == 0 ? HK_E_NOTHING : HK_OK;

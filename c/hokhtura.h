@@ -7,8 +7,14 @@
  * start or the end of a thread, a lock, or a sequentially consistent atomic.
  *
  * RETURN VALUES. A call returns a count of 0 or more (HK_OK is 0), or a code below 0, `enum hk_code`. Unless a call
- * says otherwise, a code means that nothing was changed: no handle, no array, no ring. No call ends the process,
- * blocks, sleeps or loops without a limit.
+ * says otherwise, a code means that nothing was changed: no handle, no array, no ring. Of several mistakes a call
+ * returns the first of these: HK_E_COUNT, if it is given an array of words, numbers or addresses and a count above the
+ * largest; HK_E_NULL; the others in the order in which its comment lists them. Such an array may be null if its count
+ * is 0. HK_E_MEMORY may come before any of these. No call ends the process, blocks, sleeps or loops without a limit.
+ *
+ * TRIES. A put or a take has two steps: it reserves positions, and finishes. A peek has only the first step, and a call
+ * that finishes only the second. If other threads come first, a call tries each of its steps 1,024 times at most, the
+ * first try included, with a pause of the processor before each further one.
  *
  * MEMORY. Only calls marked [memory] allocate memory, with aligned_alloc of the C library: a block begins on a cache
  * line. If they return HK_E_MEMORY, nothing was changed. Freeing a handle frees its memory; freeing the last one also
@@ -53,7 +59,7 @@ enum hk_code {
     HK_E_OPEN = -4,     /* the hand has an open span: finish it first */
     HK_E_NOTOPEN = -5,  /* the hand has no open span of that side */
     HK_E_RING = -6,     /* there is no ring of this number */
-    HK_E_COUNT = -7,    /* a count of 0, above HK_MOST or HK_POOL_MOST, or one that doesn't fit the open span */
+    HK_E_COUNT = -7,    /* a count of 0, above the largest, or one that doesn't fit the open span */
     HK_E_MODE = -8,     /* that side of the ring is not head/tail-sync */
     HK_E_NULL = -9,     /* a null pointer */
     HK_E_KIND = -10,    /* a handle of another kind, or a hand whose rings were closed */
@@ -74,7 +80,8 @@ enum hk_code {
     HK_E_NOTHING = -27  /* the word whose turn it is hasn't arrived */
 };
 
-/* The text of a code, and its name as in "HK_E_NOROOM". Never null, and constant. Any thread. */
+/* The text of a code, and its name as in "HK_E_NOROOM". Never null, and constant. A count of 1 or more has those of
+ * HK_OK, and a number that is no code "no code of hokhtura". Any thread. */
 HK_API const char *hk_strerror(int64_t code);
 HK_API const char *hk_code_name(int64_t code);
 
@@ -102,16 +109,17 @@ HK_API HK_CHECKED int64_t hk_hand_open(hk_hand **out, const hk_ring_plan *plans,
 /* [memory] Makes another hand on the same rings, for another thread. HK_E_NULL, HK_E_KIND, HK_E_OPEN, HK_E_PARTS,
  * HK_E_MEMORY. */
 HK_API HK_CHECKED int64_t hk_hand_split(hk_hand *hand, hk_hand **out);
-/* Frees a hand, and with the last one the rings; null is allowed. A span that the hand has open stays reserved forever:
- * other threads' calls on that side return HK_E_AGAIN or HK_E_PENDING from then on. */
+/* Frees a hand, and with the last one the rings; null is allowed. As each of the calls that free, it frees a handle of
+ * another kind, too. A span that the hand has open stays reserved forever: no word of an open put comes out, and none
+ * that an open take showed comes out any more. From then on the calls of other threads on that side return HK_E_AGAIN
+ * if it is head/tail-sync, and if it is multi HK_E_PENDING, or HK_E_NOROOM once no position is left. */
 HK_API void hk_hand_free(hk_hand *hand);
 
 /* Puts n words on a ring, 1 to HK_MOST: by bulk all of them or none, by burst as many as there is room for. Returns how
  * many were put: the first words of the array, in order, next to each other on the ring.
  * HK_E_NULL, HK_E_KIND, HK_E_RING, HK_E_OPEN, HK_E_COUNT, HK_E_NOROOM, HK_E_WORN, HK_E_AGAIN: nothing was put.
  * HK_E_PENDING, only on a multi side: the positions are the hand's, the words are not put yet. Call
- * hk_ring_finish_put with the same words until it returns a count.
- * A call tries each step 1,024 times at most if other threads come first. */
+ * hk_ring_finish_put with the same words until it returns a count. */
 HK_API HK_CHECKED int64_t hk_ring_try_put_bulk(hk_hand *hand, size_t ring, const uint64_t *words, size_t n);
 HK_API HK_CHECKED int64_t hk_ring_try_put_burst(hk_hand *hand, size_t ring, const uint64_t *words, size_t n);
 /* Takes n words from a ring, 1 to HK_MOST, the oldest first: by bulk all n or none, by burst at most n. Returns how
@@ -123,7 +131,8 @@ HK_API HK_CHECKED int64_t hk_ring_try_take_burst(hk_hand *hand, size_t ring, uin
 
 /* Peeks, only on head/tail-sync sides. A put reserves up to n positions; a take shows up to n words at the front of the
  * array without taking them. Both return how many. While a peek is open, other threads' calls on that side return
- * HK_E_AGAIN. Codes as above, and HK_E_MODE; never HK_E_PENDING. */
+ * HK_E_AGAIN. HK_E_NULL, HK_E_KIND, HK_E_RING, HK_E_MODE, HK_E_OPEN, HK_E_COUNT, HK_E_NOROOM, HK_E_WORN, HK_E_AGAIN;
+ * never HK_E_PENDING. */
 HK_API HK_CHECKED int64_t hk_ring_peek_put_bulk(hk_hand *hand, size_t ring, size_t n);
 HK_API HK_CHECKED int64_t hk_ring_peek_put_burst(hk_hand *hand, size_t ring, size_t n);
 HK_API HK_CHECKED int64_t hk_ring_peek_take_bulk(hk_hand *hand, size_t ring, uint64_t *words, size_t n);
@@ -141,19 +150,20 @@ HK_API HK_CHECKED int64_t hk_ring_finish_take(hk_hand *hand, size_t n);
 /* 0 if the hand has no open span, 1 if it has one of a put, 2 of a take. HK_E_NULL, HK_E_KIND. */
 HK_API int64_t hk_hand_span(hk_hand *hand);
 /* What the last put, take or peek left: how many more words there was room for, or how many more were queued; after
- * HK_E_NOROOM, how many in all. HK_E_NULL, HK_E_KIND. */
+ * HK_E_NOROOM, how many in all. After HK_E_COUNT, HK_E_WORN and HK_E_AGAIN it says nothing, and other codes leave it as
+ * it was. HK_E_NULL, HK_E_KIND. */
 HK_API int64_t hk_hand_left(hk_hand *hand);
 /* How many words are queued on a ring, and how many more there is room for, as found by one look. Others may have put
- * or taken since. HK_E_AGAIN: another thread's span of a head/tail-sync side is open. HK_E_NULL, HK_E_KIND, HK_E_RING,
- * HK_E_OPEN. */
+ * or taken since. HK_E_NULL, HK_E_KIND, HK_E_RING, HK_E_OPEN. HK_E_AGAIN: another thread's span of a head/tail-sync
+ * side is open. */
 HK_API int64_t hk_ring_count(hk_hand *hand, size_t ring);
 HK_API int64_t hk_ring_room(hk_hand *hand, size_t ring);
 
-/* Closes the set of rings, by its only hand: from then on the hand is for hk_hand_drain. HK_E_SHARED while there are
- * other hands. HK_E_NULL, HK_E_KIND, HK_E_OPEN. */
+/* Closes the set of rings, by its only hand: from then on the hand is for hk_hand_drain. HK_E_NULL, HK_E_KIND,
+ * HK_E_OPEN. HK_E_SHARED while there are other hands. */
 HK_API HK_CHECKED int64_t hk_hand_close(hk_hand *hand);
-/* Takes at most n words, up to HK_MOST, of those that are left on a ring of a closed set, the oldest first. Returns how
- * many: fewer than n if no more are left. HK_E_NULL, HK_E_KIND if the set isn't closed, HK_E_RING, HK_E_COUNT. */
+/* Takes at most n words, 0 to HK_MOST, of those that are left on a ring of a closed set, the oldest first. Returns how
+ * many: fewer than n if no more are left. HK_E_COUNT, HK_E_NULL, HK_E_KIND if the set isn't closed, HK_E_RING. */
 HK_API HK_CHECKED int64_t hk_hand_drain(hk_hand *hand, size_t ring, uint64_t *words, size_t n);
 
 /* ---- Pools of numbers -------------------------------------------------------------------------------------------- */
@@ -163,9 +173,10 @@ HK_API HK_CHECKED int64_t hk_hand_drain(hk_hand *hand, size_t ring, uint64_t *wo
  *
  * Each number is in one place at any time: free; on a ring of the pool; or with one handle, in its cache or got by its
  * caller. A call accepts only numbers that its handle has and that aren't cached, so none is put twice or by another
- * handle. The sides of all rings of a pool are head/tail-sync: a call tries each step 1,024 times at most if other
- * threads come first and then returns HK_E_AGAIN; it is never pending. If a call returns a code, nothing was changed:
- * no number, no cache, no array. */
+ * handle. The sides of all rings of a pool are head/tail-sync, so no call is pending: if other threads come first, a
+ * call tries a ring 1,024 times at most, the first try included, and then returns HK_E_AGAIN. A get that found too few
+ * numbers on the free ring to fill the cache too asks the ring once more, for those that it needs, with as many tries.
+ * If a call returns a code, nothing was changed: no number, no cache, no array. */
 typedef struct hk_pool hk_pool;
 
 /* [memory] Makes a pool of n numbers, 1 to 65,536, all of them free, and the first handle on it. Each handle has a
@@ -217,15 +228,15 @@ HK_API HK_CHECKED int64_t hk_routes_open(hk_routes **out, uint32_t bits, uint32_
 /* Makes another handle on the same table, for another thread's lookups. [memory] HK_E_NULL, HK_E_KIND, HK_E_MEMORY. */
 HK_API HK_CHECKED int64_t hk_routes_share(hk_routes *routes, hk_routes **out);
 /* [memory] Adds a route for the first `depth` bits of an address, 1 to 32, or changes its next hop, below 2^24.
- * HK_E_SHARED while the table has other handles; then HK_E_DEPTH, HK_E_HOP, HK_E_GROUPS, HK_E_MEMORY. HK_E_NULL,
- * HK_E_KIND. */
+ * HK_E_NULL, HK_E_KIND; HK_E_SHARED while the table has other handles; HK_E_DEPTH, HK_E_HOP, HK_E_GROUPS,
+ * HK_E_MEMORY. */
 HK_API HK_CHECKED int64_t hk_routes_add(hk_routes *routes, uint32_t address, uint32_t depth, uint32_t hop);
-/* Removes a route. HK_E_SHARED; then HK_E_DEPTH, HK_E_NOROUTE. HK_E_NULL, HK_E_KIND. */
+/* Removes a route. HK_E_NULL, HK_E_KIND, HK_E_SHARED, HK_E_DEPTH, HK_E_NOROUTE. */
 HK_API HK_CHECKED int64_t hk_routes_remove(hk_routes *routes, uint32_t address, uint32_t depth);
-/* The next hop of the longest route that covers an address, or HK_E_NOROUTE. HK_E_NULL, HK_E_KIND. */
+/* The next hop of the longest route that covers an address. HK_E_NULL, HK_E_KIND, HK_E_NOROUTE. */
 HK_API HK_CHECKED int64_t hk_routes_lookup(hk_routes *routes, uint32_t address);
-/* The same for n addresses: hops[i] is the next hop for addresses[i], or HK_NO_HOP. HK_E_NULL, HK_E_KIND,
- * HK_E_COUNT: n is above SIZE_MAX / 8. */
+/* The same for n addresses: hops[i] is the next hop for addresses[i], or HK_NO_HOP. HK_E_COUNT: n is above
+ * SIZE_MAX / 8. HK_E_NULL, HK_E_KIND. */
 #define HK_NO_HOP UINT32_MAX
 HK_API HK_CHECKED int64_t hk_routes_lookup_bulk(hk_routes *routes, const uint32_t *addresses, uint32_t *hops, size_t n);
 /* Frees a handle, and with the last one the table; null is allowed. */
@@ -239,12 +250,12 @@ typedef struct hk_reorder hk_reorder;
 /* [memory] Makes a window of `size` numbers, 1 to 65,536, that waits for number 0. HK_E_NULL, HK_E_PLAN,
  * HK_E_MEMORY. */
 HK_API HK_CHECKED int64_t hk_reorder_open(hk_reorder **out, uint32_t size);
-/* Inserts a word under its number. HK_E_LATE, HK_E_EARLY, HK_E_DOUBLE. HK_E_NULL, HK_E_KIND. */
+/* Inserts a word under its number. HK_E_NULL, HK_E_KIND, HK_E_LATE, HK_E_EARLY, HK_E_DOUBLE. */
 HK_API HK_CHECKED int64_t hk_reorder_insert(hk_reorder *window, uint64_t number, uint64_t word);
-/* Takes the word whose turn it is; HK_E_NOTHING if it hasn't arrived. HK_E_NULL, HK_E_KIND. */
+/* Takes the word whose turn it is. HK_E_NULL, HK_E_KIND; HK_E_NOTHING if it hasn't arrived. */
 HK_API HK_CHECKED int64_t hk_reorder_pop(hk_reorder *window, uint64_t *word);
-/* Takes at most n words, up to HK_MOST, each in its turn. Returns how many are at the front of the array; its other
- * places are unchanged. HK_E_NULL, HK_E_KIND, HK_E_COUNT. */
+/* Takes at most n words, 0 to HK_MOST, each in its turn. Returns how many are at the front of the array; its other
+ * places are unchanged. HK_E_COUNT, HK_E_NULL, HK_E_KIND. */
 HK_API HK_CHECKED int64_t hk_reorder_drain(hk_reorder *window, uint64_t *words, size_t n);
 /* Writes the number whose turn it is. HK_E_NULL, HK_E_KIND. */
 HK_API HK_CHECKED int64_t hk_reorder_next(hk_reorder *window, uint64_t *number);

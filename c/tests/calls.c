@@ -207,6 +207,48 @@ static void splits(void) {
     hk_hand_free(hands[0]);
 }
 
+/* What another hand finds after a hand with an open put was freed: the side stays reserved, and the words that were put
+ * before come out alone. */
+static void freed_while_putting(void) {
+    hk_hand *hand = NULL, *freed = NULL;
+    hk_ring_plan plan = {8, 0, HK_HTS, HK_MULTI};
+    IS(hk_hand_open(&hand, &plan, 1), HK_OK), IS(hk_hand_split(hand, &freed), HK_OK);
+    IS(hk_ring_try_put_bulk(hand, 0, words, 2), 2);
+    IS(hk_ring_peek_put_bulk(freed, 0, 3), 3);
+    hk_hand_free(freed);
+    for (int turn = 0; turn < 2; turn++) {
+        IS(hk_ring_try_put_bulk(hand, 0, words, 1), HK_E_AGAIN);
+        IS(hk_ring_try_put_burst(hand, 0, words, 1), HK_E_AGAIN);
+        IS(hk_ring_peek_put_bulk(hand, 0, 1), HK_E_AGAIN), IS(hk_ring_peek_put_burst(hand, 0, 1), HK_E_AGAIN);
+        IS(hk_ring_room(hand, 0), HK_E_AGAIN), IS(hk_ring_finish_put(hand, words, 1), HK_E_NOTOPEN);
+    }
+    mark();
+    IS(hk_ring_try_take_burst(hand, 0, out, 7), 2);
+    IS(out[0], 100), IS(out[1], 101), IS(out[2], -1);
+    IS(hk_ring_try_take_burst(hand, 0, out, 7), HK_E_NOROOM), IS(hk_ring_try_put_bulk(hand, 0, words, 1), HK_E_AGAIN);
+    IS(hk_hand_close(hand), HK_OK), IS(hk_hand_drain(hand, 0, out, 7), 0);
+    hk_hand_free(hand);
+}
+
+/* The same of an open take: the words that it showed come out no more, also when the rings are closed. */
+static void freed_while_taking(void) {
+    hk_hand *hand = NULL, *freed = NULL;
+    hk_ring_plan plan = {8, 0, HK_MULTI, HK_HTS};
+    IS(hk_hand_open(&hand, &plan, 1), HK_OK), IS(hk_hand_split(hand, &freed), HK_OK);
+    IS(hk_ring_try_put_bulk(hand, 0, words, 3), 3);
+    IS(hk_ring_peek_take_bulk(freed, 0, out, 2), 2);
+    hk_hand_free(freed);
+    for (int turn = 0; turn < 2; turn++) {
+        IS(hk_ring_try_take_bulk(hand, 0, out, 1), HK_E_AGAIN), IS(hk_ring_try_take_burst(hand, 0, out, 1), HK_E_AGAIN);
+        IS(hk_ring_peek_take_bulk(hand, 0, out, 1), HK_E_AGAIN);
+        IS(hk_ring_count(hand, 0), HK_E_AGAIN), IS(hk_ring_finish_take(hand, 1), HK_E_NOTOPEN);
+    }
+    IS(hk_ring_try_put_burst(hand, 0, words + 3, 7), 4), IS(hk_ring_try_put_bulk(hand, 0, words, 1), HK_E_NOROOM);
+    IS(hk_hand_close(hand), HK_OK), IS(hk_hand_drain(hand, 0, out, 16), 5);
+    for (int i = 0; i < 5; i++) IS(out[i], 102 + i);
+    hk_hand_free(hand);
+}
+
 static void routes(void) {
     hk_routes *table = NULL, *second = NULL;
     IS(hk_routes_open(NULL, 16, 1), HK_E_NULL);
@@ -291,6 +333,8 @@ int main(void) {
     for (uint64_t i = 0; i <= HK_MOST; i++) words[i] = 100 + i;
     for (uint32_t pair = 0; pair < 4; pair++) rings(pair & 1, pair >> 1);
     splits();
+    freed_while_putting();
+    freed_while_taking();
     long_calls();
     routes();
     reorder();

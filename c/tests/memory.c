@@ -111,6 +111,14 @@ static void call_all(struct all *all) {
     IS(hk_hand_drain(all->hand, 1, words, 4), 1);
 }
 
+/* A call that frees takes a handle of any kind. */
+static void free_crosswise(struct all *all) {
+    hk_pool_free((hk_pool *)all->hand), hk_routes_free((hk_routes *)all->second);
+    hk_hand_free((hk_hand *)all->routes), hk_reorder_free((hk_reorder *)all->lookups);
+    hk_hand_free((hk_hand *)all->window);
+    hk_reorder_free((hk_reorder *)all->pool), hk_routes_free((hk_routes *)all->further);
+}
+
 int main(void) {
     struct all all;
     open_all(&all);
@@ -118,6 +126,7 @@ int main(void) {
     free_all(&all);
     IS(said, 0), IS(other, 0), IS(live, 0);
     long requests = count;
+    open_all(&all), free_crosswise(&all), IS(live, 0);
     IS(requests > 10, 1);
     for (from = 1; from <= requests; from++) {
         to = from + 1;

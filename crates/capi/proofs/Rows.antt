@@ -1,5 +1,5 @@
 -- Worked cases of what C gets of routes and of reorder windows, and answers that are none
-use Rattle.std.proofs.Common.{◌≡◌, ◌^◌, ℕ, List, [], ◌∷◌, refl, sym, ◌∙◌, inl, inr, Option, None, Some, Ok, Err, arith}
+use Rattle.std.proofs.Common.{◌≡◌, ℕ, List, [], ◌∷◌, refl, sym, ◌∙◌, inl, inr, Option, None, Some, Ok, Err, arith}
 use Rattle.std.specs.FinMap as map
 use Rattle.lpm.specs.declared.fault.RouteFault.TheVariants.{BadDepth, BadHop, NoGroup, Memory, NoRoute}
 use Rattle.lpm.specs.Routes.{Routes}

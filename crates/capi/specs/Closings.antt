@@ -1,5 +1,5 @@
 -- What closing rings does to what a handle has
-use Rattle.std.specs.Prelude.{◌≡◌, ℕ, Option, None, Some, Ok, Err}
+use Rattle.std.specs.Prelude.{◌≡◌, Option, None, Some, Ok, Err}
 use Rattle.capi_rings.specs.Codes.{Outcome}
 use Rattle.capi_rings.specs.Rests.{Closes, RefusesClose}
 use Rattle.capi_rings.specs.RingCalls.{SameMember}

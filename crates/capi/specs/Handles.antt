@@ -1,8 +1,11 @@
 -- What calls do to what a handle has
-use Rattle.std.specs.Prelude.{◌≡◌, ℕ, Option, None, Some, Ok, Err}
+use Rattle.std.specs.Prelude.{◌≡◌, ℕ, Option, None, Some, Result, Ok, Err}
+use Rattle.std.specs.declared.alloc.Global.{Global}
+use Rattle.std.specs.declared.boxed.Box.{Box}
 use Rattle.lpm.specs.Routes.{Routes}
 use Rattle.reorder.specs.Waiting.{Waiting}
 use Rattle.capi_rings.specs.Codes.{Outcome}
+use Rattle.capi_rings.specs.declared.fault.Fault.{Fault}
 use Rattle.capi_rings.specs.declared.fault.Fault.TheVariants as fault
 use Rattle.capi.specs.declared.object.Object.{Object}
 use Rattle.capi.specs.declared.object.Object.TheVariants as object
@@ -11,6 +14,11 @@ use Rattle.capi.specs.declared.object.Object.TheVariants as object
 abbrev pub GivesOut : Outcome → Object → Option Object → Type 0
 GivesOut (Ok count) given new = (count ≡ 0) × (new ≡ Some given)
 GivesOut (Err why) given new = (why ≡ fault.Memory) × (new ≡ None)
+
+-- what the handle had was taken out of it, as it was: a hand's open span is still open, and stays so
+abbrev pub TakesOut : Result (Box (Option Object) Global) Fault → Option Object → Option Object → Type 0
+TakesOut (Ok slot) old new = (slot.value ≡ old) × (new ≡ None)
+TakesOut (Err why) old new = (why ≡ fault.Empty) × (old ≡ None) × (new ≡ None)
 
 -- nothing is left in the handle
 abbrev pub Frees : Outcome → Option Object → Option Object → Type 0

@@ -10,6 +10,7 @@ use Rattle.lpm.specs.Routes.{Accepts, HasMembers, HasRoute, IsNew, LacksRoute, N
 use Rattle.capi_rings.specs.Codes.{Outcome}
 use Rattle.capi.specs.Handles.{HasTable}
 use Rattle.capi.specs.declared.object.Object.{Object}
+use Rattle.capi.specs.declared.object.Object.TheVariants as object
 use Rattle.capi_rings.specs.declared.fault.Fault.{Fault}
 use Rattle.capi_rings.specs.declared.fault.Fault.TheVariants as fault
 
@@ -23,10 +24,19 @@ OpensTable (Ok count) bits groups old new =
     (count ≡ 0) × (old ≡ None) × ((bits ≡ 16) ⊎ (bits ≡ 24)) × HasTable new (λ t. IsNew t bits groups)
 OpensTable (Err why) bits groups old new = (new ≡ old) × ((why ≡ fault.Used) ⊎ (old ≡ None) × RefusesTable bits why)
 
--- the table of a handle, or why there is none
+-- why there is no table
+abbrev pub HasNoTable : Option Object → Fault → Type 0
+HasNoTable None why = why ≡ fault.Empty
+HasNoTable (Some (object.Routes t)) why = ⊥
+HasNoTable (Some (object.Hand m)) why = why ≡ fault.Kind
+HasNoTable (Some (object.Rest r)) why = why ≡ fault.Kind
+HasNoTable (Some (object.Pool p)) why = why ≡ fault.Kind
+HasNoTable (Some (object.Reorder w)) why = why ≡ fault.Kind
+
+-- the table of a handle, or why there is none for a second handle
 abbrev pub FindsTable : Result (Arc Routes Global) Fault → Option Object → Type 0
 FindsTable (Ok t) old = HasTable old (λ u. t.value ≡ u)
-FindsTable (Err why) old = (why ≡ fault.Memory) ⊎ ((why ≡ fault.Kind) ⊎ ((why ≡ fault.Empty) × (old ≡ None)))
+FindsTable (Err why) old = HasTable old (λ u. why ≡ fault.Memory) ⊎ HasNoTable old why
 
 -- the table of the first handle is in the second, too, which was empty; otherwise both are as they were
 abbrev pub Shares : Outcome → Option Object → Option Object → Option Object → Option Object → Type 0
@@ -34,7 +44,7 @@ Shares (Ok count) old new second_old second_new =
     (count ≡ 0) × (new ≡ old) × (second_old ≡ None) × HasTable old (λ t. HasTable second_new (λ u. u ≡ t))
 Shares (Err why) old new second_old second_new =
     (new ≡ old) × (second_new ≡ second_old)
-    × ((why ≡ fault.Used) ⊎ ((why ≡ fault.Memory) ⊎ ((why ≡ fault.Kind) ⊎ ((why ≡ fault.Empty) × (old ≡ None)))))
+    × ((why ≡ fault.Used) ⊎ (HasTable old (λ t. why ≡ fault.Memory) ⊎ HasNoTable old why))
 
 -- the fault for one of the table's own
 abbrev pub fault_of : RouteFault → Fault

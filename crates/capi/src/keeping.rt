@@ -1,7 +1,7 @@
 //! Taking an object out of a handle for a call, and putting it back.
 ghost use Rattle.std.specs.Prelude.{◌≡◌, MatchOption, None, Some, false};
 ghost use Rattle.capi_rings.specs.Codes.{Answers};
-ghost use Rattle.capi.specs.Handles.{Frees, GivesOut};
+ghost use Rattle.capi.specs.Handles.{Frees, GivesOut, TakesOut};
 
 use crate::handle::Handle;
 use crate::object::Object;
@@ -44,17 +44,29 @@ pub(crate) fn give(alloc: Global, object: Object, h: &mut Handle) -> Result<u32,
     }
 }
 
-/// Drops what a handle has. Then the handle is null.
-fn free(alloc: Global, h: &mut Handle) -> Result<u32, Fault>
-    ensures { Frees result h.old.value h.new.value }
+/// Takes out what a handle has, to be dropped as it is: an open span is neither settled nor withdrawn. Then the handle
+/// is null.
+fn take_out(alloc: Global, h: &mut Handle) -> Result<Box<Option<Object>>, Fault>
+    ensures { TakesOut result h.old.value h.new.value }
 {
     match borrow(alloc, h) {
-        Some(_) => Ok(0),
+        Some(slot) => Ok(slot),
         None => Err(Fault::Empty),
     }
 }
 
-/// Frees what a handle has. Then the handle is null.
+/// Drops what a handle has. Then the handle is null.
+fn free(alloc: Global, h: &mut Handle) -> Result<u32, Fault>
+    ensures { Frees result h.old.value h.new.value }
+{
+    match take_out(alloc, h) {
+        Ok(_dropped) => Ok(0),
+        Err(why) => Err(why),
+    }
+}
+
+/// Frees what a handle has. Then the handle is null. A span that a hand has open stays open for good: on a head/tail
+/// sync side nobody else can start then, and on a multi side nobody can settle after it.
 #[unsafe(no_mangle)]
 pub extern "C" fn hkx_free(alloc: Global, h: &mut Handle) -> i64
     ensures { Answers result (λ outcome. Frees outcome h.old.value h.new.value) }

@@ -1,0 +1,190 @@
+/* Each call with each bad argument, and with each two: the code, and that nothing was changed. The calls are those of
+ * refusals.txt, of which tools/c_refusals.py makes refusals.inc. The handles here are what it names. */
+#include "tests.h"
+
+#include <signal.h>
+#include <stdlib.h>
+#include <string.h>
+#include <unistd.h>
+
+/* Each set of rings has a ring of HTS sides and a ring of multi sides; an open span has three positions of seven. */
+enum { RINGS = 2, MULTI_RING = 1, SPAN = 3, LEFT = 4, NUMBERS = 8, POOL_RINGS = 1 };
+
+#define TWO(size, exact, put, take) ((hk_ring_plan[2]){{8, 0, HK_HTS, HK_HTS}, {size, exact, put, take}})
+
+/* Hands: without a span, with a span of a put and of a take, and one whose rings were closed. `other` shares the rings
+ * of `idle`, and `sharer` the table of `shared`. */
+static hk_hand *idle, *other, *putting, *taking, *closed;
+static hk_pool *pool;
+static hk_routes *table, *shared, *sharer;
+static hk_reorder *window;
+
+/* What calls write to: handles, words and numbers. */
+static struct made {
+    hk_hand *hand;
+    hk_pool *pool;
+    hk_routes *table;
+    hk_reorder *window;
+} made, unmade;
+static uint64_t given[HK_MOST + 1], places[HK_MOST + 1];
+static uint32_t numbers[HK_POOL_MOST + 1];
+static const uint32_t addresses[2] = {0x0a000001, 0x0a010001};
+
+/* Numbers of the pool: two that its handle got, and pairs with one that may not be put. */
+static uint32_t own[2], free_ones[2], twice[2], cached[2], high[2], highest[2];
+
+/* What is seen of all handles. */
+struct seen {
+    int64_t spans[3], rings[4], numbers[NUMBERS + 1], hops[4];
+    uint64_t words[HK_MOST], next;
+};
+
+static void open_hand(hk_hand **hand) {
+    hk_ring_plan plans[RINGS] = {{8, 0, HK_HTS, HK_HTS}, {8, 0, HK_MULTI, HK_MULTI}};
+    IS(hk_hand_open(hand, plans, RINGS), HK_OK);
+}
+
+static void open_hands(void) {
+    open_hand(&idle), open_hand(&putting), open_hand(&taking), open_hand(&closed);
+    IS(hk_hand_split(idle, &other), HK_OK);
+    IS(hk_ring_try_put_bulk(idle, 0, given, 3), 3), IS(hk_ring_try_put_bulk(idle, 1, given, 2), 2);
+    IS(hk_ring_peek_put_bulk(putting, 0, SPAN), SPAN);
+    IS(hk_ring_try_put_bulk(taking, 0, given, SPAN + LEFT), SPAN + LEFT);
+    IS(hk_ring_peek_take_bulk(taking, 0, places, SPAN), SPAN);
+    IS(hk_ring_try_put_bulk(closed, 0, given, 2), 2);
+    IS(hk_hand_close(closed), HK_OK);
+}
+
+/* The handle of the pool has got two numbers and has three in its cache; one is on the ring of the pool. */
+static void open_pool(void) {
+    uint32_t got[4];
+    IS(hk_pool_open(&pool, NUMBERS, 2, POOL_RINGS), HK_OK);
+    IS(hk_pool_try_get_bulk(pool, got, 4), 4);
+    IS(hk_pool_try_put_bulk(pool, &got[2], 1), 1), IS(hk_pool_cached(pool), 3);
+    IS(hk_pool_try_send_bulk(pool, 0, &got[3], 1), 1);
+    memcpy(own, got, sizeof own);
+    for (uint32_t i = 0; i < NUMBERS; i++) {
+        if (!hk_pool_owns(pool, i)) free_ones[0] = i;
+    }
+    twice[0] = cached[0] = high[0] = highest[0] = free_ones[1] = twice[1] = own[0];
+    high[1] = NUMBERS, highest[1] = UINT32_MAX;
+    cached[1] = got[2];
+}
+
+static void open_tables(void) {
+    IS(hk_routes_open(&table, 16, 1), HK_OK), IS(hk_routes_open(&shared, 16, 1), HK_OK);
+    IS(hk_routes_add(table, 0x0a000000, 8, 7), HK_OK), IS(hk_routes_add(shared, 0x0a000000, 8, 7), HK_OK);
+    IS(hk_routes_add(table, 0x0a010000, 24, 9), HK_OK);
+    IS(hk_routes_share(shared, &sharer), HK_OK);
+}
+
+/* The window waits for number 1, and number 2 is there. */
+static void open_window(void) {
+    IS(hk_reorder_open(&window, 4), HK_OK);
+    IS(hk_reorder_skip(window, 1), HK_OK), IS(hk_reorder_insert(window, 2, 12), HK_OK);
+}
+
+/* What the calls that change nothing say of each handle; the words of `idle` are shown by a peek of `other`. */
+static void look(struct seen *seen) {
+    hk_hand *hands[3] = {idle, putting, taking};
+    memset(seen, 0, sizeof *seen);
+    for (int i = 0; i < 3; i++) seen->spans[i] = hk_hand_span(hands[i]);
+    for (size_t i = 0; i < RINGS; i++) {
+        seen->rings[2 * i] = hk_ring_count(idle, i), seen->rings[2 * i + 1] = hk_ring_room(idle, i);
+    }
+    for (uint32_t i = 0; i < NUMBERS; i++) seen->numbers[i] = hk_pool_owns(pool, i);
+    seen->numbers[NUMBERS] = hk_pool_cached(pool);
+    for (int i = 0; i < 2; i++) {
+        seen->hops[2 * i] = hk_routes_lookup(table, addresses[i]);
+        seen->hops[2 * i + 1] = hk_routes_lookup(shared, addresses[i]);
+    }
+    if (hk_ring_peek_take_burst(other, 0, seen->words, HK_MOST) < 0 || hk_ring_finish_take(other, 0) != 0
+        || hk_reorder_next(window, &seen->next) != HK_OK) hk_failed++;
+}
+
+static struct seen before, now;
+static int64_t lefts[3];
+static const char *volatile call;
+
+/* Whether the arrays and the places for handles are as they were made. */
+static int is_unwritten(void) {
+    int same = memcmp(&made, &unmade, sizeof made) == 0;
+    for (size_t i = 0; i <= HK_MOST; i++) same &= places[i] == UINT64_MAX && given[i] == 100 + i;
+    for (size_t i = 0; i <= HK_POOL_MOST; i++) same &= numbers[i] == UINT32_MAX;
+    return same;
+}
+
+/* Whether hk_hand_left says what it said; after HK_E_COUNT it says nothing. */
+static int is_left(int64_t code) {
+    hk_hand *hands[3] = {idle, putting, taking};
+    int same = 1;
+    for (int i = 0; i < 3; i++) {
+        int64_t left = hk_hand_left(hands[i]);
+        same &= left == lefts[i] || code == HK_E_COUNT;
+        lefts[i] = left;
+    }
+    return same;
+}
+
+static void check(int64_t got, int64_t want) {
+    hk_is(got, want, call, __FILE__, __LINE__);
+    look(&now);
+    if (is_unwritten() && is_left(want) && memcmp(&before, &now, sizeof now) == 0) {
+        hk_passed++;
+        return;
+    }
+    hk_failed++;
+    printf("%s: it changed something\n", call);
+    exit(hk_count_up("refusals"));
+}
+
+#define REFUSES(a_call, want) (call = #a_call, check(a_call, want))
+#define KEEPS(a_call) (call = #a_call, a_call, check(0, 0))
+
+static void all(void) {
+#include "refusals.inc"
+}
+
+/* What is on the rings, in the pool and in the window is what was put there. */
+static void contents(void) {
+    uint64_t words[HK_MOST] = {0};
+    IS(hk_ring_finish_put(putting, given, SPAN), SPAN);
+    IS(hk_ring_try_take_burst(putting, 0, words, HK_MOST), SPAN), IS(memcmp(words, given, SPAN * sizeof *words), 0);
+    IS(hk_ring_finish_take(taking, SPAN), SPAN);
+    IS(hk_ring_try_take_burst(taking, 0, words, HK_MOST), LEFT), IS(words[0], given[SPAN]);
+    IS(hk_ring_try_take_burst(idle, 1, words, HK_MOST), 2), IS(memcmp(words, given, 2 * sizeof *words), 0);
+    IS(hk_hand_drain(closed, 0, words, HK_MOST), 2), IS(memcmp(words, given, 2 * sizeof *words), 0);
+    IS(hk_pool_try_receive_bulk(pool, 0, numbers, 1), 1);
+    IS(hk_reorder_insert(window, 1, 11), HK_OK), IS(hk_reorder_drain(window, words, HK_MOST), 2);
+    IS(words[0], 11), IS(words[1], 12);
+}
+
+static void free_all(void) {
+    hk_hand_free(idle), hk_hand_free(other), hk_hand_free(putting), hk_hand_free(taking), hk_hand_free(closed);
+    hk_pool_free(pool);
+    hk_routes_free(table), hk_routes_free(shared), hk_routes_free(sharer);
+    hk_reorder_free(window);
+}
+
+/* Names the call that died. */
+static void died(int signal) {
+    const char *text = call ? call : "refusals";
+    (void)!write(STDOUT_FILENO, text, strlen(text));
+    (void)!write(STDOUT_FILENO, ": died\n", 7);
+    _Exit(128 + signal);
+}
+
+int main(void) {
+    signal(SIGSEGV, died), signal(SIGBUS, died);
+    setvbuf(stdout, NULL, _IONBF, 0);
+    for (uint64_t i = 0; i <= HK_MOST; i++) given[i] = 100 + i;
+    open_hands(), open_pool(), open_tables(), open_window();
+    memset(places, 0xff, sizeof places), memset(numbers, 0xff, sizeof numbers);
+    memset(&made, 0xff, sizeof made), unmade = made;
+    look(&before), IS(before.words[0], 100), IS(before.numbers[own[0]], 1), IS(before.next, 1);
+    (void)is_left(HK_E_COUNT);
+    all();
+    contents();
+    free_all();
+    return hk_count_up("refusals");
+}

@@ -1,0 +1,272 @@
+/* How often a call tries: stand-ins for the exports count their calls and answer what they are told, so that hokhtura.c
+ * is linked with this file alone. tools/try-capi sees to it that each call of hokhtura.h stands here. */
+#include "tests.h"
+
+#include <stdbool.h>
+#include <string.h>
+
+/* As the header says. */
+enum { TRIES = 1024 };
+
+enum { RING = 5, COUNT = 3 };
+
+static char box;
+static uint64_t words[COUNT], next;
+static uint32_t numbers[COUNT];
+
+/* What a step answers: a code this often, and then an end. */
+struct step {
+    int64_t code;
+    unsigned often;
+    int64_t end;
+    unsigned tried;
+};
+
+static struct step start, finish, other;
+/* Calls of an export with other arguments than at first, or with a cell without the handle. */
+static unsigned strange;
+
+static int64_t answer(struct step *step) {
+    return step->tried++ < step->often ? step->code : step->end;
+}
+
+struct hk_cell {
+    void *at;
+};
+
+static int64_t begin(struct hk_cell *h, bool same) {
+    strange += h->at != &box || !same;
+    return answer(&start);
+}
+
+static int64_t end(struct hk_cell *h, bool same) {
+    strange += h->at != &box || !same;
+    return answer(&finish);
+}
+
+static bool bulk_wanted;
+
+int64_t hkx_ring_put(struct hk_cell *h, size_t ring, const uint64_t *at, size_t n, bool bulk);
+int64_t hkx_ring_take(struct hk_cell *h, size_t ring, uint64_t *at, size_t n, bool bulk);
+int64_t hkx_ring_peek_put(struct hk_cell *h, size_t ring, size_t n, bool bulk);
+int64_t hkx_ring_peek_take(struct hk_cell *h, size_t ring, uint64_t *at, size_t n, bool bulk);
+int64_t hkx_ring_finish_put(struct hk_cell *h, const uint64_t *at, size_t n);
+int64_t hkx_ring_finish_take(struct hk_cell *h, size_t n);
+
+int64_t hkx_ring_put(struct hk_cell *h, size_t ring, const uint64_t *at, size_t n, bool bulk) {
+    return begin(h, ring == RING && at == words && n == COUNT && bulk == bulk_wanted);
+}
+
+int64_t hkx_ring_take(struct hk_cell *h, size_t ring, uint64_t *at, size_t n, bool bulk) {
+    return begin(h, ring == RING && at == words && n == COUNT && bulk == bulk_wanted);
+}
+
+int64_t hkx_ring_peek_put(struct hk_cell *h, size_t ring, size_t n, bool bulk) {
+    return begin(h, ring == RING && n == COUNT && bulk == bulk_wanted);
+}
+
+int64_t hkx_ring_peek_take(struct hk_cell *h, size_t ring, uint64_t *at, size_t n, bool bulk) {
+    return begin(h, ring == RING && at == words && n == COUNT && bulk == bulk_wanted);
+}
+
+int64_t hkx_ring_finish_put(struct hk_cell *h, const uint64_t *at, size_t n) {
+    return end(h, at == words && n == COUNT);
+}
+
+int64_t hkx_ring_finish_take(struct hk_cell *h, size_t n) {
+    return end(h, n == COUNT);
+}
+
+/* The exports that no call tries again: whatever they are given, they count. */
+#define ONCE(name)         \
+    int64_t name(void);    \
+    int64_t name(void) {   \
+        return answer(&other); \
+    }
+ONCE(hkx_free)
+ONCE(hkx_hand_open)
+ONCE(hkx_hand_split)
+ONCE(hkx_hand_span)
+ONCE(hkx_hand_left)
+ONCE(hkx_hand_close)
+ONCE(hkx_hand_drain)
+ONCE(hkx_ring_room)
+ONCE(hkx_pool_open)
+ONCE(hkx_pool_split)
+ONCE(hkx_pool_get)
+ONCE(hkx_pool_put)
+ONCE(hkx_pool_flush)
+ONCE(hkx_pool_cached)
+ONCE(hkx_pool_owns)
+ONCE(hkx_pool_send)
+ONCE(hkx_pool_receive)
+ONCE(hkx_routes_open)
+ONCE(hkx_routes_share)
+ONCE(hkx_routes_add)
+ONCE(hkx_routes_remove)
+ONCE(hkx_routes_lookup)
+ONCE(hkx_routes_lookup_bulk)
+ONCE(hkx_reorder_open)
+ONCE(hkx_reorder_insert)
+ONCE(hkx_reorder_drain)
+ONCE(hkx_reorder_next)
+ONCE(hkx_reorder_skip)
+
+/* What the steps answer from now on; no step has been tried. */
+static void told(struct step starts, struct step finishes, struct step others) {
+    start = starts, finish = finishes, other = others;
+    strange = 0;
+}
+
+/* Each step was tried this often. */
+static void tried(unsigned starts, unsigned finishes, unsigned others) {
+    IS(start.tried, starts), IS(finish.tried, finishes), IS(other.tried, others), IS(strange, 0);
+}
+
+static const struct step never = {0, 0, HK_E_NULL, 0};
+
+static struct step often(int64_t code, unsigned turns, int64_t ends) {
+    return (struct step){code, turns, ends, 0};
+}
+
+static hk_hand *hand;
+
+static int64_t put_bulk(void) {
+    return hk_ring_try_put_bulk(hand, RING, words, COUNT);
+}
+
+static int64_t put_burst(void) {
+    return hk_ring_try_put_burst(hand, RING, words, COUNT);
+}
+
+static int64_t take_bulk(void) {
+    return hk_ring_try_take_bulk(hand, RING, words, COUNT);
+}
+
+static int64_t take_burst(void) {
+    return hk_ring_try_take_burst(hand, RING, words, COUNT);
+}
+
+static int64_t peek_put_bulk(void) {
+    return hk_ring_peek_put_bulk(hand, RING, COUNT);
+}
+
+static int64_t peek_put_burst(void) {
+    return hk_ring_peek_put_burst(hand, RING, COUNT);
+}
+
+static int64_t peek_take_bulk(void) {
+    return hk_ring_peek_take_bulk(hand, RING, words, COUNT);
+}
+
+static int64_t peek_take_burst(void) {
+    return hk_ring_peek_take_burst(hand, RING, words, COUNT);
+}
+
+static int64_t finish_put(void) {
+    return hk_ring_finish_put(hand, words, COUNT);
+}
+
+static int64_t finish_take(void) {
+    return hk_ring_finish_take(hand, COUNT);
+}
+
+typedef int64_t call(void);
+
+/* The first step, which puts, takes and peeks have. */
+static void starts(call *called, bool bulk) {
+    bulk_wanted = bulk;
+    told(often(HK_E_AGAIN, 0, COUNT), never, never), IS(called(), COUNT), tried(1, 0, 0);
+    told(often(HK_E_AGAIN, UINT32_MAX, 0), never, never), IS(called(), HK_E_AGAIN), tried(TRIES, 0, 0);
+    told(often(HK_E_AGAIN, TRIES - 1, COUNT), never, never), IS(called(), COUNT), tried(TRIES, 0, 0);
+    told(often(HK_E_AGAIN, 7, HK_E_NOROOM), never, never), IS(called(), HK_E_NOROOM), tried(8, 0, 0);
+    told(often(HK_E_WORN, 1, COUNT), never, never), IS(called(), HK_E_WORN), tried(1, 0, 0);
+}
+
+/* Both steps. A first step that is pending has tried the second one once. */
+static void both(call *called, bool bulk) {
+    starts(called, bulk);
+    struct step pending = often(HK_E_PENDING, UINT32_MAX, 0), late = often(HK_E_AGAIN, TRIES - 1, HK_E_PENDING);
+    told(pending, pending, never), IS(called(), HK_E_PENDING), tried(1, TRIES - 1, 0);
+    told(late, pending, never), IS(called(), HK_E_PENDING), tried(TRIES, TRIES - 1, 0);
+    told(pending, often(HK_E_PENDING, TRIES - 2, COUNT), never), IS(called(), COUNT), tried(1, TRIES - 1, 0);
+    told(pending, often(HK_E_PENDING, 7, COUNT), never), IS(called(), COUNT), tried(1, 8, 0);
+}
+
+/* The second step alone. */
+static void finishes(call *called) {
+    told(never, often(HK_E_PENDING, 0, COUNT), never), IS(called(), COUNT), tried(0, 1, 0);
+    told(never, often(HK_E_PENDING, UINT32_MAX, 0), never), IS(called(), HK_E_PENDING), tried(0, TRIES, 0);
+    told(never, often(HK_E_PENDING, TRIES - 1, COUNT), never), IS(called(), COUNT), tried(0, TRIES, 0);
+    told(never, often(HK_E_COUNT, 1, COUNT), never), IS(called(), HK_E_COUNT), tried(0, 1, 0);
+}
+
+/* A call that asks its export once, whatever that answers. */
+#define ONE(a_call, code) (told(never, never, often(code, UINT32_MAX, 0)), IS(a_call, code), tried(0, 0, 1))
+#define BOTH(a_call) (ONE(a_call, HK_E_AGAIN), ONE(a_call, HK_E_PENDING))
+
+static void one_try(void) {
+    hk_ring_plan plan = {8, 0, HK_MULTI, HK_MULTI};
+    hk_hand *second = NULL;
+    BOTH(hk_hand_open(&second, &plan, 1));
+    BOTH(hk_hand_split(hand, &second));
+    BOTH(hk_hand_span(hand));
+    BOTH(hk_hand_left(hand));
+    BOTH(hk_ring_count(hand, RING));
+    BOTH(hk_ring_room(hand, RING));
+    BOTH(hk_hand_close(hand));
+    BOTH(hk_hand_drain(hand, RING, words, COUNT));
+    /* No export is given more plans than there may be rings. */
+    told(never, never, never), IS(hk_hand_open(&second, &plan, HK_MOST_RINGS + 1), HK_E_PLAN), tried(0, 0, 0);
+    IS(second == NULL, 1);
+    told(never, never, never), hk_hand_free(hand), tried(0, 0, 1);
+}
+
+/* The tries of a pool's calls are made below its exports. */
+static void pools(void) {
+    hk_pool *pool = (hk_pool *)hand, *second = NULL;
+    BOTH(hk_pool_open(&second, 8, 2, 1));
+    BOTH(hk_pool_split(pool, &second));
+    BOTH(hk_pool_try_get_bulk(pool, numbers, COUNT));
+    BOTH(hk_pool_try_put_bulk(pool, numbers, COUNT));
+    BOTH(hk_pool_try_flush(pool));
+    BOTH(hk_pool_cached(pool));
+    BOTH(hk_pool_owns(pool, 1));
+    BOTH(hk_pool_try_send_bulk(pool, RING, numbers, COUNT));
+    BOTH(hk_pool_try_receive_bulk(pool, RING, numbers, COUNT));
+    IS(second == NULL, 1);
+    told(never, never, never), hk_pool_free(pool), tried(0, 0, 1);
+}
+
+static void tables_and_windows(void) {
+    hk_routes *table = (hk_routes *)hand, *second = NULL;
+    hk_reorder *window = (hk_reorder *)hand, *another = NULL;
+    BOTH(hk_routes_open(&second, 16, 1));
+    BOTH(hk_routes_share(table, &second));
+    BOTH(hk_routes_add(table, 0, 8, 1));
+    BOTH(hk_routes_remove(table, 0, 8));
+    BOTH(hk_routes_lookup(table, 0));
+    BOTH(hk_routes_lookup_bulk(table, numbers, numbers, 0));
+    BOTH(hk_reorder_open(&another, 4));
+    BOTH(hk_reorder_insert(window, 1, 1));
+    BOTH(hk_reorder_drain(window, words, COUNT));
+    BOTH(hk_reorder_pop(window, words));
+    BOTH(hk_reorder_next(window, &next));
+    BOTH(hk_reorder_skip(window, 1));
+    IS(second == NULL && another == NULL, 1);
+    told(never, never, never), hk_routes_free(table), tried(0, 0, 1);
+    told(never, never, never), hk_reorder_free(window), tried(0, 0, 1);
+}
+
+int main(void) {
+    hand = (hk_hand *)(void *)&box;
+    both(put_bulk, true), both(put_burst, false);
+    both(take_bulk, true), both(take_burst, false);
+    starts(peek_put_bulk, true), starts(peek_put_burst, false);
+    starts(peek_take_bulk, true), starts(peek_take_burst, false);
+    finishes(finish_put), finishes(finish_take);
+    one_try();
+    pools();
+    tables_and_windows();
+    return hk_count_up("tries");
+}
