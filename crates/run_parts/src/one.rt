@@ -40,7 +40,7 @@ use std::marker::Brand;
 /// All devices are handed back, the ports' in their order. Errors: 1 `Memory`; 3 `Read` and 4 `Write(port)`, if that
 /// device failed in this call; 5 `Capture`, if the input is refused; 6 `Window`, if it has 2^64 - 1 records or more. A
 /// prefix of its output has then been written to each port's device, and after a port's device failed nothing more was
-/// written to any port. 2 `Thread` and 7 `Worn` are never returned. Of several faults the one with the lowest number is.
+/// written to any port. Of several faults that with the lowest number is returned; 2 `Thread` and 7 `Worn` never are.
 pub fn run_one<R: Read, W: Write + Drop>(
     alloc: Global,
     reader: Counted<R>,
