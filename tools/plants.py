@@ -96,9 +96,10 @@ class Lazy(bodies.Bodies):
         return found + [it for it in more if it.text not in there]
 
     def over_the_real_one(self, fails):
-        found = super().over_the_real_one(fails)
+        found, call = super().over_the_real_one(fails), self.f.call()
         there = {it.text for it in found}
-        return found + [it for it in self.other_answers() if it.text not in there]
+        more = [*self.other_answers(), *[Body(f"let _ = {call}; {call}")] * bool(self.f.changes_self and self.f.ret)]
+        return found + [it for it in more if it.text not in there]
 
     def other_kinds(self, ty):
         """Arms that give another value for one of an enum type, each as a pattern and a value: the same variant with
