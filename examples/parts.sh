@@ -1,20 +1,17 @@
 #!/usr/bin/env bash
-# Runs a capture in parts on one machine, several at a time, with the scripts for a cluster: cluster/cut, part and
-# merge. The result is compared with the run in one piece: the same bytes at each port, and the sums of the reports.
+# Runs a capture in parts on one machine, several at a time, with the scripts for a cluster: cluster/submit finds the
+# parts, ranges of the capture's bytes, and each is a task. The result is compared with the run in one piece: the same
+# bytes at each port, and the sums of the reports.
 #
-#   examples/parts.sh [RECORDS [RECORDS OF A PART]]     by default 5000 and 700
+#   examples/parts.sh [RECORDS [PARTS]]     by default 5000 and 8
 #
-# Needs a built pktkit (`make build`, or PKTKIT=PROGRAM), and editcap and mergecap (Debian's package wireshark-common).
+# Needs a built pktkit (`make build`, or PKTKIT=PROGRAM) and Python 3.
 set -euo pipefail
 
 here=$(realpath "$(dirname "$0")")
-# shellcheck source-path=SCRIPTDIR source=cluster/common
-. "$here/cluster/common"
-
 PKTKIT=$(realpath -m "${PKTKIT:-$here/../crates/pktkit/out/pktkit}")
 export PKTKIT
 config=$here/router.toml
-need "$PKTKIT"
 folder=$(mktemp -d)
 trap 'rm -rf "$folder"' EXIT
 cd "$folder"
@@ -25,8 +22,13 @@ cd "$folder"
 diff meant.report whole.report
 
 # In parts. Any batch system can replace xargs.
-"$here/cluster/cut" --config "$config" --in whole.pcap --out together --records "${2:-700}" > numbers
-xargs -a numbers -P "$(nproc)" -n 1 together.parts/part > /dev/null
-together.parts/merge
-same_run whole together
+"$here/cluster/submit" --plan --config "$config" --out together --split "${2:-8}" whole.pcap > numbers
+xargs -a numbers -P "$(nproc)" -n 1 together/parts/task run > /dev/null
+together/parts/task sum
+for port in 0 1; do
+    together/parts/task join "$port"
+    cmp "whole.$port.pcap" "together/$port.pcap"
+done
+diff whole.report together/report
+cat together/report
 echo "parts.sh: $(wc -l < numbers) parts give the captures and the report of one piece" >&2
