@@ -1,3 +1,4 @@
 pub mod Items
 pub mod Appends
 pub mod Fronts
+mod Values

@@ -1,3 +1,4 @@
 pub mod Items
 pub mod Cells
 pub mod Numbers
+pub mod Slot

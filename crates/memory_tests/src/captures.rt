@@ -166,7 +166,7 @@ fn copy_lent<R: Read, W: Write>(
     Ok(lent)
 }
 
-/// The same with all memory taken once reader and writer are open.
+/// Copies a capture by lent records, with all memory taken once reader and writer are open.
 fn lend_starved(
     rt: &impl Abort,
     alloc: Global,
@@ -222,7 +222,7 @@ fn stream_rows<R: Read>(
     Ok(reader.torn())
 }
 
-/// The same with all memory taken once the reader is open.
+/// Reads a capture to its end, as `stream_rows` does, with all memory taken once the reader is open.
 fn stream_starved(
     rt: &impl Abort,
     alloc: Global,

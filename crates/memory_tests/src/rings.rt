@@ -20,8 +20,7 @@ fn list(alloc: Global, items: &[u32]) -> Result<VecDeque<u32>, AllocError> {
 /// A ring for such items, at most five.
 fn of_five(alloc: Global) -> Result<OneRing<u32>, Fail> {
     let geometry = Geometry::exact(5).ok().ok_or("exact 5")?;
-    let ring = OneRing::new(alloc, geometry)?;
-    Ok(ring)
+    Ok(OneRing::new(alloc, geometry)?)
 }
 
 /// The ring's call, without its clauses: the test checks its result as it runs.

@@ -6,8 +6,8 @@ ghost use Rattle.pcapio_laws.specs.Capture.{HasHeader, IsRefused};
 use byteorder::{BigEndian, ByteOrder as Endian, LittleEndian};
 use pcapio_laws::{ByteOrder, CapFault, Resolution};
 
-/// The length of a file's header, in bytes.
-pub(crate) const FILE_HEADER: usize = 24;
+/// The length of a file's header, in bytes (pcap-savefile(5)).
+pub const FILE_HEADER: usize = 24;
 
 /// The number in two bytes.
 fn short_field(order: ByteOrder, bytes: &[u8], offset: usize) -> u16
@@ -32,8 +32,9 @@ pub fn field(order: ByteOrder, bytes: &[u8], offset: usize) -> u32
     }
 }
 
-/// The fields of a file's header, or why it is refused: 1 `NotPcap`, 2 `BadVersion`, 3 `BadLink`, in this order.
-pub(crate) fn header_in(bytes: &[u8]) -> Result<(ByteOrder, Resolution), CapFault>
+/// The fields of the file's header at the start of the bytes, or why it is refused: 1 `NotPcap`, 2 `BadVersion`, 3
+/// `BadLink`, in this order. Requires: there are at least `FILE_HEADER` bytes.
+pub fn header_in(bytes: &[u8]) -> Result<(ByteOrder, Resolution), CapFault>
     requires { 24 ≤ length bytes.now }
     ensures ok { IfOk result (λ said. HasHeader bytes.now said.0 said.1) }
     ensures err { IfErr result (IsRefused bytes.now) }

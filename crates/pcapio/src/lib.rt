@@ -24,7 +24,7 @@ mod writer;
 pub use collect::collect_records;
 pub use copy::{copy_capture, copy_records};
 pub use counted::Counted;
-pub use header::field;
+pub use header::{FILE_HEADER, field, header_in};
 pub use pcapio_laws::{ByteOrder, CapFault, MAX_CAPTURED, Resolution};
 pub use reader::Reader;
 pub use record::{HEAD, Head, Record, head_in};

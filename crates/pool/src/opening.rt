@@ -3,7 +3,7 @@ ghost use Rattle.std.specs.Prelude.{◌≡◌, ◌+◌, ◌<◌, ◌≤◌, ◌�
 ghost use Rattle.fabric.specs.Hands.{SameHand, view};
 ghost use Rattle.pool_laws.specs.Caches.{threshold};
 ghost use Rattle.pool_laws.specs.Calls.{RefusesCache};
-ghost use Rattle.list_calls.specs.Holdings.{IsFreeRing};
+ghost use Rattle.ringapi.specs.Holdings.{IsFreeRing};
 ghost use Rattle.pool.specs.Locals.{HasHand, cache_of, ring_of, cache_size};
 ghost use Rattle.pool_laws.specs.declared.faults.PoolFault.TheVariants.{BadSize};
 

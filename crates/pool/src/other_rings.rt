@@ -3,7 +3,7 @@ ghost use Rattle.std.specs.Prelude.{◌≡◌, ◌<◌, [], Some, length};
 ghost use Rattle.ringcore_laws.specs.FreeRings.{AreSingle};
 ghost use Rattle.fabric.specs.Hands.{OnRing, rings_of};
 ghost use Rattle.fabric.specs.CacheHands.{IsCacheHandOf, Keeps};
-ghost use Rattle.list_calls.specs.Views.{by_burst};
+ghost use Rattle.ringapi.specs.Views.{by_burst};
 ghost use Rattle.pool_laws.specs.Beside.{Receives, Sends};
 ghost use Rattle.pool.specs.Locals.{IsLocalOf, SameCache, SameRing, cache_of, hand_of};
 
@@ -11,8 +11,8 @@ use crate::local::Local;
 use crate::set_aside::keep_back;
 use burst::{Burst, Tagged};
 use fabric::{CacheHand, Fabric, StartFault, Stored};
-use list_calls::{Moved, PutAnswer, Refusal, TakeAnswer, put_own_burst_from, take_burst_into};
 use pool_laws::take_hand;
+use ringapi::{Moved, PutAnswer, Refusal, TakeAnswer, put_own_burst_from, take_burst_into};
 use std::sync::Wait;
 
 /// Puts as many items of a list as there is room for, from its front.

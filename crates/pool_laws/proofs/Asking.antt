@@ -17,27 +17,27 @@ use Rattle.fabric.specs.declared.hand.StartFault.TheVariants.{Busy, Contended, N
 use Rattle.fabric.specs.Hands.{view}
 use Rattle.fabric.specs.Views.{span_of}
 use Rattle.fabric.proofs.Holding.{holds_put, holds_take}
-use Rattle.list_calls.specs.declared.answers.Moved.{Moved}
-use Rattle.list_calls.specs.declared.answers.TakeAnswer.TheVariants as taken
-use Rattle.list_calls.specs.declared.answers.PutAnswer.TheVariants as put
-use Rattle.list_calls.specs.declared.answers.Refusal.{Refusal}
-use Rattle.list_calls.specs.declared.answers.Refusal.TheVariants.{Start, NotYours}
-use Rattle.list_calls.specs.declared.answers.PutAnswer.{PutAnswer}
-use Rattle.list_calls.specs.Puts.{IsUnfinishedPut, PutHasTold}
-use Rattle.list_calls.proofs.Yours.{not_both}
+use Rattle.ringapi.specs.declared.answers.Moved.{Moved}
+use Rattle.ringapi.specs.declared.answers.TakeAnswer.TheVariants as taken
+use Rattle.ringapi.specs.declared.answers.PutAnswer.TheVariants as put
+use Rattle.ringapi.specs.declared.answers.Refusal.{Refusal}
+use Rattle.ringapi.specs.declared.answers.Refusal.TheVariants.{Start, NotYours}
+use Rattle.ringapi.specs.declared.answers.PutAnswer.{PutAnswer}
+use Rattle.ringapi.specs.Puts.{IsUnfinishedPut, PutHasTold}
+use Rattle.ringapi.proofs.Yours.{not_both}
 use Rattle.fabric.specs.Settles.{AreOwnBuffers, AreYours}
-use Rattle.list_calls.specs.Takes.{IsUnfinishedTake, TakeHasTold}
-use Rattle.list_calls.specs.Views.{IsMoved, by_bulk}
-use Rattle.list_calls.proofs.Tries.{starts_kept}
+use Rattle.ringapi.specs.Takes.{IsUnfinishedTake, TakeHasTold}
+use Rattle.ringapi.specs.Views.{IsMoved, by_bulk}
+use Rattle.ringapi.proofs.Tries.{starts_kept}
 use Rattle.fabric.proofs.Told.{refused_kept}
 use Rattle.fabric.proofs.Pours.{all_first, none_behind}
 use Rattle.std.proofs.lemmas.List.{length-drop}
 use Rattle.ringcore_laws.specs.FreeRings.{AreSingle, buffers_had}
 use Rattle.std.specs.Prelude.{true}
-use Rattle.list_calls.proofs.Counts.{count_parts}
-use Rattle.list_calls.proofs.Moves.{had_before, moved_party}
-use Rattle.list_calls.proofs.Singles.{single_drop, single_take}
-use Rattle.list_calls.specs.Holdings.{HasLess}
+use Rattle.ringapi.proofs.Counts.{count_parts}
+use Rattle.ringapi.proofs.Moves.{had_before, moved_party}
+use Rattle.ringapi.proofs.Singles.{single_drop, single_take}
+use Rattle.ringapi.specs.Holdings.{HasLess}
 use Rattle.pool_laws.specs.Asks.{Spills, Takes, refusal_of}
 
 -- by bulk all positions are granted, or none

@@ -5,7 +5,7 @@ use Rattle.std.specs.List.{sum_by}
 use Rattle.std.proofs.lemmas.Bool.Decides.{nat_tests}
 use Rattle.std.proofs.lemmas.List.Sums.{sum_by-append}
 use Rattle.ringcore_laws.specs.Sound.{occurrences, occurrences_in}
-use Rattle.list_calls.proofs.Counts.{count_both, count_parts, sum_parts, sum_turned}
+use Rattle.ringapi.proofs.Counts.{count_both, count_parts, sum_parts, sum_turned}
 use Rattle.pool_laws.specs.Caches.{cached_after_get, cached_after_put, put_on_ring, spilled, taken_by_get}
 
 -- a sum over the items

@@ -9,9 +9,9 @@ use Rattle.fabric_laws.specs.declared.view.View.{View}
 use Rattle.fabric.specs.declared.hand.cache_hand.CacheHand.{CacheHand}
 use Rattle.fabric.specs.CacheHands.{AreKept, Keeps, KeepsLess, KeepsMore, KeepsNoMore, SameCacheHand, view_of_cache_hand}
 use Rattle.fabric.specs.Settles.{AreNotOwnBuffers, AreOwnBuffers}
-use Rattle.list_calls.specs.Holdings.{IsFreeRing}
-use Rattle.list_calls.proofs.Counts.{count_both, count_parts, count_turned}
-use Rattle.list_calls.proofs.Singles.{single_both, single_later, single_poured}
+use Rattle.ringapi.specs.Holdings.{IsFreeRing}
+use Rattle.ringapi.proofs.Counts.{count_both, count_parts, count_turned}
+use Rattle.ringapi.proofs.Singles.{single_both, single_later, single_poured}
 
 pub free_kept : (before after rings : List RingPlan) (ring : ℕ) → before ≡ rings → after ≡ rings → IsFreeRing before ring → IsFreeRing after ring
 free_kept before after rings ring was is free = subst (λ p. IsFreeRing p ring) (was ∙ sym is) free

@@ -20,21 +20,21 @@ use Rattle.fabric.specs.CacheHands.{AreNotSpare, IsCacheHandFor, IsCacheHandOf, 
 use Rattle.fabric.specs.Settles.{AreNotYours, AreOwnBuffers, AreYours}
 use Rattle.fabric.proofs.Holding.{holds_put, holds_take}
 use Rattle.fabric.proofs.Told.{refused_kept}
-use Rattle.list_calls.specs.declared.answers.Moved.{Moved}
-use Rattle.list_calls.specs.declared.answers.PutAnswer.{PutAnswer}
-use Rattle.list_calls.specs.declared.answers.PutAnswer.TheVariants as put
-use Rattle.list_calls.specs.declared.answers.Refusal.{Refusal}
-use Rattle.list_calls.specs.declared.answers.Refusal.TheVariants.{Start, NotYours}
-use Rattle.list_calls.specs.declared.answers.TakeAnswer.{TakeAnswer}
-use Rattle.list_calls.specs.declared.answers.TakeAnswer.TheVariants as taken
-use Rattle.list_calls.specs.Puts.{IsPutOf, IsUnfinishedPut, PutHasTold, left_of}
-use Rattle.list_calls.specs.Takes.{IsTakeOf, IsUnfinishedTake, TakeHasTold}
-use Rattle.list_calls.proofs.Tries.{starts_kept}
-use Rattle.list_calls.proofs.Yours.{not_both}
+use Rattle.ringapi.specs.declared.answers.Moved.{Moved}
+use Rattle.ringapi.specs.declared.answers.PutAnswer.{PutAnswer}
+use Rattle.ringapi.specs.declared.answers.PutAnswer.TheVariants as put
+use Rattle.ringapi.specs.declared.answers.Refusal.{Refusal}
+use Rattle.ringapi.specs.declared.answers.Refusal.TheVariants.{Start, NotYours}
+use Rattle.ringapi.specs.declared.answers.TakeAnswer.{TakeAnswer}
+use Rattle.ringapi.specs.declared.answers.TakeAnswer.TheVariants as taken
+use Rattle.ringapi.specs.Puts.{IsPutOf, IsUnfinishedPut, PutHasTold, left_of}
+use Rattle.ringapi.specs.Takes.{IsTakeOf, IsUnfinishedTake, TakeHasTold}
+use Rattle.ringapi.proofs.Tries.{starts_kept}
+use Rattle.ringapi.proofs.Yours.{not_both}
 use Rattle.pool_laws.specs.Beside.{IsPutBeside, IsTakenBeside, PutOwns, Receives, Sends, TakeOwns, unsent_of}
-use Rattle.list_calls.proofs.Moves.{moved_party}
-use Rattle.list_calls.proofs.Counts.{count_both, count_parts}
-use Rattle.list_calls.proofs.Singles.{single_later}
+use Rattle.ringapi.proofs.Moves.{moved_party}
+use Rattle.ringapi.proofs.Counts.{count_both, count_parts}
+use Rattle.ringapi.proofs.Singles.{single_later}
 
 module _ {T : Type 0} {S : Type 0} {G : Ghosts T} {H : StoredGhosts S T} (tags : T → List ℕ) where
   -- a cache_hand that was asked keeps back what it kept

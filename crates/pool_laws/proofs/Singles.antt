@@ -2,7 +2,7 @@
 use Rattle.std.proofs.Common.{ℕ, ◌++◌, List, arith}
 use Rattle.std.proofs.lemmas.List.Sums.{sum_by-append}
 use Rattle.ringcore_laws.specs.FreeRings.{AreSingle}
-use Rattle.list_calls.proofs.Singles.{from_none, none_odd, odd}
+use Rattle.ringapi.proofs.Singles.{from_none, none_odd, odd}
 use Rattle.pool_laws.specs.Caches.{cached_after_get, taken_by_get}
 use Rattle.pool_laws.proofs.Counts.{sum_get}
 

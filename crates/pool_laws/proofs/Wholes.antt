@@ -10,7 +10,7 @@ use Rattle.fabric.specs.declared.hand.cache_hand.CacheHand.{CacheHand}
 use Rattle.fabric.specs.Hands.{IsHandOf, view}
 use Rattle.fabric.specs.CacheHands.{IsCacheHandFor, IsCacheHandOf, Keeps, SameCacheHand, view_of_cache_hand}
 use Rattle.fabric.specs.Settles.{AreOwnBuffers}
-use Rattle.list_calls.specs.Holdings.{IsFreeRing}
+use Rattle.ringapi.specs.Holdings.{IsFreeRing}
 use Rattle.pool_laws.specs.Hands.{IsFreeOf, IsIn, KeepsIn, view_in}
 use Rattle.pool_laws.proofs.Kept.{own_kept}
 

@@ -11,13 +11,13 @@ use Rattle.fabric.specs.declared.hand.StartFault.TheVariants.{Busy, Contended, N
 use Rattle.fabric.specs.declared.hand.StartFault.TheVariants as start
 use Rattle.fabric.specs.Hands.{view}
 use Rattle.fabric.specs.CacheHands.{IsCacheHandFor}
-use Rattle.list_calls.specs.declared.answers.Moved.{Moved}
-use Rattle.list_calls.specs.declared.answers.PutAnswer.TheVariants as put
-use Rattle.list_calls.specs.declared.answers.Refusal.TheVariants.{Start}
-use Rattle.list_calls.specs.declared.answers.TakeAnswer.TheVariants as taken
-use Rattle.list_calls.specs.Puts.{PutHasTold}
-use Rattle.list_calls.specs.Takes.{TakeHasTold}
-use Rattle.list_calls.specs.Views.{by_bulk}
+use Rattle.ringapi.specs.declared.answers.Moved.{Moved}
+use Rattle.ringapi.specs.declared.answers.PutAnswer.TheVariants as put
+use Rattle.ringapi.specs.declared.answers.Refusal.TheVariants.{Start}
+use Rattle.ringapi.specs.declared.answers.TakeAnswer.TheVariants as taken
+use Rattle.ringapi.specs.Puts.{PutHasTold}
+use Rattle.ringapi.specs.Takes.{TakeHasTold}
+use Rattle.ringapi.specs.Views.{by_bulk}
 use Rattle.pool_laws.specs.Caches.{cached_after_get, taken_by_get}
 use Rattle.pool_laws.specs.declared.faults.PoolFault.{PoolFault}
 use Rattle.pool_laws.specs.declared.faults.PoolFault.TheVariants.{Short, Worn, CacheFull, NotYours, BadSize}

@@ -11,15 +11,15 @@ use Rattle.fabric.specs.declared.hand.cache_hand.CacheHand.{CacheHand}
 use Rattle.fabric.specs.Hands.{view}
 use Rattle.fabric.specs.CacheHands.{IsCacheHandFor}
 use Rattle.fabric.specs.Settles.{AreNotYours, AreOwnBuffers}
-use Rattle.list_calls.specs.declared.answers.Moved.{Moved}
-use Rattle.list_calls.specs.declared.answers.PutAnswer.{PutAnswer}
-use Rattle.list_calls.specs.declared.answers.PutAnswer.TheVariants as put
-use Rattle.list_calls.specs.declared.answers.Refusal.{Refusal}
-use Rattle.list_calls.specs.declared.answers.Refusal.TheVariants.{Start, NotYours}
-use Rattle.list_calls.specs.declared.answers.TakeAnswer.{TakeAnswer}
-use Rattle.list_calls.specs.declared.answers.TakeAnswer.TheVariants as taken
-use Rattle.list_calls.specs.Puts.{PutHasTold}
-use Rattle.list_calls.specs.Takes.{TakeHasTold}
+use Rattle.ringapi.specs.declared.answers.Moved.{Moved}
+use Rattle.ringapi.specs.declared.answers.PutAnswer.{PutAnswer}
+use Rattle.ringapi.specs.declared.answers.PutAnswer.TheVariants as put
+use Rattle.ringapi.specs.declared.answers.Refusal.{Refusal}
+use Rattle.ringapi.specs.declared.answers.Refusal.TheVariants.{Start, NotYours}
+use Rattle.ringapi.specs.declared.answers.TakeAnswer.{TakeAnswer}
+use Rattle.ringapi.specs.declared.answers.TakeAnswer.TheVariants as taken
+use Rattle.ringapi.specs.Puts.{PutHasTold}
+use Rattle.ringapi.specs.Takes.{TakeHasTold}
 use Rattle.pool_laws.specs.Hands.{view_in}
 
 module _ {T : Type 0} {S : Type 0} {G : Ghosts T} {H : StoredGhosts S T} (tags : T → List ℕ) (how : How) (most ring : ℕ)

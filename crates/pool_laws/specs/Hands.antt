@@ -10,7 +10,7 @@ use Rattle.fabric.specs.declared.hand.Hand.{Hand}
 use Rattle.fabric.specs.declared.hand.cache_hand.CacheHand.{CacheHand}
 use Rattle.fabric.specs.Hands.{rings_of}
 use Rattle.fabric.specs.CacheHands.{IsCacheHandFor, IsCacheHandOf, SameCacheHand, spare, view_of_cache_hand}
-use Rattle.list_calls.specs.Holdings.{IsFreeRing}
+use Rattle.ringapi.specs.Holdings.{IsFreeRing}
 
 module _ {T : Type 0} {S : Type 0} {G : Ghosts T} {H : StoredGhosts S T} where
   -- the view of a hand that is there

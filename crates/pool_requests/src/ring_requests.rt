@@ -3,15 +3,15 @@ ghost use Rattle.std.specs.Prelude.{◌≡◌, ◌+◌, ◌<◌, ◌≤◌, ◌+
 ghost use Rattle.ringcore_laws.specs.FreeRings.{AreSingle};
 ghost use Rattle.fabric.specs.Hands.{IsHandOf, OnRing, view};
 ghost use Rattle.fabric.specs.Settles.{AreOwnBuffers};
-ghost use Rattle.list_calls.specs.Holdings.{HasLess, HasMore};
+ghost use Rattle.ringapi.specs.Holdings.{HasLess, HasMore};
 ghost use Rattle.pool_laws.specs.Asks.{Fetches, Flushes, Refills, Spills, Takes, refusal_of};
 ghost use Rattle.pool_laws.specs.Hands.{IsFreeOf};
 
 use crate::list_moves::serve;
 use burst::{Burst, Tagged};
 use fabric::{Fabric, Hand, StartFault, Stored};
-use list_calls::{PutAnswer, TakeAnswer, put_own_bulk_from, take_bulk_into};
 use pool_laws::{PoolFault, refusal};
+use ringapi::{PutAnswer, TakeAnswer, put_own_bulk_from, take_bulk_into};
 use std::sync::Wait;
 
 /// One bulk take of `n` items, tried until it succeeds or is refused.

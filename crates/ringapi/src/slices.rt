@@ -1,22 +1,22 @@
 //! Whole calls on items that are plain words: a put reads them from a slice and doesn't change it, and a take writes
 //! them to the front of one. No burst and no other list is needed. Each call costs as much as the words that it moves.
 //!
-//! The caller finishes an answer `Open`, as with a burst: of a put by `PutOpen::try_settle_slice` with the first words
-//! of the slice, as many as the span has positions; of a take by `TakeOpenLent::try_settle_slice` with all that the
+//! The caller finishes an answer `Open`, as with a burst: of a put by `PutOpen::try_settle_from` with the first words
+//! of the slice, as many as the span has positions; of a take by `TakeOpenLent::try_settle_into` with all that the
 //! span has, which are at the front of the slice.
 ghost use Rattle.std.specs.Prelude.{◌≡◌, ◌<◌, ◌++◌, List, drop, length};
 ghost use Rattle.fabric.specs.Hands.{IsHandOf, OnRing, rings_of, view};
 ghost use Rattle.fabric.specs.Settles.{AreYours};
-ghost use Rattle.list_calls.specs.Puts.{left_of};
-ghost use Rattle.list_calls.specs.Views.{by_bulk, by_burst};
-ghost use Rattle.list_calls.specs.Whole.{MakesPut, MakesTake, TriesPut, TriesTake};
+ghost use Rattle.ringapi.specs.Puts.{left_of};
+ghost use Rattle.ringapi.specs.Views.{by_bulk, by_burst};
+ghost use Rattle.ringapi.specs.Whole.{MakesPut, MakesTake, TriesPut, TriesTake};
 
-use crate::put_slices::{put, put_own, try_put};
-use crate::take_slices::{take, try_take};
+use crate::answers::{PutAnswer, TakeAnswer};
+use crate::put::{put, put_own, try_put};
+use crate::take::{take, try_take};
 use burst::Word;
-use fabric::{Fabric, Hand, Stored};
+use fabric::{Fabric, Front, Hand, Stored, Words};
 use geom::How;
-use list_calls::{PutAnswer, TakeAnswer};
 use std::sync::Wait;
 
 /// Tries once to put all words of a slice, or none. The slice isn't changed.
@@ -34,7 +34,7 @@ pub fn try_put_bulk_slice<'f, T: Word, const N: usize, S: Stored<T>>(
     requires ring { ring < length (rings_of f.now) }
     ensures { TriesPut T.numbers by_bulk f.now ring hand items.now result (left_of result items.now) }
 {
-    try_put(f, hand, ring, How::Bulk, items)
+    try_put(f, hand, ring, How::Bulk, &mut Words { words: items })
 }
 
 /// Tries once to put as many words of a slice as there is room for, from its front: `Moved::count` says how many were
@@ -53,7 +53,7 @@ pub fn try_put_burst_slice<'f, T: Word, const N: usize, S: Stored<T>>(
     requires ring { ring < length (rings_of f.now) }
     ensures { TriesPut T.numbers by_burst f.now ring hand items.now result (left_of result items.now) }
 {
-    try_put(f, hand, ring, How::Burst, items)
+    try_put(f, hand, ring, How::Burst, &mut Words { words: items })
 }
 
 /// Puts all words of a slice, or none, and tries again after `Busy`, `Contended` and a settle that comes too early,
@@ -72,7 +72,7 @@ pub fn put_bulk_slice<'f, T: Word, const N: usize, S: Stored<T>, R: Wait>(
     requires ring { ring < length (rings_of f.now) }
     ensures { MakesPut T.numbers by_bulk f.now ring hand items.now result (left_of result items.now) }
 {
-    put(rt, f, hand, ring, How::Bulk, items)
+    put(rt, f, hand, ring, How::Bulk, &mut Words { words: items })
 }
 
 /// Puts as many words of a slice as there is room for, from its front, and tries again after `Busy`, `Contended` and a
@@ -92,7 +92,7 @@ pub fn put_burst_slice<'f, T: Word, const N: usize, S: Stored<T>, R: Wait>(
     requires ring { ring < length (rings_of f.now) }
     ensures { MakesPut T.numbers by_burst f.now ring hand items.now result (left_of result items.now) }
 {
-    put(rt, f, hand, ring, How::Burst, items)
+    put(rt, f, hand, ring, How::Burst, &mut Words { words: items })
 }
 
 /// `put_bulk_slice` for words that the hand may put, as a caller that got them from a pool knows: nothing is tested
@@ -112,7 +112,7 @@ pub fn put_own_bulk_slice<'f, T: Word, const N: usize, S: Stored<T>, R: Wait>(
     requires yours { OnRing f.now ring (λ plan. AreYours T.numbers plan (view hand) items.now) }
     ensures { MakesPut T.numbers by_bulk f.now ring hand items.now result (left_of result items.now) }
 {
-    put_own(rt, f, hand, ring, How::Bulk, items)
+    put_own(rt, f, hand, ring, How::Bulk, &mut Words { words: items })
 }
 
 /// `put_burst_slice` for words that the hand may put, as a caller that got them from a pool knows: nothing is tested
@@ -132,7 +132,50 @@ pub fn put_own_burst_slice<'f, T: Word, const N: usize, S: Stored<T>, R: Wait>(
     requires yours { OnRing f.now ring (λ plan. AreYours T.numbers plan (view hand) items.now) }
     ensures { MakesPut T.numbers by_burst f.now ring hand items.now result (left_of result items.now) }
 {
-    put_own(rt, f, hand, ring, How::Burst, items)
+    put_own(rt, f, hand, ring, How::Burst, &mut Words { words: items })
+}
+
+/// A whole take to the front of a slice, of as many words as it has places, tried once.
+fn try_take_front<'f, T: Word, const N: usize, S: Stored<T>>(
+    f: &'f Fabric<T, N, S>,
+    hand: Hand<T, S>,
+    ring: usize,
+    how: How,
+    into: &mut [T],
+) -> TakeAnswer<'f, T, N, S>
+    requires hand { IsHandOf f.now hand }
+    requires ring { ring < length (rings_of f.now) }
+    ensures { (shown : List T) × (into.new ≡ shown ++ drop (length shown) into.old)
+        × TriesTake T.numbers how (length into.old) f.now ring hand result shown }
+{
+    let n = into.len();
+    let mut front = Front {
+        words: into,
+        count: 0,
+    };
+    try_take(f, hand, ring, n, how, &mut front)
+}
+
+/// The same, tried until it is finished.
+fn take_front<'f, T: Word, const N: usize, S: Stored<T>, R: Wait>(
+    rt: &R,
+    f: &'f Fabric<T, N, S>,
+    hand: Hand<T, S>,
+    ring: usize,
+    how: How,
+    into: &mut [T],
+) -> TakeAnswer<'f, T, N, S>
+    requires hand { IsHandOf f.now hand }
+    requires ring { ring < length (rings_of f.now) }
+    ensures { (shown : List T) × (into.new ≡ shown ++ drop (length shown) into.old)
+        × MakesTake T.numbers how (length into.old) f.now ring hand result shown }
+{
+    let n = into.len();
+    let mut front = Front {
+        words: into,
+        count: 0,
+    };
+    take(rt, f, hand, ring, n, how, &mut front)
 }
 
 /// Tries once to take as many words as a slice has places, or none. The slice has them afterwards; at a refusal it is
@@ -152,7 +195,7 @@ pub fn try_take_bulk_slice<'f, T: Word, const N: usize, S: Stored<T>>(
     ensures { (shown : List T) × (into.new ≡ shown ++ drop (length shown) into.old)
         × TriesTake T.numbers by_bulk (length into.old) f.now ring hand result shown }
 {
-    try_take(f, hand, ring, How::Bulk, into)
+    try_take_front(f, hand, ring, How::Bulk, into)
 }
 
 /// Tries once to take at most as many words as a slice has places, as many as are queued. They are at the front of the
@@ -173,7 +216,7 @@ pub fn try_take_burst_slice<'f, T: Word, const N: usize, S: Stored<T>>(
     ensures { (shown : List T) × (into.new ≡ shown ++ drop (length shown) into.old)
         × TriesTake T.numbers by_burst (length into.old) f.now ring hand result shown }
 {
-    try_take(f, hand, ring, How::Burst, into)
+    try_take_front(f, hand, ring, How::Burst, into)
 }
 
 /// Takes as many words as a slice has places, or none, and tries again after `Busy`, `Contended` and a settle that
@@ -193,7 +236,7 @@ pub fn take_bulk_slice<'f, T: Word, const N: usize, S: Stored<T>, R: Wait>(
     ensures { (shown : List T) × (into.new ≡ shown ++ drop (length shown) into.old)
         × MakesTake T.numbers by_bulk (length into.old) f.now ring hand result shown }
 {
-    take(rt, f, hand, ring, How::Bulk, into)
+    take_front(rt, f, hand, ring, How::Bulk, into)
 }
 
 /// Takes at most as many words as a slice has places, as many as are queued, and tries again after `Busy`, `Contended`
@@ -215,5 +258,5 @@ pub fn take_burst_slice<'f, T: Word, const N: usize, S: Stored<T>, R: Wait>(
     ensures { (shown : List T) × (into.new ≡ shown ++ drop (length shown) into.old)
         × MakesTake T.numbers by_burst (length into.old) f.now ring hand result shown }
 {
-    take(rt, f, hand, ring, How::Burst, into)
+    take_front(rt, f, hand, ring, How::Burst, into)
 }

@@ -7,8 +7,8 @@ use Rattle.pcapio_laws.specs.Capture.{Capture, Case, Captured}
 use Rattle.pcapio_laws.proofs.Cases.{one_case}
 use Rattle.settings.specs.declared.read.Settings.{Settings}
 use Rattle.stages_laws.specs.Output.{fates, output_of, tally_of}
-use Rattle.run_parts.specs.Whole.{AreKnown, IsRun, forwarding_by}
-use Rattle.run_parts.specs.declared.summary.Summary.{Summary}
+use Rattle.run_one.specs.Whole.{AreKnown, IsRun, forwarding_by}
+use Rattle.run_one.specs.declared.summary.Summary.{Summary}
 
 capture_of : Case → Capture → Capture
 capture_of (Captured c) d = c

@@ -10,15 +10,15 @@ use Rattle.pcapio_laws.specs.declared.format.ByteOrder.{ByteOrder}
 use Rattle.pcapio_laws.specs.declared.format.Resolution.{Resolution}
 use Rattle.stages_laws.specs.Input.{Input}
 use Rattle.stages_laws.specs.declared.run.Run.{Ghosts}
-use Rattle.run_parts.specs.Ending.{WhyFaulted}
-use Rattle.run_parts.specs.Failing.{FailedAt}
+use Rattle.run_one.specs.Ending.{WhyFaulted}
+use Rattle.run_one.specs.Failing.{FailedAt}
 use Rattle.stages.specs.Feeding.{ReadFailed, IsHere, IsNoCapture}
 use Rattle.stages.specs.Threads.{WhyEnded, WhyNoSummaryOfThreads}
-use Rattle.run_parts.specs.Whole.{HasSomeHeader, WhyNoSummary}
-use Rattle.run_parts.specs.declared.fault.RunFault.{RunFault}
-use Rattle.run_parts.specs.declared.fault.RunFault.TheVariants.{Memory, Thread, Read, Write, Capture as Refused, Window, Worn}
-use Rattle.run_parts.specs.declared.records.input_totals.InputTotals.{InputTotals}
-use Rattle.run_parts.proofs.Opened.{input_of, refused_whole}
+use Rattle.run_one.specs.Whole.{HasSomeHeader, WhyNoSummary}
+use Rattle.run_one.specs.declared.fault.RunFault.{RunFault}
+use Rattle.run_one.specs.declared.fault.RunFault.TheVariants.{Memory, Thread, Read, Write, Capture as Refused, Window, Worn}
+use Rattle.run_one.specs.declared.records.input_totals.InputTotals.{InputTotals}
+use Rattle.run_one.proofs.Opened.{input_of, refused_whole}
 
 -- a file header, whatever it says
 some_header : (order : ByteOrder) (resolution : Resolution) (a : Option (List ℕ)) → IfSome a (λ bytes. HasHeader bytes order resolution)

@@ -1,5 +1,9 @@
+pub mod Settled
+pub mod Marks
+pub mod Rounds
 pub mod Unfed
 pub mod Linking
 pub mod Ended
 pub mod Alike
+mod RingRows
 mod Rows

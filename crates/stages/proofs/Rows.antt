@@ -1,8 +1,8 @@
 -- Worked rows of the faults of a run in threads, computed by the definitions.
 use Rattle.std.proofs.Common.{◌≡◌, ℕ, Result, Ok, Err, refl}
 use Rattle.pcapio_laws.specs.declared.fault.CapFault.{CapFault}
-use Rattle.run_parts.specs.declared.fault.RunFault.{RunFault}
-use Rattle.run_parts.specs.declared.fault.RunFault.TheVariants.{Memory, Read, Write, Capture, Window, Worn, Thread}
+use Rattle.run_one.specs.declared.fault.RunFault.{RunFault}
+use Rattle.run_one.specs.declared.fault.RunFault.TheVariants.{Memory, Read, Write, Capture, Window, Worn, Thread}
 use Rattle.stages.specs.declared.stage_fault.StageFault.{StageFault}
 use Rattle.stages.specs.declared.stage_fault.StageFault.TheVariants as ring
 use Rattle.stages.specs.StageFaults.{answer_with, fault_of_stage, lower_of}

@@ -5,9 +5,9 @@ use Rattle.pcapio.specs.Reader.{Fails, source_of}
 use Rattle.pcapio.specs.declared.reader.Reader.{Reader}
 use Rattle.pcapio.proofs.Runs.{failed-later}
 use Rattle.stages_laws.specs.Input.{Input}
-use Rattle.run_parts.specs.Turns.{WhyStopped}
-use Rattle.run_parts.specs.declared.fault.RunFault.{RunFault}
-use Rattle.run_parts.specs.declared.fault.RunFault.TheVariants.{Memory, Thread, Read, Write, Capture, Window, Worn}
+use Rattle.run_one.specs.Turns.{WhyStopped}
+use Rattle.run_one.specs.declared.fault.RunFault.{RunFault}
+use Rattle.run_one.specs.declared.fault.RunFault.TheVariants.{Memory, Thread, Read, Write, Capture, Window, Worn}
 use Rattle.stages.specs.Feeding.{WhyUnfed}
 use Rattle.stages.specs.StageFaults.{fault_of_stage}
 use Rattle.stages.specs.declared.stage_fault.StageFault.{StageFault}

@@ -7,9 +7,9 @@ use Rattle.pcapio.specs.declared.reader.Reader.{Reader}
 use Rattle.pcapio_laws.specs.declared.fault.CapFault.{CapFault}
 use Rattle.pcapio_laws.specs.declared.fault.CapFault.TheVariants.{BadRecord}
 use Rattle.stages_laws.specs.Input.{Input}
-use Rattle.run_parts.specs.Turns.{EndsBad}
-use Rattle.run_parts.specs.declared.fault.RunFault.{RunFault}
-use Rattle.run_parts.specs.declared.fault.RunFault.TheVariants.{Memory, Thread, Read, Write, Capture, Window, Worn}
+use Rattle.run_one.specs.Turns.{EndsBad}
+use Rattle.run_one.specs.declared.fault.RunFault.{RunFault}
+use Rattle.run_one.specs.declared.fault.RunFault.TheVariants.{Memory, Thread, Read, Write, Capture, Window, Worn}
 
 -- why not all records were read and sent: the input's device failed, the input isn't a valid capture, or the numbers of
 -- it or of a ring are used up

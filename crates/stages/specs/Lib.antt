@@ -1,4 +1,7 @@
+pub mod Numbers
+pub mod Passing
+pub mod Judging
 pub mod StageFaults
-pub mod RingPorts
+pub mod Access
 pub mod Feeding
 pub mod Threads

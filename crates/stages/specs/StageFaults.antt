@@ -1,8 +1,8 @@
 -- The faults of a stage, and the lower of two faults.
 use Rattle.std.specs.Prelude.{nat_lt, if◌then◌else◌, Result, Ok, Err}
-use Rattle.run_parts.specs.Faults.{number_of}
-use Rattle.run_parts.specs.declared.fault.RunFault.{RunFault}
-use Rattle.run_parts.specs.declared.fault.RunFault.TheVariants.{Window, Worn}
+use Rattle.run_one.specs.Faults.{number_of}
+use Rattle.run_one.specs.declared.fault.RunFault.{RunFault}
+use Rattle.run_one.specs.declared.fault.RunFault.TheVariants.{Window, Worn}
 use Rattle.stages.specs.declared.stage_fault.StageFault.{StageFault}
 use Rattle.stages.specs.declared.stage_fault.StageFault.TheVariants as ring
 

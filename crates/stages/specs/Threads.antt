@@ -5,12 +5,12 @@ use Rattle.pcapio.specs.declared.counted.Counted.{Counted}
 use Rattle.pcapio_laws.specs.Capture.{IsRefused}
 use Rattle.pcapio_laws.specs.declared.fault.CapFault.TheVariants.{BadRecord}
 use Rattle.stages_laws.specs.Input.{Input}
-use Rattle.run_parts.specs.Failing.{FailedAt}
-use Rattle.run_parts.specs.Turns.{EndsBad}
-use Rattle.run_parts.specs.Whole.{HasSomeHeader}
-use Rattle.run_parts.specs.declared.fault.RunFault.{RunFault}
-use Rattle.run_parts.specs.declared.fault.RunFault.TheVariants.{Memory, Thread, Read, Write, Capture as Refused, Window}
-use Rattle.run_parts.specs.declared.fault.RunFault.TheVariants.{Worn}
+use Rattle.run_one.specs.Failing.{FailedAt}
+use Rattle.run_one.specs.Turns.{EndsBad}
+use Rattle.run_one.specs.Whole.{HasSomeHeader}
+use Rattle.run_one.specs.declared.fault.RunFault.{RunFault}
+use Rattle.run_one.specs.declared.fault.RunFault.TheVariants.{Memory, Thread, Read, Write, Capture as Refused, Window}
+use Rattle.run_one.specs.declared.fault.RunFault.TheVariants.{Worn}
 
 -- from the first record on: the input's device failed, or that of a port, and no other; or the input ends with an
 -- invalid record header. Nothing is stated about the other faults

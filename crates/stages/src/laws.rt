@@ -3,8 +3,8 @@ ghost use Rattle.std.specs.Prelude.{◌≡◌, ℕ, List, Some, map as mapped, s
 ghost use Rattle.pcapio.specs.Counted.{told};
 ghost use Rattle.pcapio.specs.declared.counted.Counted.{Counted};
 ghost use Rattle.settings.specs.declared.read.Settings.{Settings};
-ghost use Rattle.run_parts.specs.Whole.{AreKnown, IsRun};
-ghost use Rattle.run_parts.specs.declared.summary.Summary.{Summary};
+ghost use Rattle.run_one.specs.Whole.{AreKnown, IsRun};
+ghost use Rattle.run_one.specs.declared.summary.Summary.{Summary};
 
 use std::io::Write;
 

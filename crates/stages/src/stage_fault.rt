@@ -2,7 +2,7 @@
 ghost use Rattle.std.specs.Prelude.{◌≡◌, ◌⊎◌};
 ghost use Rattle.stages.specs.StageFaults.{fault_of_stage, lower_of};
 
-use run_parts::RunFault;
+use run_one::RunFault;
 
 /// Why a stage of a run in threads can't continue.
 #[derive(Clone, Copy)]

@@ -52,8 +52,7 @@ impl Command {
         if is_word(first, b"actors") {
             return Ok(parse_actors(rest).map(Command::Plan));
         }
-        let command = parse_of_actor(alloc, first, rest)?;
-        Ok(command)
+        parse_of_actor(alloc, first, rest)
     }
 }
 
@@ -72,6 +71,5 @@ fn parse_of_actor(
     if is_word(first, b"place") {
         return Ok(only_number(rest).map(Command::Ask));
     }
-    let command = parse_act(alloc, first, rest)?;
-    Ok(command)
+    parse_act(alloc, first, rest)
 }

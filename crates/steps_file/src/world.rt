@@ -1,8 +1,9 @@
 //! The world of rings and actors: making a step, and looking up a buffer.
 
-ghost use Rattle.std.specs.Prelude.{◌≡◌, ◌++◌, OnOk, codes};
-ghost use Rattle.ringcore.specs.Histories.{History, AgreesWith, IsRight, StepExists};
-ghost use Rattle.steps_file.specs.Replies.{stepped, reply_in, place_in, answer_text, place_text, mode_shown};
+ghost use Rattle.std.specs.Prelude.{OnOk};
+ghost use Rattle.ringcore.specs.Histories.{StepExists};
+ghost use Rattle.steps_file.specs.Replies.{reply_in, place_in, answer_text, place_text, mode_shown};
+ghost use Rattle.steps_file.specs.Standing.{GoesOn, Tells};
 
 use crate::reply::{answer_text, mode_shown, place_text};
 use geom::RingPlan;
@@ -19,11 +20,9 @@ pub fn answer_step(
     reply: &mut Vec<u8>,
 ) -> Result<(), AllocError>
     requires { StepExists world.old actor step }
-    ensures world { OnOk result ((h : History) → AgreesWith world.old h → IsRight h
-        → AgreesWith world.new (stepped h actor step) × IsRight (stepped h actor step)) }
-    ensures reply { OnOk result ((h : History) → AgreesWith world.old h → IsRight h
-        → reply.new.items
-        ≡ reply.old.items ++ (answer_text (mode_shown rings.now step) (reply_in h actor step) ++ codes "\n")) }
+    ensures world { OnOk result (GoesOn world.old world.new actor step) }
+    ensures reply { OnOk result (Tells world.old
+        (λ h. answer_text (mode_shown rings.now step) (reply_in h actor step)) reply.old.items reply.new.items) }
 {
     let mode = mode_shown(rings, &step);
     let answer = world.step(actor, step)?;
@@ -34,8 +33,7 @@ pub fn answer_step(
 
 /// Answers where a buffer is, with a line.
 pub fn answer_place(world: &World, b: u64, reply: &mut Vec<u8>) -> Result<(), AllocError>
-    ensures { OnOk result ((h : History) → AgreesWith world.now h → IsRight h
-        → reply.new.items ≡ reply.old.items ++ (place_text (place_in h b) ++ codes "\n")) }
+    ensures { OnOk result (Tells world.now (λ h. place_text (place_in h b)) reply.old.items reply.new.items) }
 {
     place_text(reply, world.place(b))?;
     reply.push(b'\n')?;

@@ -8,7 +8,7 @@ ghost use Rattle.word_pool.specs.Words.{HasSameHand, SameRing, cache_of, cache_s
 use crate::local_words::LocalWords;
 use crate::set_aside::give;
 use burst::Word;
-use fabric::Stored;
+use fabric::{Stored, Words};
 use pool_laws::PoolFault;
 
 impl<T: Word, const N: usize, S: Stored<T>> LocalWords<T, N, S> {
@@ -48,11 +48,11 @@ impl<T: Word, const N: usize, S: Stored<T>> LocalWords<T, N, S> {
             Some(cache_hand) => cache_hand,
             None => unreachable!(),
         };
-        if !cache_hand.set_aside_slice(items) {
+        if !cache_hand.set_aside(&Words { words: items }) {
             return Err(PoolFault::NotYours);
         }
         if items.len() > 3 * self.size / 2 - self.cache.len() {
-            cache_hand.restore_slice(items);
+            cache_hand.restore(&Words { words: items });
             return Err(PoolFault::CacheFull);
         }
         self.cache.push_slice(items);

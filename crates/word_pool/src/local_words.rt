@@ -3,7 +3,7 @@ ghost use Rattle.std.specs.Prelude.{◌≡◌, ◌≤◌, ◌+◌, length, true}
 ghost use Rattle.std.specs.Option.{is_some};
 ghost use Rattle.ringcore_laws.specs.FreeRings.{AreSingle};
 ghost use Rattle.pool_laws.specs.Caches.{threshold};
-ghost use Rattle.list_calls.specs.Holdings.{IsFreeRing};
+ghost use Rattle.ringapi.specs.Holdings.{IsFreeRing};
 ghost use Rattle.pool_laws.specs.Hands.{KeepsIn, view_in};
 ghost use Rattle.word_pool.specs.Stacks.{room_of, stacked};
 

@@ -3,14 +3,14 @@ ghost use Rattle.std.specs.Prelude.{◌≡◌, ◌+◌, ◌≤◌, [], IfOk, IfE
 ghost use Rattle.fabric.specs.Hands.{SameHand, view};
 ghost use Rattle.pool_laws.specs.Caches.{threshold};
 ghost use Rattle.word_pool.specs.Faults.{cache_number_of};
-ghost use Rattle.list_calls.specs.Holdings.{IsFreeRing};
+ghost use Rattle.ringapi.specs.Holdings.{IsFreeRing};
 ghost use Rattle.word_pool.specs.Calls.{RefusesSize, RefusesWords};
 ghost use Rattle.word_pool.specs.Words.{HasHand, cache_of, cache_size, ring_of};
 
 use crate::local_words::LocalWords;
 use crate::stack::WordStack;
 use burst::Word;
-use fabric::{Hand, Stored};
+use fabric::{Hand, Stored, Words};
 use pool_laws::{BATCH, PoolFault, may_be};
 use std::alloc::Global;
 use thiserror::Error;
@@ -98,12 +98,12 @@ impl<T: Word, const N: usize, S: Stored<T>> LocalWords<T, N, S> {
         };
         let mut cache = cache;
         let mut cache_hand = hand.into_cache_hand();
-        if !cache_hand.set_aside_slice(items) {
-            let hand = cache_hand.into_hand_slice(&items[..0]);
+        if !cache_hand.set_aside(&Words { words: items }) {
+            let hand = cache_hand.into_hand(&Words { words: &items[..0] });
             return Err((hand, CacheFault::Pool(PoolFault::NotYours)));
         }
         if items.len() > 3 * size / 2 {
-            let hand = cache_hand.into_hand_slice(items);
+            let hand = cache_hand.into_hand(&Words { words: items });
             return Err((hand, CacheFault::Pool(PoolFault::CacheFull)));
         }
         cache.push_slice(items);
@@ -123,7 +123,9 @@ impl<T: Word, const N: usize, S: Stored<T>> LocalWords<T, N, S> {
         let LocalWords { hand, cache, .. } = self;
         match hand {
             Some(cache_hand) => {
-                let hand = cache_hand.into_hand_slice(cache.as_slice());
+                let hand = cache_hand.into_hand(&Words {
+                    words: cache.as_slice(),
+                });
                 (hand, cache.into_words())
             }
             None => unreachable!(),

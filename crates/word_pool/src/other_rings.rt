@@ -4,7 +4,7 @@ ghost use Rattle.std.specs.Prelude.{◌≡◌, ◌<◌, ◌++◌, List, Some, dr
 ghost use Rattle.ringcore_laws.specs.FreeRings.{AreSingle};
 ghost use Rattle.fabric.specs.Hands.{OnRing, rings_of};
 ghost use Rattle.fabric.specs.CacheHands.{IsCacheHandOf, Keeps};
-ghost use Rattle.list_calls.specs.Views.{by_burst};
+ghost use Rattle.ringapi.specs.Views.{by_burst};
 ghost use Rattle.pool_laws.specs.Beside.{IsPutBeside, IsTakenBeside, PutOwns, Receives, Sends, TakeOwns, unsent_of};
 ghost use Rattle.word_pool.specs.Stacks.{stacked};
 ghost use Rattle.word_pool.specs.Words.{IsLocalOf, SameCache, SameRing, cache_of, hand_of};
@@ -13,7 +13,7 @@ use crate::local_words::LocalWords;
 use crate::set_aside::{keep_back, whole_hand};
 use crate::stack::WordStack;
 use burst::Word;
-use fabric::{CacheHand, Fabric, StartFault, Stored};
+use fabric::{CacheHand, Fabric, StartFault, Stored, Words};
 use pool_laws::take_hand;
 use ringapi::{Moved, PutAnswer, Refusal, TakeAnswer, put_own_burst_slice, take_burst_slice};
 use std::sync::Wait;
@@ -68,7 +68,7 @@ fn send<T: Word, const N: usize, S: Stored<T>, R: Wait>(
         (stacked cache.now) items.now result.1 (unsent_of result.1 items.now)) }
 {
     let mut cache_hand = cache_hand;
-    if !cache_hand.may_put_slice(f, ring, items) {
+    if !cache_hand.may_put(f, ring, &Words { words: items }) {
         return (cache_hand, Err(Refusal::NotYours));
     }
     let hand = whole_hand(cache_hand, cache);

@@ -3,7 +3,7 @@ ghost use Rattle.std.specs.Prelude.{◌≡◌, ◌+◌, ◌<◌, ◌≤◌, ◌+
 ghost use Rattle.ringcore_laws.specs.FreeRings.{AreSingle};
 ghost use Rattle.fabric.specs.Hands.{IsHandOf, OnRing, view};
 ghost use Rattle.fabric.specs.Settles.{AreOwnBuffers};
-ghost use Rattle.list_calls.specs.Holdings.{HasLess, HasMore};
+ghost use Rattle.ringapi.specs.Holdings.{HasLess, HasMore};
 ghost use Rattle.pool_laws.specs.Asks.{Fetches, Flushes, Refills, Spills, Takes};
 ghost use Rattle.word_pool.specs.Slices.{filled};
 ghost use Rattle.pool_laws.specs.Hands.{IsFreeOf};

@@ -12,7 +12,7 @@ ghost use Rattle.word_pool.specs.Stacks.{room_of, stacked};
 use crate::ring_requests::spill;
 use crate::stack::WordStack;
 use burst::Word;
-use fabric::{CacheHand, Fabric, Hand, Stored};
+use fabric::{CacheHand, Fabric, Hand, Stored, Words};
 use std::sync::Wait;
 
 /// The whole hand, for a call on a ring. Requires: it sets the buffers of this cache aside.
@@ -24,7 +24,9 @@ pub(crate) fn whole_hand<T: Word, S: Stored<T>>(
     requires kept { Keeps T.numbers cache_hand (stacked cache.now) }
     ensures { IsCacheHandFor result cache_hand }
 {
-    cache_hand.into_hand_slice(cache.as_slice())
+    cache_hand.into_hand(&Words {
+        words: cache.as_slice(),
+    })
 }
 
 /// The hand as one that sets the buffers of a cache aside. Requires: it may put them on a free ring.
@@ -38,7 +40,9 @@ pub(crate) fn keep_back<T: Word, S: Stored<T>>(
     ensures kept { Keeps T.numbers result (stacked cache.now) }
 {
     let mut cache_hand = hand.into_cache_hand();
-    if !cache_hand.set_aside_slice(cache.as_slice()) {
+    if !cache_hand.set_aside(&Words {
+        words: cache.as_slice(),
+    }) {
         unreachable!();
     }
     cache_hand
@@ -66,7 +70,7 @@ pub(crate) fn admit<T: Word, S: Stored<T>>(
     ensures moved { result ≡ true → stacked cache.new ≡ stacked cache.old ++ items.now }
     ensures back { result ≡ false → stacked cache.new ≡ stacked cache.old }
 {
-    let may = cache_hand.set_aside_slice(items);
+    let may = cache_hand.set_aside(&Words { words: items });
     if may {
         cache.push_slice(items);
     }
@@ -89,7 +93,7 @@ pub(crate) fn give<T: Word, S: Stored<T>>(
     ensures moved { into.new ≡ reverse (drop (length (stacked cache.old) - length into.old) (stacked cache.old)) }
 {
     cache.pop_slice(into);
-    cache_hand.restore_slice(into);
+    cache_hand.restore(&Words { words: into });
 }
 
 /// Puts the oldest words of a cache on the ring until `size` are left. If that is refused, the words after the first

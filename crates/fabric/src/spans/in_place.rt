@@ -19,6 +19,8 @@ ghost use Rattle.fabric.specs.declared.hand.StartFault.TheVariants.{Worn};
 use crate::fabric::Fabric;
 use crate::hand::in_place::{HandInPlace, OpenSpan, Reserved};
 use crate::hand::{SettleFault, StartFault};
+use crate::items::front::Front;
+use crate::items::{Items, PutItems};
 use crate::stored::Stored;
 use burst::{Tagged, Word};
 use geom::{How, Side};
@@ -42,7 +44,7 @@ impl<T: Tagged, const N: usize, S: Stored<T>> HandInPlace<T, N, S> {
     }
 }
 
-impl<T: Word, const N: usize, S: Stored<T>> HandInPlace<T, N, S> {
+impl<T: Tagged, const N: usize, S: Stored<T>> HandInPlace<T, N, S> {
     /// Tries once to reserve a span of positions for a put: by bulk `n` of them, by burst at most `n`. At most three
     /// steps on words. Requires: the hand has no open span.
     ///
@@ -87,7 +89,9 @@ impl<T: Word, const N: usize, S: Stored<T>> HandInPlace<T, N, S> {
         self.span = OpenSpan::Put(reserved);
         Ok(reserved)
     }
+}
 
+impl<T: Word, const N: usize, S: Stored<T>> HandInPlace<T, N, S> {
     /// Tries once to reserve a span of positions for a take: by bulk `n` of them, by burst at most `n`. Its words are
     /// copied to the front of the slice at once; they stay queued until the span is settled. At most three steps on
     /// words. Requires: the slice has `n` places, and the hand has no open span.
@@ -126,9 +130,13 @@ impl<T: Word, const N: usize, S: Stored<T>> HandInPlace<T, N, S> {
         ensures true_refusal { IfErr result (λ e. OnRing fabric.now ring
             (λ plan. IsTrueRefusal T.numbers ring Take plan (placed_view self.old) (placed_view self.new) e)) }
     {
+        let mut front = Front {
+            words: into,
+            count: 0,
+        };
         let range = match fabric
             .ring(ring)
-            .open_take_slice(&mut self.share, n, how, into)
+            .open_take(&mut self.share, n, how, &mut front)
         {
             Ok(range) => range,
             Err(fault) => return Err(fault),
@@ -137,36 +145,41 @@ impl<T: Word, const N: usize, S: Stored<T>> HandInPlace<T, N, S> {
         self.span = OpenSpan::Take(reserved);
         Ok(reserved)
     }
+}
 
+impl<T: Tagged, const N: usize, S: Stored<T>> HandInPlace<T, N, S> {
     /// Tries once to publish words at the positions of the open span: on a multi side as many as it has, on an HTS side
     /// at most as many, and the other positions are given up. One step on a word at most. At a refusal the span stays
     /// open.
     ///
     /// Errors, in the order of the tests: `BadCount`, `NotYours`, before any step; `NotYet`.
     #[inline(always)]
-    pub fn try_settle_put(
+    pub fn try_settle_put<I: PutItems<T>>(
         &mut self,
         fabric: &Fabric<T, N, S>,
         reserved: Reserved,
-        items: &[T],
+        items: &mut I,
     ) -> Result<(), SettleFault>
         requires of { IsPlacedOf fabric.now self.old }
         requires open { self.old.span ≡ open_span.Put reserved }
         ensures of { IsPlacedOf fabric.now self.new }
         ensures done { IfOk result (λ _. (self.new.span ≡ open_span.Idle)
-            × OnRing fabric.now reserved.ring (λ plan. IsCount plan.put (length items.now) reserved.range.count)
-            × (placed_view self.new ≡ settled (span_at Put reserved) items.now (placed_view self.old))) }
-        ensures refused { IfErr result (λ e. (self.new.span ≡ self.old.span) × OnRing fabric.now reserved.ring
-            (λ plan. RefusesSettle T.numbers plan.put plan (length items.now) reserved.range.count
-            reserved.range.start items.now (placed_view self.old) (placed_view self.new) e)) }
+            × OnRing fabric.now reserved.ring
+            (λ plan. IsCount plan.put (length (I.items items.old)) reserved.range.count)
+            × (placed_view self.new ≡ settled (span_at Put reserved) (I.items items.old) (placed_view self.old))
+            × (I.items items.new ≡ I.left (I.items items.old) 0)) }
+        ensures refused { IfErr result (λ e. (self.new.span ≡ self.old.span)
+            × (I.items items.new ≡ I.items items.old) × OnRing fabric.now reserved.ring
+            (λ plan. RefusesSettle T.numbers plan.put plan (length (I.items items.old)) reserved.range.count
+            reserved.range.start (I.items items.old) (placed_view self.old) (placed_view self.new) e)) }
         ensures kept { IfErr result (λ e. IsKept (placed_view self.old) (placed_view self.new)) }
         ensures true_refusal { IfErr result
             (λ e. IsTrueTooEarly T.numbers (span_at Put reserved) (placed_view self.old) e) }
         ensures owned { IfOk result
-            (λ _. HoldsLess T.numbers (placed_view self.old) items.now (placed_view self.new)) }
+            (λ _. HoldsLess T.numbers (placed_view self.old) (I.items items.old) (placed_view self.new)) }
     {
         let target = fabric.ring(reserved.ring);
-        match target.settle_put_slice(&mut self.share, reserved.range, items) {
+        match target.settle_put(&mut self.share, reserved.range, items) {
             Ok(()) => {
                 self.span = OpenSpan::Idle;
                 Ok(())
@@ -181,34 +194,36 @@ impl<T: Word, const N: usize, S: Stored<T>> HandInPlace<T, N, S> {
     ///
     /// Errors, in the order of the tests: `BadCount`, before any step; `NotYet`.
     #[inline(always)]
-    pub fn try_settle_take(
+    pub fn try_settle_take<I: Items<T>>(
         &mut self,
         fabric: &Fabric<T, N, S>,
         reserved: Reserved,
         k: usize,
-        items: &[T],
+        items: &mut I,
     ) -> Result<(), SettleFault>
         requires of { IsPlacedOf fabric.now self.old }
         requires open { self.old.span ≡ open_span.Take reserved }
-        requires shows { items.now ≡ (placed_view self.old).shown }
+        requires shows { (I.items items.old) ≡ (placed_view self.old).shown }
         ensures of { IsPlacedOf fabric.now self.new }
         ensures done { IfOk result (λ _. (self.new.span ≡ open_span.Idle)
             × OnRing fabric.now reserved.ring (λ plan. IsCount plan.take k reserved.range.count)
-            × (placed_view self.new ≡ settled (span_at Take reserved) (take k items.now) (placed_view self.old))) }
-        ensures refused { IfErr result (λ e. (self.new.span ≡ self.old.span)
+            × (placed_view self.new
+            ≡ settled (span_at Take reserved) (take k (I.items items.old)) (placed_view self.old))
+            × (I.items items.new ≡ I.left (I.items items.old) k)) }
+        ensures refused { IfErr result (λ e. (self.new.span ≡ self.old.span) × (I.items items.new ≡ I.items items.old)
             × ((placed_view self.new).shown ≡ (placed_view self.old).shown) × OnRing fabric.now reserved.ring
             (λ plan. RefusesSettle T.numbers plan.take plan k reserved.range.count
             reserved.range.start [] (placed_view self.old) (placed_view self.new) e)) }
         ensures kept { IfErr result (λ e. IsKept (placed_view self.old) (placed_view self.new)) }
-        ensures apart { IfOk result (λ _. AreDistinct (flat_map T.numbers (take k items.now))) }
+        ensures apart { IfOk result (λ _. AreDistinct (flat_map T.numbers (take k (I.items items.old)))) }
         ensures named { IfErr result (λ e. e ≡ NotYours → ⊥) }
         ensures true_refusal { IfErr result
             (λ e. IsTrueTooEarly T.numbers (span_at Take reserved) (placed_view self.old) e) }
         ensures owned { IfOk result
-            (λ _. HoldsMore T.numbers (placed_view self.old) (take k items.now) (placed_view self.new)) }
+            (λ _. HoldsMore T.numbers (placed_view self.old) (take k (I.items items.old)) (placed_view self.new)) }
     {
         let target = fabric.ring(reserved.ring);
-        match target.settle_take_slice(&mut self.share, reserved.range, k, items) {
+        match target.settle_take(&mut self.share, reserved.range, k, items) {
             Ok(()) => {
                 self.span = OpenSpan::Idle;
                 Ok(())

@@ -1,5 +1,5 @@
 //! Open spans, and how they are settled.
-ghost use Rattle.std.specs.Prelude.{◌≡◌, [], take, IfOk, IfErr};
+ghost use Rattle.std.specs.Prelude.{◌≡◌, ◌≤◌, [], length, take, IfOk, IfErr};
 ghost use Rattle.std.specs.List.{flat_map};
 ghost use Rattle.fabric.specs.Hands.{RefusesPut, RefusesTake, HasPut, HasTaken, SamePut, SameTake, put_left};
 ghost use Rattle.fabric.specs.Hands.{put_span, put_view, take_left, take_span, take_view, view};
@@ -11,9 +11,9 @@ ghost use Rattle.fabric.specs.declared.hand.SettleFault.TheVariants.{NotYours};
 ghost use Rattle.geom.specs.declared.plan.Mode.TheVariants.{Hts};
 
 use crate::hand::{Hand, PutOpen, SettleFault, Share, TakeOpenLent};
-use crate::spans::settle::is_count;
+use crate::items::{Items, PutItems};
 use crate::stored::Stored;
-use burst::{Burst, Tagged};
+use burst::Tagged;
 use geom::Side;
 
 impl<'f, T: Tagged, const N: usize, S: Stored<T>> PutOpen<'f, T, N, S> {
@@ -39,44 +39,64 @@ impl<'f, T: Tagged, const N: usize, S: Stored<T>> PutOpen<'f, T, N, S> {
         self.range.left
     }
 
-    /// Tries once to publish the items at the positions of the span: on a multi side as many as it has, on an HTS side
-    /// at most as many, and the other positions are given up. One step on a word at most. The burst is empty
-    /// afterwards; at a refusal it is unchanged, and the span stays open.
+    /// Tries once to publish the items of a list at the positions of the span: on a multi side as many as it has, on an
+    /// HTS side at most as many, and the other positions are given up. One step on a word at most. A burst is empty
+    /// afterwards; at a refusal the list is unchanged, and the span stays open.
     ///
     /// Errors, in the order of the tests: `BadCount`, `NotYours`, before any step; `NotYet`.
-    pub fn try_settle_from(
+    #[inline]
+    pub fn try_settle_from<I: PutItems<T>>(
         self,
-        items: &mut Burst<T, N>,
+        items: &mut I,
     ) -> Result<Hand<T, S>, (PutOpen<'f, T, N, S>, SettleFault)>
-        ensures done { IfOk result (λ h. HasPut self.entry items.old h × (items.new ≡ [])) }
-        ensures refused { IfErr result (λ e. SamePut self.entry e.0 × (items.new ≡ items.old)
-            × RefusesPut T.numbers self.entry items.old e.0 e.1) }
+        ensures done { IfOk result (λ h. HasPut self.entry (I.items items.old) h
+            × (I.items items.new ≡ I.left (I.items items.old) 0)) }
+        ensures refused { IfErr result (λ e. SamePut self.entry e.0 × (I.items items.new ≡ I.items items.old)
+            × RefusesPut T.numbers self.entry (I.items items.old) e.0 e.1) }
         ensures kept { IfErr result (λ e. IsKept (put_view self.entry) (put_view e.0)) }
         ensures true_refusal { IfErr result
             (λ e. IsTrueTooEarly T.numbers (put_span self.entry) (put_view self.entry) e.1) }
-        ensures owned { IfOk result (λ h. HoldsLess T.numbers (put_view self.entry) items.old (view h)) }
+        ensures owned { IfOk result (λ h. HoldsLess T.numbers (put_view self.entry) (I.items items.old) (view h)) }
     {
-        if !is_count(self.ring.shape.plan.put, items.len(), self.range.count) {
-            return Err((self, SettleFault::BadCount));
+        let PutOpen {
+            ring,
+            mut share,
+            range,
+        } = self;
+        match ring.settle_put(&mut share, range, items) {
+            Ok(()) => Ok(Hand { share }),
+            Err(fault) => Err((PutOpen { ring, share, range }, fault)),
         }
-        let PutOpen { ring, share, range } = self;
-        let Share {
-            mut seat,
-            mut owned,
-            parts,
-        } = share;
-        if !owned.disown(ring.shape.plan.free, items) {
-            let share = Share { seat, owned, parts };
-            return Err((PutOpen { ring, share, range }, SettleFault::NotYours));
+    }
+
+    /// `try_settle_from` with the first `k` items of a list alone: the others stay in it, as all do at a refusal.
+    /// Requires: there are that many.
+    #[inline]
+    pub fn try_settle_first_from<I: PutItems<T>>(
+        self,
+        k: usize,
+        items: &mut I,
+    ) -> Result<Hand<T, S>, (PutOpen<'f, T, N, S>, SettleFault)>
+        requires fits { k ≤ length (I.items items.old) }
+        ensures done { IfOk result (λ h. HasPut self.entry (take k (I.items items.old)) h
+            × (I.items items.new ≡ I.after (I.items items.old) k)) }
+        ensures refused { IfErr result (λ e. SamePut self.entry e.0 × (I.items items.new ≡ I.items items.old)
+            × RefusesPut T.numbers self.entry (take k (I.items items.old)) e.0 e.1) }
+        ensures kept { IfErr result (λ e. IsKept (put_view self.entry) (put_view e.0)) }
+        ensures true_refusal { IfErr result
+            (λ e. IsTrueTooEarly T.numbers (put_span self.entry) (put_view self.entry) e.1) }
+        ensures owned { IfOk result
+            (λ h. HoldsLess T.numbers (put_view self.entry) (take k (I.items items.old)) (view h)) }
+    {
+        let PutOpen {
+            ring,
+            mut share,
+            range,
+        } = self;
+        match ring.settle_put_first(&mut share, range, k, items) {
+            Ok(()) => Ok(Hand { share }),
+            Err(fault) => Err((PutOpen { ring, share, range }, fault)),
         }
-        let Some(tail) = ring.publish(&mut seat, range, &mut items.cells) else {
-            return Ok(Hand {
-                share: Share { seat, owned, parts },
-            });
-        };
-        owned.own(items, items.len());
-        let share = Share { seat, owned, parts };
-        Err((PutOpen { ring, share, range }, SettleFault::NotYet(tail)))
     }
 
     /// Gives up all positions of a span on a head/tail-sync side: `try_settle_from` with no item, without a burst.
@@ -122,46 +142,39 @@ impl<'f, T: Tagged, const N: usize, S: Stored<T>> TakeOpenLent<'f, T, N, S> {
     }
 
     /// Tries once to take the items at the first `k` positions of the span: on a multi side all, on an HTS side any
-    /// number, and the other items are queued again. One step on a word at most. The burst, as the start filled it, has
-    /// the items that were taken afterwards; at a refusal it is unchanged, and the span stays open. Requires: the burst
-    /// has the items that the start showed.
+    /// number, and the other items are queued again. One step on a word at most. A burst has the items that were taken
+    /// afterwards; at a refusal the list is unchanged, and the span stays open. Requires: the list has the items that
+    /// the start showed.
     ///
     /// Errors, in the order of the tests: `BadCount`, before any step; `NotYet`.
-    pub fn try_settle_into(
+    #[inline]
+    pub fn try_settle_into<I: Items<T>>(
         self,
         k: usize,
-        items: &mut Burst<T, N>,
+        items: &mut I,
     ) -> Result<Hand<T, S>, (TakeOpenLent<'f, T, N, S>, SettleFault)>
-        requires shows { items.old ≡ (take_view self).shown }
-        ensures done { IfOk result (λ h. HasTaken self.entry k items.old h × (items.new ≡ take k items.old)) }
-        ensures refused { IfErr result (λ e. SameTake self.entry e.0 × (items.new ≡ items.old)
+        requires shows { I.items items.old ≡ (take_view self).shown }
+        ensures done { IfOk result (λ h. HasTaken self.entry k (I.items items.old) h
+            × (I.items items.new ≡ I.left (I.items items.old) k)) }
+        ensures refused { IfErr result (λ e. SameTake self.entry e.0 × (I.items items.new ≡ I.items items.old)
             × RefusesTake T.numbers self.entry k e.0 e.1) }
         ensures kept { IfErr result (λ e. IsKept (take_view self.entry) (take_view e.0)) }
-        ensures apart { IfOk result (λ _. AreDistinct (flat_map T.numbers items.new)) }
+        ensures apart { IfOk result (λ _. AreDistinct (flat_map T.numbers (take k (I.items items.old)))) }
         ensures named { IfErr result (λ e. e.1 ≡ NotYours → ⊥) }
         ensures true_refusal { IfErr result
             (λ e. IsTrueTooEarly T.numbers (take_span self.entry) (take_view self.entry) e.1) }
-        ensures owned { IfOk result (λ h. HoldsMore T.numbers (take_view self.entry) items.new (view h)) }
+        ensures owned { IfOk result
+            (λ h. HoldsMore T.numbers (take_view self.entry) (take k (I.items items.old)) (view h)) }
+        ensures beside { (before : I) → I.beside before items.old → I.beside before items.new }
     {
-        if !is_count(self.ring.shape.plan.take, k, self.range.count) {
-            return Err((self, SettleFault::BadCount));
+        let TakeOpenLent {
+            ring,
+            mut share,
+            range,
+        } = self;
+        match ring.settle_take(&mut share, range, k, items) {
+            Ok(()) => Ok(Hand { share }),
+            Err(fault) => Err((TakeOpenLent { ring, share, range }, fault)),
         }
-        let TakeOpenLent { ring, share, range } = self;
-        let Share {
-            mut seat,
-            mut owned,
-            parts,
-        } = share;
-        let Some(tail) = ring.dequeue(&mut seat, range, k, &mut items.cells) else {
-            owned.own(items, items.len());
-            return Ok(Hand {
-                share: Share { seat, owned, parts },
-            });
-        };
-        let share = Share { seat, owned, parts };
-        Err((
-            TakeOpenLent { ring, share, range },
-            SettleFault::NotYet(tail),
-        ))
     }
 }

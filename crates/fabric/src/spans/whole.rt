@@ -8,22 +8,25 @@ ghost use Rattle.fabric.specs.declared.hand.in_place.OpenSpan.TheVariants as ope
 
 use crate::fabric::Fabric;
 use crate::hand::in_place::{HandInPlace, OpenSpan, Reserved, WholeFault};
+use crate::items::PutItems;
+use crate::items::front::Front;
+use crate::items::words::Words;
 use crate::stored::Stored;
-use burst::Word;
+use burst::{Tagged, Word};
 use geom::{How, Side};
 
-impl<T: Word, const N: usize, S: Stored<T>> HandInPlace<T, N, S> {
+impl<T: Tagged, const N: usize, S: Stored<T>> HandInPlace<T, N, S> {
     /// Tries once to put the first of these words: by bulk all, by burst as many as there is room for. At most four
     /// steps on words. It returns where they were put. Requires: the hand has no open span.
     ///
     /// Errors: `Start` with the fault of `try_start_put`, and no span is open; `Settle` with that of `try_settle_put`,
     /// and the span stays open.
     #[inline(always)]
-    pub fn try_put(
+    pub fn try_put<I: PutItems<T>>(
         &mut self,
         fabric: &Fabric<T, N, S>,
         ring: usize,
-        items: &[T],
+        items: &mut I,
         how: How,
     ) -> Result<Reserved, WholeFault>
         requires of { IsPlacedOf fabric.now self.old }
@@ -31,10 +34,11 @@ impl<T: Word, const N: usize, S: Stored<T>> HandInPlace<T, N, S> {
         requires ring { ring < length (rings_of fabric.now) }
         ensures of { IsPlacedOf fabric.now self.new }
         ensures done { IfOk result (λ r. (self.new.span ≡ open_span.Idle) × HasMoved T.numbers fabric.now how
-            (length items.now) ring (placed_view self.old) Put r [] (take r.range.count items.now)
-            (placed_view self.new)) }
-        ensures refused { IfErr result (λ e. RefusesPut T.numbers fabric.now how (length items.now) ring
-            (placed_view self.old) items.now self.new.span (placed_view self.new) e) }
+            (length (I.items items.old)) ring (placed_view self.old) Put r [] (take r.range.count (I.items items.old))
+            (placed_view self.new) × (I.items items.new ≡ I.after (I.items items.old) r.range.count)) }
+        ensures refused { IfErr result (λ e. RefusesPut T.numbers fabric.now how (length (I.items items.old)) ring
+            (placed_view self.old) (I.items items.old) self.new.span (placed_view self.new) e
+            × (I.items items.new ≡ I.items items.old)) }
     {
         let target = fabric.ring(ring);
         let range = match target.open_span(&mut self.share, Side::Put, items.len(), how) {
@@ -42,7 +46,7 @@ impl<T: Word, const N: usize, S: Stored<T>> HandInPlace<T, N, S> {
             Err(fault) => return Err(WholeFault::Start(fault)),
         };
         let reserved = Reserved { ring, range };
-        match target.settle_put_slice(&mut self.share, range, &items[..range.count]) {
+        match target.settle_put_first(&mut self.share, range, range.count, items) {
             Ok(()) => Ok(reserved),
             Err(fault) => {
                 self.span = OpenSpan::Put(reserved);
@@ -50,7 +54,9 @@ impl<T: Word, const N: usize, S: Stored<T>> HandInPlace<T, N, S> {
             }
         }
     }
+}
 
+impl<T: Word, const N: usize, S: Stored<T>> HandInPlace<T, N, S> {
     /// Tries once to take words to the front of a slice: by bulk as many as it has places, by burst as many as are
     /// queued. At most four steps on words. It returns where they were. Requires: the hand has no open span.
     ///
@@ -77,13 +83,25 @@ impl<T: Word, const N: usize, S: Stored<T>> HandInPlace<T, N, S> {
             (placed_view self.old) into.old into.new self.new.span (placed_view self.new) e) }
     {
         let target = fabric.ring(ring);
-        let range = match target.open_take_slice(&mut self.share, into.len(), how, into) {
+        let n = into.len();
+        let mut front = Front {
+            words: &mut *into,
+            count: 0,
+        };
+        let range = match target.open_take(&mut self.share, n, how, &mut front) {
             Ok(range) => range,
             Err(fault) => return Err(WholeFault::Start(fault)),
         };
         let reserved = Reserved { ring, range };
         let count = range.count;
-        match target.settle_take_slice(&mut self.share, range, count, &into[..count]) {
+        match target.settle_take(
+            &mut self.share,
+            range,
+            count,
+            &mut Words {
+                words: &into[..count],
+            },
+        ) {
             Ok(()) => Ok(reserved),
             Err(fault) => {
                 self.span = OpenSpan::Take(reserved);

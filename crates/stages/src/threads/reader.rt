@@ -1,23 +1,25 @@
 //! The reader of a run in threads: it reads each record into free segments, and sends it to the workers.
 ghost use Rattle.std.specs.Prelude.{◌≡◌, ◌≤◌, ◌<◌, ◌⊎◌, ◌*◌, ◌-◌, max, length, IfOk, IfErr};
 ghost use Rattle.mbuf.specs.Chain.{space_of};
-ghost use Rattle.run_parts.specs.Begun.{GoesBy, HasInput};
+ghost use Rattle.run_one.specs.Begun.{GoesBy, HasInput};
 ghost use Rattle.stages.specs.Feeding.{WhyUnfed};
 
 use crate::stage_fault::StageFault;
+use crate::threads::idle::Idle;
+use crate::threads::item::RingItem;
 use crate::threads::reader_outcome::ReaderOutcome;
-use crate::threads::ring_port::RingPort;
+use crate::threads::ring_access::RingAccess;
+use crate::threads::rings::{FREE, INPUT, SPAN};
 use crate::threads::segments::link;
 use burst::Burst;
 use mbuf::Chain;
 use pcapio::Reader;
-use run_parts::{InputTotals, NextRecord, ReadState, RunFault, look, read_record};
+use run_one::{InputTotals, NextRecord, ReadState, RunFault, look, read_record};
 use settings::Settings;
 use stages_laws::Run;
 use std::io::Read;
 use std::sync::Wait;
 use std::time::Clock;
-use worker::{FREE, INPUT, Idle, Packet, SPAN};
 
 /// How many segments a record takes: enough for its bytes, and at least one.
 fn segments_of(captured: usize, room: usize) -> usize
@@ -39,36 +41,36 @@ fn segments_of(captured: usize, room: usize) -> usize
 /// are none.
 fn make_way<J: Run, T: Wait + Clock>(
     rt: &T,
-    ring_port: &mut RingPort<'_, Packet<J>>,
-    batch: &mut Burst<Packet<J>, SPAN>,
+    access: &mut RingAccess<'_, RingItem<J>>,
+    batch: &mut Burst<RingItem<J>, SPAN>,
     idle: &Idle,
 ) -> Result<(), StageFault> {
     if batch.is_empty() {
         idle.wait(rt);
         return Ok(());
     }
-    ring_port.send(rt, INPUT, batch)
+    access.send(rt, INPUT, batch)
 }
 
 /// One free segment, as soon as there is one: from those taken before, or from at most `ahead` that are then taken from
 /// their ring together.
 fn obtain_one<J: Run, T: Wait + Clock>(
     rt: &T,
-    ring_port: &mut RingPort<'_, Packet<J>>,
-    batch: &mut Burst<Packet<J>, SPAN>,
-    stock: &mut Burst<Packet<J>, SPAN>,
+    access: &mut RingAccess<'_, RingItem<J>>,
+    batch: &mut Burst<RingItem<J>, SPAN>,
+    stock: &mut Burst<RingItem<J>, SPAN>,
     ahead: usize,
 ) -> Result<Chain, StageFault> {
     let idle = Idle::new();
     for _ in rt.forever() {
         match stock.pop() {
-            Some(Packet::Free(segment)) => return Ok(segment.chain),
+            Some(RingItem::Free(segment)) => return Ok(segment.chain),
             Some(_) => return Err(StageFault::Window),
             None => (),
         }
-        ring_port.receive(rt, FREE, ahead, stock)?;
+        access.receive(rt, FREE, ahead, stock)?;
         if stock.is_empty() {
-            make_way(rt, ring_port, batch, &idle)?;
+            make_way(rt, access, batch, &idle)?;
         }
     }
     unreachable!()
@@ -77,18 +79,18 @@ fn obtain_one<J: Run, T: Wait + Clock>(
 /// `n` free segments, linked to one chain, as soon as their ring has that many.
 fn obtain_many<J: Run, T: Wait + Clock>(
     rt: &T,
-    ring_port: &mut RingPort<'_, Packet<J>>,
-    batch: &mut Burst<Packet<J>, SPAN>,
+    access: &mut RingAccess<'_, RingItem<J>>,
+    batch: &mut Burst<RingItem<J>, SPAN>,
     n: usize,
 ) -> Result<Chain, StageFault> {
     let idle = Idle::new();
-    let mut got = Burst::<Packet<J>, SPAN>::new();
+    let mut got = Burst::<RingItem<J>, SPAN>::new();
     for _ in rt.forever() {
         got.clear();
-        if ring_port.get(rt, n, &mut got)? {
+        if access.get(rt, n, &mut got)? {
             return link(&mut got).ok_or(StageFault::Window);
         }
-        make_way(rt, ring_port, batch, &idle)?;
+        make_way(rt, access, batch, &idle)?;
     }
     unreachable!()
 }
@@ -97,9 +99,9 @@ fn obtain_many<J: Run, T: Wait + Clock>(
 /// packets that wait to be put together.
 fn obtain<J: Run, T: Wait + Clock>(
     rt: &T,
-    ring_port: &mut RingPort<'_, Packet<J>>,
-    batch: &mut Burst<Packet<J>, SPAN>,
-    stock: &mut Burst<Packet<J>, SPAN>,
+    access: &mut RingAccess<'_, RingItem<J>>,
+    batch: &mut Burst<RingItem<J>, SPAN>,
+    stock: &mut Burst<RingItem<J>, SPAN>,
     settings: &Settings,
     captured: usize,
 ) -> Result<Chain, StageFault>
@@ -109,9 +111,9 @@ fn obtain<J: Run, T: Wait + Clock>(
     let n = segments_of(captured, settings.room as usize);
     let found = if n == 1 {
         let ahead = (settings.cache as usize).max(1);
-        obtain_one(rt, ring_port, batch, stock, ahead)
+        obtain_one(rt, access, batch, stock, ahead)
     } else {
-        obtain_many(rt, ring_port, batch, n)
+        obtain_many(rt, access, batch, n)
     };
     let chain = found?;
     if chain.space() < captured {
@@ -123,16 +125,16 @@ fn obtain<J: Run, T: Wait + Clock>(
 /// Adds a packet to those that wait to be put together, after putting them if they fill a burst.
 fn enqueue<J: Run, T: Wait + Clock>(
     rt: &T,
-    ring_port: &mut RingPort<'_, Packet<J>>,
-    batch: &mut Burst<Packet<J>, SPAN>,
+    access: &mut RingAccess<'_, RingItem<J>>,
+    batch: &mut Burst<RingItem<J>, SPAN>,
     burst: usize,
-    packet: Packet<J>,
+    packet: RingItem<J>,
 ) -> Result<(), StageFault>
     requires at_most { burst ≤ 64 }
     ensures { IfOk result (λ _. length batch.new ≤ max 1 burst) }
 {
     if batch.len() >= burst {
-        ring_port.send(rt, INPUT, batch)?;
+        access.send(rt, INPUT, batch)?;
     }
     batch.push(packet);
     Ok(())
@@ -141,9 +143,9 @@ fn enqueue<J: Run, T: Wait + Clock>(
 /// Reads all records, and puts each on the input ring; the last ones then wait in `batch`.
 fn read_all<J: Run, R: Read, T: Wait + Clock>(
     rt: &T,
-    ring_port: &mut RingPort<'_, Packet<J>>,
+    access: &mut RingAccess<'_, RingItem<J>>,
     reader: &mut Reader<R>,
-    batch: &mut Burst<Packet<J>, SPAN>,
+    batch: &mut Burst<RingItem<J>, SPAN>,
     settings: &Settings,
 ) -> Result<InputTotals<J>, RunFault>
     requires input { HasInput R.remaining reader.old J.input J.read_failures }
@@ -152,7 +154,7 @@ fn read_all<J: Run, R: Read, T: Wait + Clock>(
 {
     let room = settings.room as usize;
     let burst = settings.burst as usize;
-    let mut stock = Burst::<Packet<J>, SPAN>::new();
+    let mut stock = Burst::<RingItem<J>, SPAN>::new();
     let mut progress = ReadState::new(settings.ports.sources.len());
     // one record per turn: the result for an input with 2^64 - 1 records or more is `Window`
     for _turn in 0..u64::MAX {
@@ -163,7 +165,7 @@ fn read_all<J: Run, R: Read, T: Wait + Clock>(
             Err(fault) => return Err(fault),
         };
         let captured = head.captured as usize;
-        let chain = match obtain(rt, ring_port, batch, &mut stock, settings, captured) {
+        let chain = match obtain(rt, access, batch, &mut stock, settings, captured) {
             Ok(chain) => chain,
             Err(fault) => return Err(fault.to_run_fault()),
         };
@@ -172,7 +174,7 @@ fn read_all<J: Run, R: Read, T: Wait + Clock>(
             Ok(None) => return Ok(progress.into_totals(true)),
             Err(fault) => return Err(fault),
         };
-        match enqueue(rt, ring_port, batch, burst, Packet::Before(packet)) {
+        match enqueue(rt, access, batch, burst, RingItem::Before(packet)) {
             Ok(()) => (),
             Err(fault) => return Err(fault.to_run_fault()),
         }
@@ -183,23 +185,23 @@ fn read_all<J: Run, R: Read, T: Wait + Clock>(
 /// Puts the last packets, and then an end mark for each worker.
 pub(crate) fn dismiss<J: Run, T: Wait + Clock>(
     rt: &T,
-    ring_port: &mut RingPort<'_, Packet<J>>,
-    batch: &mut Burst<Packet<J>, SPAN>,
+    access: &mut RingAccess<'_, RingItem<J>>,
+    batch: &mut Burst<RingItem<J>, SPAN>,
     workers: usize,
 ) -> Result<(), StageFault>
     requires at_most { workers ≤ 16 }
 {
-    ring_port.send(rt, INPUT, batch)?;
+    access.send(rt, INPUT, batch)?;
     for _i in 0..workers {
-        batch.push(Packet::mark());
+        batch.push(RingItem::mark());
     }
-    ring_port.send(rt, INPUT, batch)
+    access.send(rt, INPUT, batch)
 }
 
 /// The reader: reads all records, sends each to the workers, and then an end mark for each worker, whatever happens.
 pub(crate) fn feed<J: Run, R: Read, T: Wait + Clock>(
     rt: &T,
-    mut ring_port: RingPort<'_, Packet<J>>,
+    mut access: RingAccess<'_, RingItem<J>>,
     mut reader: Reader<R>,
     workers: usize,
     settings: &Settings,
@@ -208,9 +210,9 @@ pub(crate) fn feed<J: Run, R: Read, T: Wait + Clock>(
     requires settings { GoesBy settings.now J.room J.forwarding (length J.before) }
     requires at_most { workers ≤ 16 }
 {
-    let mut batch = Burst::<Packet<J>, SPAN>::new();
-    let answer = read_all::<J, R, T>(rt, &mut ring_port, &mut reader, &mut batch, settings);
-    let sent = dismiss(rt, &mut ring_port, &mut batch, workers);
+    let mut batch = Burst::<RingItem<J>, SPAN>::new();
+    let answer = read_all::<J, R, T>(rt, &mut access, &mut reader, &mut batch, settings);
+    let sent = dismiss(rt, &mut access, &mut batch, workers);
     let outcome = ReaderOutcome {
         device: Some(reader.into_inner()),
         answer,

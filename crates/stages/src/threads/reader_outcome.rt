@@ -3,11 +3,11 @@ ghost use Rattle.std.specs.Prelude.{◌≡◌, ◌⊎◌, None, Some, Err};
 ghost use Rattle.pcapio.specs.Reader.{source_of};
 ghost use Rattle.stages.specs.Feeding.{ReadFailed, IsHere, IsNoCapture, WroteNothing};
 ghost use Rattle.stages.specs.StageFaults.{answer_with};
-ghost use Rattle.run_parts.specs.declared.fault.RunFault.TheVariants.{Memory, Thread};
+ghost use Rattle.run_one.specs.declared.fault.RunFault.TheVariants.{Memory, Thread};
 
 use crate::stage_fault::{StageFault, lower};
 use pcapio::{Counted, Reader};
-use run_parts::{InputTotals, RunFault};
+use run_one::{InputTotals, RunFault};
 use stages_laws::Run;
 use std::io::Read;
 
@@ -46,7 +46,7 @@ impl<J: Run, R: Read> ReaderOutcome<J, R> {
         }
     }
 
-    /// The same, if the sink couldn't continue.
+    /// What is left of this outcome once the sink has ended: of two faults the lower one.
     pub(crate) fn with(self, drained: Result<(), StageFault>) -> ReaderOutcome<J, R>
         ensures answer { result.answer ≡ answer_with self.answer drained }
         ensures device { result.device ≡ self.device }

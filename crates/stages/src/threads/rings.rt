@@ -1,9 +1,11 @@
 //! The rings of a run in threads, and the segments on them.
 ghost use Rattle.std.specs.Prelude.{◌≡◌, ◌<◌, [], IfOk, IfSome};
 ghost use Rattle.fabric.specs.Hands.{IsHandOf, rings_of};
-ghost use Rattle.worker.specs.Passing.{AreRings, AreAsked};
+ghost use Rattle.stages.specs.Passing.{AreRings, AreAsked};
 
 use crate::stage_fault::StageFault;
+use crate::threads::item::RingItem;
+use crate::threads::ring_put::put_all;
 use burst::Burst;
 use fabric::{Fabric, Hand, Opened};
 use geom::{Geometry, Mode, RingPlan};
@@ -13,7 +15,18 @@ use stages_laws::Run;
 use std::alloc::Global;
 use std::sync::Wait;
 use std::time::Clock;
-use worker::{FREE, Packet, SPAN, put_all};
+
+/// The maximum number of items of one span on the rings.
+pub const SPAN: usize = 256;
+
+/// The ring of segments not in use.
+pub const FREE: usize = 0;
+
+/// The ring of packets before their verdict.
+pub const INPUT: usize = 1;
+
+/// The ring of packets after their verdict.
+pub const OUTPUT: usize = 2;
 
 /// The rings: free segments; packets before their verdict, at which workers peek; packets after it. `None` if out of
 /// memory.
@@ -38,7 +51,7 @@ fn plans(alloc: Global, settings: &Settings) -> Option<Vec<RingPlan>>
 }
 
 /// The segments, each as an item of the ring of free ones. `None` if out of memory.
-fn segments<J: Run>(alloc: Global, settings: &Settings) -> Option<Vec<Packet<J>>> {
+fn segments<J: Run>(alloc: Global, settings: &Settings) -> Option<Vec<RingItem<J>>> {
     let room = settings.room as usize;
     let chains = make(alloc, settings.buffers, settings.headroom as usize, room).ok()?;
     let mut list = Vec::with_capacity(alloc, chains.len()).ok()?;
@@ -46,7 +59,7 @@ fn segments<J: Run>(alloc: Global, settings: &Settings) -> Option<Vec<Packet<J>>
         if chain.segments() != 1 {
             return None;
         }
-        list.push(Packet::free(chain)).ok()?;
+        list.push(RingItem::free(chain)).ok()?;
     }
     Some(list)
 }
@@ -55,7 +68,7 @@ fn segments<J: Run>(alloc: Global, settings: &Settings) -> Option<Vec<Packet<J>>
 pub(crate) fn open_rings<J: Run>(
     alloc: Global,
     settings: &Settings,
-) -> Option<Opened<Packet<J>, SPAN>>
+) -> Option<Opened<RingItem<J>, SPAN>>
     ensures { IfSome result (λ o. IsHandOf o.fabric o.hand × AreRings (rings_of o.fabric)) }
 {
     let plans = plans(alloc, settings)?;
@@ -69,10 +82,10 @@ pub(crate) fn open_rings<J: Run>(
 /// Puts these segments on their ring. Errors: they aren't the hand's, or the ring is worn.
 fn free_all<J: Run, T: Wait + Clock>(
     rt: &T,
-    f: &Fabric<Packet<J>, SPAN>,
-    mut hand: Hand<Packet<J>>,
-    list: &mut Burst<Packet<J>, SPAN>,
-) -> Result<Hand<Packet<J>>, StageFault>
+    f: &Fabric<RingItem<J>, SPAN>,
+    mut hand: Hand<RingItem<J>>,
+    list: &mut Burst<RingItem<J>, SPAN>,
+) -> Result<Hand<RingItem<J>>, StageFault>
     requires hand { IsHandOf f.now hand }
     requires rings { AreRings (rings_of f.now) }
     ensures { IfOk result (λ h. IsHandOf f.now h × (list.new ≡ [])) }
@@ -89,15 +102,15 @@ fn free_all<J: Run, T: Wait + Clock>(
 /// Puts all segments on their ring.
 pub(crate) fn fill<J: Run, T: Wait + Clock>(
     rt: &T,
-    f: &Fabric<Packet<J>, SPAN>,
-    mut hand: Hand<Packet<J>>,
-    items: Vec<Packet<J>>,
-) -> Result<Hand<Packet<J>>, StageFault>
+    f: &Fabric<RingItem<J>, SPAN>,
+    mut hand: Hand<RingItem<J>>,
+    items: Vec<RingItem<J>>,
+) -> Result<Hand<RingItem<J>>, StageFault>
     requires hand { IsHandOf f.now hand }
     requires rings { AreRings (rings_of f.now) }
     ensures { IfOk result (IsHandOf f.now) }
 {
-    let mut list = Burst::<Packet<J>, SPAN>::new();
+    let mut list = Burst::<RingItem<J>, SPAN>::new();
     for item in items {
         if list.is_full() {
             hand = match free_all(rt, f, hand, &mut list) {

@@ -2,27 +2,28 @@
 ghost use Rattle.std.specs.Prelude.{◌≡◌, length};
 ghost use Rattle.std.specs.List.{flat_map};
 ghost use Rattle.burst.specs.Numbers.{AreDistinct};
-ghost use Rattle.worker.specs.Numbers.{packet_numbers};
+ghost use Rattle.stages.specs.Numbers.{item_numbers};
 
 use crate::stage_fault::StageFault;
-use crate::threads::ring_port::RingPort;
+use crate::threads::item::RingItem;
+use crate::threads::ring_access::RingAccess;
+use crate::threads::rings::{FREE, SPAN};
 use burst::Burst;
 use mbuf::Chain;
 use stages_laws::Run;
 use std::sync::Wait;
 use std::time::Clock;
-use worker::{FREE, Packet, SPAN};
 
 /// Links free segments, from the first on, to one chain. `None` if there are none, or one of them isn't free.
-pub(crate) fn link<J: Run>(got: &mut Burst<Packet<J>, SPAN>) -> Option<Chain>
-    requires apart { AreDistinct (flat_map packet_numbers got.old) }
+pub(crate) fn link<J: Run>(got: &mut Burst<RingItem<J>, SPAN>) -> Option<Chain>
+    requires apart { AreDistinct (flat_map item_numbers got.old) }
 {
-    let Some(Packet::Free(last)) = got.pop() else {
+    let Some(RingItem::Free(last)) = got.pop() else {
         return None;
     };
     let mut whole = last.chain;
-    while let Some(packet) = got.pop() {
-        let Packet::Free(segment) = packet else {
+    while let Some(item) = got.pop() {
+        let RingItem::Free(segment) = item else {
             return None;
         };
         match segment.chain.chain(whole) {
@@ -39,18 +40,18 @@ pub(crate) fn link<J: Run>(got: &mut Burst<Packet<J>, SPAN>) -> Option<Chain>
 #[inline(always)]
 pub(crate) fn release<J: Run, R: Wait + Clock>(
     rt: &R,
-    ring_port: &mut RingPort<'_, Packet<J>>,
+    access: &mut RingAccess<'_, RingItem<J>>,
     chain: Chain,
-    free: &mut Burst<Packet<J>, SPAN>,
+    free: &mut Burst<RingItem<J>, SPAN>,
 ) -> Result<(), StageFault> {
     let mut rest = Some(chain);
     while let Some(chain) = rest {
         let (segment, others) = chain.take_first();
         rest = others;
         if free.is_full() {
-            give_back(rt, ring_port, free)?;
+            give_back(rt, access, free)?;
         }
-        free.push(Packet::free(segment));
+        free.push(RingItem::free(segment));
     }
     Ok(())
 }
@@ -58,12 +59,12 @@ pub(crate) fn release<J: Run, R: Wait + Clock>(
 /// Frees segments, and leaves the list empty.
 pub(crate) fn give_back<J: Run, R: Wait + Clock>(
     rt: &R,
-    ring_port: &mut RingPort<'_, Packet<J>>,
-    free: &mut Burst<Packet<J>, SPAN>,
+    access: &mut RingAccess<'_, RingItem<J>>,
+    free: &mut Burst<RingItem<J>, SPAN>,
 ) -> Result<(), StageFault>
     ensures { length free.new ≡ 0 }
 {
-    let given = ring_port.send(rt, FREE, free);
+    let given = access.send(rt, FREE, free);
     free.clear();
     given
 }

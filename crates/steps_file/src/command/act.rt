@@ -39,8 +39,7 @@ fn parse_step(alloc: Global, verb: &[u8], words: &[&[u8]]) -> Result<Option<Step
     if is_word(verb, b"room") {
         return Ok(parse_room(words));
     }
-    let step = parse_span_step(alloc, verb, words)?;
-    Ok(step)
+    parse_span_step(alloc, verb, words)
 }
 
 /// A step on a span, or a local one.

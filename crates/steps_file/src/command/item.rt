@@ -46,10 +46,7 @@ fn item_of(alloc: Global, word: &[u8]) -> Result<Option<Item>, AllocError>
 {
     match word {
         [b'x', digits @ ..] => Ok(number_of(digits).map(Item::Word)),
-        [b'b', digits @ ..] => {
-            let item = buffers_of(alloc, digits)?;
-            Ok(item)
-        }
+        [b'b', digits @ ..] => buffers_of(alloc, digits),
         _ => Ok(None),
     }
 }
@@ -59,14 +56,8 @@ fn buffers_of(alloc: Global, digits: &[u8]) -> Result<Option<Item>, AllocError>
     ensures { IfOk result (λ item. item ≡ buffers_of digits.now) }
 {
     match number_of(digits) {
-        Some(n) => {
-            let item = one_buffer(alloc, n)?;
-            Ok(Some(item))
-        }
-        None => {
-            let item = several_buffers(alloc, digits)?;
-            Ok(item)
-        }
+        Some(n) => Ok(Some(one_buffer(alloc, n)?)),
+        None => several_buffers(alloc, digits),
     }
 }
 

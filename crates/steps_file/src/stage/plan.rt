@@ -71,8 +71,7 @@ impl Draft {
             actors: actors as usize,
             gifts,
         };
-        let world = World::new(alloc, plan)?;
-        Ok(world)
+        World::new(alloc, plan)
     }
 }
 
@@ -108,8 +107,7 @@ fn opening_gifts(alloc: Global, gifts: &[(u64, u64)]) -> Result<Vec<usize>, Worl
         return Err(WorldFault::BadPlan);
     }
     let table = owner_table(alloc, gifts, count as usize)?;
-    let given = all_owners(alloc, table.as_slice())?;
-    Ok(given)
+    Ok(all_owners(alloc, table.as_slice())?)
 }
 
 /// One more than the greatest buffer that is given, up to the maximum number.

@@ -2,9 +2,9 @@ use Rattle.std.proofs.Common.{◌≡◌, ap, rules, subst, sym, ◌∙◌}
 use Rattle.fabric.specs.Hands.{rings_of, view}
 use Rattle.fabric.specs.CacheHands.{view_of_cache_hand}
 use Rattle.fabric.proofs.Told.{ring_at}
-use Rattle.list_calls.specs.declared.answers.TakeAnswer.TheVariants.{Done, Refused}
-use Rattle.list_calls.specs.Takes.{TakeHasTold}
-use Rattle.list_calls.specs.Views.{by_burst}
+use Rattle.ringapi.specs.declared.answers.TakeAnswer.TheVariants.{Done, Refused}
+use Rattle.ringapi.specs.Takes.{TakeHasTold}
+use Rattle.ringapi.specs.Views.{by_burst}
 use Rattle.pool_laws.proofs.Others.{kept_own, received_own, unreceived_party}
 use Rattle.pool.proofs.other_rings.receive.Goals as goal
 

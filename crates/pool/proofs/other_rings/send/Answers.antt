@@ -2,9 +2,9 @@ use Rattle.std.proofs.Common.{◌≡◌, ap, refl, rules, subst, sym, ◌∙◌}
 use Rattle.fabric.specs.Hands.{rings_of, view}
 use Rattle.fabric.specs.CacheHands.{view_of_cache_hand}
 use Rattle.fabric.proofs.Told.{ring_at}
-use Rattle.list_calls.specs.declared.answers.PutAnswer.TheVariants.{Done, Refused}
-use Rattle.list_calls.specs.Puts.{PutHasTold}
-use Rattle.list_calls.specs.Views.{by_burst}
+use Rattle.ringapi.specs.declared.answers.PutAnswer.TheVariants.{Done, Refused}
+use Rattle.ringapi.specs.Puts.{PutHasTold}
+use Rattle.ringapi.specs.Views.{by_burst}
 use Rattle.pool_laws.proofs.Others.{kept_own, not_spare, sent_own, spare_yours, unsent, unsent_party}
 use Rattle.pool.proofs.other_rings.send.Goals as goal
 

@@ -2,8 +2,8 @@ use Rattle.std.proofs.Common.{◌≡◌, ◌<◌, None, sym, ap, ◌∙◌, arit
 use Rattle.std.specs.Option.{option_copied}
 use Rattle.fabric.specs.Owned.{one_if}
 use Rattle.fabric.proofs.Told.{ring_at}
-use Rattle.list_calls.proofs.Counts.{count_at, count_past}
-use Rattle.list_calls.proofs.Singles.{single_at}
+use Rattle.ringapi.proofs.Counts.{count_at, count_past}
+use Rattle.ringapi.proofs.Singles.{single_at}
 use Rattle.pool.proofs.queries.one_carries.Goals.{in-Some+else-carries, in-None}
 use Rattle.pool.proofs.queries.one_carries.Goals as goal
 

@@ -6,7 +6,9 @@ pub restore-requires : goal.restore-requires
 restore-requires g c =
     let cache = c.args.cache.now in
     let given : c.move_tail_reversed.new.to ≡ reverse (drop c.args.k cache) = c.move_tail_reversed.ensures.moved ∙ ap (λ x. x ++ reverse (drop c.args.k cache)) c.requires.empty in
-    (search rules, are_kept g.T.Tagged.numbers c.args.cache_hand.now c.args.k cache c.move_tail_reversed.new.to c.requires.kept given)
+    record {
+      kept = are_kept g.T.Tagged.numbers c.args.cache_hand.now c.args.k cache c.move_tail_reversed.new.to c.requires.kept given;
+    }
 
 pub returns-clause-kept : goal.returns-clause-kept
 returns-clause-kept g c =

@@ -4,7 +4,7 @@ use Rattle.ringcore_laws.specs.Sound.{occurrences_in}
 use Rattle.fabric.specs.Hands.{view}
 use Rattle.pool_laws.specs.Asks.{Refills}
 use Rattle.pool_laws.specs.Caches.{cached_after_get, taken_by_get}
-use Rattle.list_calls.proofs.Counts.{count_both}
+use Rattle.ringapi.proofs.Counts.{count_both}
 use Rattle.pool_laws.proofs.Counts.{count_get}
 use Rattle.pool_laws.proofs.Singles.{single_get}
 use Rattle.pool_laws.proofs.Turned.{poured_back}

@@ -1,7 +1,7 @@
 use Rattle.std.proofs.Common.{◌+◌, ◌∙◌, IfOk, subst, inl, inr, refl, Err, rules}
 use Rattle.fabric.specs.Hands.{view}
 use Rattle.pool_requests.proofs.ring_requests.refill.Goals as goal
-use Rattle.list_calls.specs.Holdings.{HasMore}
+use Rattle.ringapi.specs.Holdings.{HasMore}
 use Rattle.pool_laws.specs.Asks.{Takes}
 use Rattle.std.proofs.lemmas.Result.{IfErr-weaker}
 

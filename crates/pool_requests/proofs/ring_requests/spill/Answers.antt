@@ -3,7 +3,7 @@ use Rattle.std.proofs.lemmas.List.{length-take, take-append-drop}
 use Rattle.fabric.specs.Hands.{view}
 use Rattle.fabric.specs.Settles.{AreOwnBuffers}
 use Rattle.pool_laws.proofs.Asking.{first_own, left_own}
-use Rattle.list_calls.specs.Holdings.{HasLess}
+use Rattle.ringapi.specs.Holdings.{HasLess}
 use Rattle.pool_laws.specs.Asks.{Spills}
 use Rattle.pool_laws.proofs.Turned.{poured_behind}
 use Rattle.pool_requests.proofs.ring_requests.spill.Goals as goal

@@ -2,7 +2,7 @@ use Rattle.std.proofs.Common.{◌≡◌, ap, length, rules, sym}
 use Rattle.fabric.specs.Hands.{rings_of, view}
 use Rattle.fabric.specs.CacheHands.{view_of_cache_hand}
 use Rattle.fabric.proofs.Told.{ring_at}
-use Rattle.list_calls.specs.Views.{by_burst}
+use Rattle.ringapi.specs.Views.{by_burst}
 use Rattle.word_pool.specs.Stacks.{stacked}
 use Rattle.pool_laws.proofs.Others.{finished_take, receives_beside, take_here, take_owns}
 use Rattle.word_pool.proofs.other_rings.receive.Goals as goal

@@ -2,24 +2,24 @@ use Rattle.std.proofs.Common.{◌≡◌, Some, ap, refl, rules, subst, sym, ◌�
 use Rattle.fabric.specs.Hands.{rings_of, view}
 use Rattle.fabric.specs.CacheHands.{view_of_cache_hand}
 use Rattle.fabric.proofs.Told.{ring_at}
-use Rattle.list_calls.specs.Views.{by_burst}
+use Rattle.ringapi.specs.Views.{by_burst}
 use Rattle.pool_laws.specs.Beside.{Sends}
 use Rattle.word_pool.specs.Stacks.{stacked}
 use Rattle.pool_laws.proofs.Others.{finished_put, left_unsent, not_spare, put_here, put_owns, sends_beside, spare_yours}
 use Rattle.word_pool.proofs.other_rings.send.Goals as goal
 
-pub returns-then-not-may_put_slice-clause-exact : goal.returns-then-not-may_put_slice-clause-exact
-returns-then-not-may_put_slice-clause-exact g c plan there = (
+pub returns-then-not-may_put-clause-exact : goal.returns-then-not-may_put-clause-exact
+returns-then-not-may_put-clause-exact g c plan there = (
   not_spare g.T.Tagged.numbers plan c.args.cache_hand (stacked c.args.cache.now) c.args.items.now c.requires.kept
-      (c.may_put_slice.ensures.other plan there c.if-not-may_put_slice.true),
+      (c.may_put.ensures.other plan there c.if-not-may_put.true),
   refl,
-  ap (λ s. s.me.0) c.may_put_slice.ensures.same.0,
+  ap (λ s. s.me.0) c.may_put.ensures.same.0,
 )
 
 pub put_own_burst_slice-requires : goal.put_own_burst_slice-requires
 put_own_burst_slice-requires g c =
     let is : view c.whole_hand-hand.result ≡ view_of_cache_hand c.args.cache_hand =
-    ap (λ s. s.me.0) (sym c.whole_hand-hand.ensures) ∙ ap (λ s. s.me.0) c.may_put_slice.ensures.same.0 in (
+    ap (λ s. s.me.0) (sym c.whole_hand-hand.ensures) ∙ ap (λ s. s.me.0) c.may_put.ensures.same.0 in (
       search rules,
       (
         search rules,
@@ -29,7 +29,7 @@ put_own_burst_slice-requires g c =
             c.requires.ring,
             λ plan there.
                 spare_yours g.T.Tagged.numbers plan c.args.cache_hand (view c.whole_hand-hand.result) (stacked c.args.cache.now) c.args.items.now is c.requires.kept
-                (c.may_put_slice.ensures.yours plan there c.if-not-may_put_slice.false),
+                (c.may_put.ensures.yours plan there c.if-not-may_put.false),
           ),
         ),
       ),
@@ -41,10 +41,10 @@ put_answered-requires g c =
     let known = ring_at (rings_of c.args.f.now) c.args.ring c.requires.ring in
     let h = c.whole_hand-hand.result in
     let is : view h ≡ view_of_cache_hand c.args.cache_hand =
-    ap (λ s. s.me.0) (sym c.whole_hand-hand.ensures) ∙ ap (λ s. s.me.0) c.may_put_slice.ensures.same.0 in (
+    ap (λ s. s.me.0) (sym c.whole_hand-hand.ensures) ∙ ap (λ s. s.me.0) c.may_put.ensures.same.0 in (
       search rules,
       put_owns tags by_burst g.row.N c.args.ring known.0 (view h) c.args.cache_hand (stacked c.args.cache.now) c.args.items.now _ c.put_own_burst_slice.result
-          is c.requires.kept c.requires.single (c.may_put_slice.ensures.yours known.0 known.1 c.if-not-may_put_slice.false)
+          is c.requires.kept c.requires.single (c.may_put.ensures.yours known.0 known.1 c.if-not-may_put.false)
           (finished_put tags c.put_own_burst_slice.result c.put_own_burst_slice.ensures.finished)
           (c.put_own_burst_slice.ensures.exact known.0 known.1),
     )
@@ -61,9 +61,9 @@ returns-clause-exact g c plan there =
     let h = c.whole_hand-hand.result in
     let result = c.put_answered.result.1 in
     let is : view h ≡ view_of_cache_hand c.args.cache_hand =
-    ap (λ s. s.me.0) (sym c.whole_hand-hand.ensures) ∙ ap (λ s. s.me.0) c.may_put_slice.ensures.same.0 in
+    ap (λ s. s.me.0) (sym c.whole_hand-hand.ensures) ∙ ap (λ s. s.me.0) c.may_put.ensures.same.0 in
     subst (Sends tags by_burst g.row.N c.args.ring plan (Some c.args.cache_hand) (Some c.put_answered.result.0) (stacked c.args.cache.now) c.args.items.now result)
     (left_unsent c.put_own_burst_slice.result c.put_answered.result.0 result c.args.items.now c.put_answered.ensures.same)
     (sends_beside tags by_burst g.row.N c.args.ring plan (view h) c.args.cache_hand c.put_answered.result.0 (stacked c.args.cache.now) c.args.items.now _
-    c.put_own_burst_slice.result result is c.requires.kept (c.may_put_slice.ensures.yours plan there c.if-not-may_put_slice.false)
+    c.put_own_burst_slice.result result is c.requires.kept (c.may_put.ensures.yours plan there c.if-not-may_put.false)
     (c.put_own_burst_slice.ensures.exact plan there) c.put_answered.ensures.same)

@@ -1,8 +1,8 @@
 use Rattle.std.proofs.Common.{ap, arith, length, refl}
 use Rattle.std.proofs.lemmas.Option.{slice_get_read}
 use Rattle.fabric.specs.Owned.{one_if}
-use Rattle.list_calls.proofs.Counts.{count_at, count_past}
-use Rattle.list_calls.proofs.Singles.{single_at}
+use Rattle.ringapi.proofs.Counts.{count_at, count_past}
+use Rattle.ringapi.proofs.Singles.{single_at}
 use Rattle.word_pool.proofs.queries.one_carries.Goals as goal
 
 pub carries-requires : goal.carries-requires

@@ -4,7 +4,7 @@ use Rattle.std.proofs.lemmas.Slice.{take-put_mid_below}
 use borrow.Rule.Slice.PartMut.{put_mid}
 use Rattle.ringcore_laws.specs.FreeRings.{AreSingle}
 use Rattle.fabric.specs.Hands.{view}
-use Rattle.list_calls.specs.Holdings.{HasMore}
+use Rattle.ringapi.specs.Holdings.{HasMore}
 use Rattle.pool_laws.specs.Asks.{Takes}
 use Rattle.word_pool.specs.Stacks.{stacked}
 use Rattle.word_pool.proofs.Stacks.{added_is, added_none, front_kept, part_long, pushed_run}

@@ -5,7 +5,7 @@ use Rattle.fabric.specs.Hands.{rings_of, view}
 use Rattle.pool_laws.proofs.Asking.{none_party, took, took_holds, took_none, took_single}
 use Rattle.word_pool.proofs.Slices.{none_shown, whole_shown}
 use Rattle.word_pool.proofs.ring_requests.ask_slice.Goals as goal
-use Rattle.list_calls.specs.Holdings.{HasMore}
+use Rattle.ringapi.specs.Holdings.{HasMore}
 use Rattle.pool_laws.specs.Asks.{Takes, refusal_of}
 
 pub returns-in-Done-clause-exact : goal.returns-in-Done-clause-exact

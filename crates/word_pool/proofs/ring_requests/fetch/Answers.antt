@@ -5,7 +5,7 @@ use Rattle.fabric.specs.Hands.{view}
 use Rattle.pool_laws.specs.Asks.{Refills}
 use Rattle.pool_laws.specs.Caches.{cached_after_get, taken_by_get}
 use Rattle.word_pool.specs.Stacks.{added, stacked}
-use Rattle.list_calls.proofs.Counts.{count_both}
+use Rattle.ringapi.proofs.Counts.{count_both}
 use Rattle.pool_laws.proofs.Counts.{count_get}
 use Rattle.pool_laws.proofs.Singles.{single_get}
 use Rattle.word_pool.proofs.Stacks.{served, unserved}

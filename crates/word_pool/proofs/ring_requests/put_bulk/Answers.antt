@@ -1,7 +1,7 @@
 use Rattle.fabric.proofs.Told.{ring_at}
 use Rattle.fabric.specs.Hands.{rings_of, view}
 use Rattle.pool_laws.proofs.Asking.{kept_party, own_yours, put_all, put_holds, put_none}
-use Rattle.list_calls.proofs.Few.{own_few}
+use Rattle.ringapi.proofs.Few.{own_few}
 use Rattle.word_pool.proofs.ring_requests.put_bulk.Goals as goal
 
 pub returns-in-Done-clause-exact : goal.returns-in-Done-clause-exact

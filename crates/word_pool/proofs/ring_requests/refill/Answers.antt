@@ -4,7 +4,7 @@ use Rattle.ringcore_laws.specs.declared.party.Party.{Party}
 use Rattle.fabric.specs.Hands.{view}
 use Rattle.word_pool.proofs.Stacks.{added_none}
 use Rattle.word_pool.proofs.ring_requests.refill.Goals as goal
-use Rattle.list_calls.specs.Holdings.{HasMore}
+use Rattle.ringapi.specs.Holdings.{HasMore}
 use Rattle.pool_laws.specs.Asks.{Takes}
 use Rattle.word_pool.specs.Stacks.{added, stacked}
 use Rattle.std.proofs.lemmas.Result.{IfErr-weaker}

@@ -7,7 +7,7 @@ use Rattle.pool_laws.specs.Asks.{Spills}
 use Rattle.word_pool.specs.Stacks.{stacked}
 use Rattle.pool_laws.proofs.Asking.{first_own}
 use Rattle.pool_laws.proofs.Kept.{own_kept, same_own}
-use Rattle.list_calls.proofs.Singles.{single_take}
+use Rattle.ringapi.proofs.Singles.{single_take}
 use Rattle.word_pool.proofs.set_aside.shed.Goals as goal
 
 pub keep_back-requires-in-Err : goal.keep_back-requires-in-Err

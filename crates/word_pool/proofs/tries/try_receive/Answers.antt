@@ -2,7 +2,7 @@ use Rattle.std.proofs.Common.{◌≡◌, [], ap, length, rules, sym}
 use Rattle.fabric.specs.Hands.{rings_of, view}
 use Rattle.fabric.specs.CacheHands.{view_of_cache_hand}
 use Rattle.fabric.proofs.Told.{ring_at}
-use Rattle.list_calls.specs.Views.{by_bulk}
+use Rattle.ringapi.specs.Views.{by_bulk}
 use Rattle.word_pool.specs.Stacks.{stacked}
 use Rattle.pool_laws.proofs.Others.{hts_take, receives_beside, take_here, take_owns}
 use Rattle.word_pool.proofs.tries.try_receive.Goals as goal

@@ -4,10 +4,10 @@ use Rattle.ringcore_laws.specs.FreeRings.{AreSingle}
 use Rattle.fabric_laws.specs.declared.view.View.{View}
 use Rattle.fabric.specs.CacheHands.{Keeps, view_of_cache_hand}
 use Rattle.fabric.specs.Settles.{AreOwnBuffers}
-use Rattle.list_calls.specs.Holdings.{IsFreeRing}
+use Rattle.ringapi.specs.Holdings.{IsFreeRing}
 use Rattle.pool_laws.specs.Hands.{KeepsIn, view_in}
 use Rattle.pool_laws.proofs.Kept.{hit_own, own_kept, same_view}
-use Rattle.list_calls.proofs.Singles.{single_take}
+use Rattle.ringapi.proofs.Singles.{single_take}
 use Rattle.pool.proofs.local.Local.get_cached_into.Goals as goal
 
 pub give-requires : goal.give-requires

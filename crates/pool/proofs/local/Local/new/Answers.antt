@@ -2,7 +2,7 @@ use Rattle.std.proofs.Common.{◌≡◌, length, true, refl, sym, ap, subst, rul
 use Rattle.ringcore_laws.specs.FreeRings.{AreSingle}
 use Rattle.fabric_laws.specs.declared.view.View.{View}
 use Rattle.fabric.specs.CacheHands.{Keeps}
-use Rattle.list_calls.specs.Holdings.{IsFreeRing}
+use Rattle.ringapi.specs.Holdings.{IsFreeRing}
 use Rattle.pool.proofs.local.Local.new.Goals as goal
 
 pub invariant_of-result : goal.invariant_of-result

@@ -4,10 +4,10 @@ use Rattle.ringcore_laws.specs.FreeRings.{AreSingle}
 use Rattle.fabric_laws.specs.declared.view.View.{View}
 use Rattle.fabric.specs.CacheHands.{Keeps, view_of_cache_hand}
 use Rattle.fabric.specs.Settles.{AreNotOwnBuffers, AreOwnBuffers}
-use Rattle.list_calls.specs.Holdings.{IsFreeRing}
+use Rattle.ringapi.specs.Holdings.{IsFreeRing}
 use Rattle.pool_laws.specs.Hands.{KeepsIn, view_in}
 use Rattle.pool_laws.proofs.Kept.{added_kept, back_kept, more_kept, more_own, none_kept, none_own, same_view}
-use Rattle.list_calls.proofs.Singles.{single_both}
+use Rattle.ringapi.proofs.Singles.{single_both}
 use Rattle.pool.proofs.local.Local.put_cached_from.Goals as goal
 
 pub invariant_of-self : goal.invariant_of-self
@@ -49,7 +49,9 @@ restore-requires g c =
     let k = c.in-Some.cache_hand in
     let some : c.set_aside.result ≡ true = search rules in
     let keeps : Keeps tags k l.cache = subst (λ o. KeepsIn tags o l.cache) c.in-Some.is l.kept in
-    (search rules, added_kept tags k c.set_aside.new.self l.cache c.args.list.now c.set_aside.ensures.same keeps (c.set_aside.ensures.kept some))
+    record {
+      kept = added_kept tags k c.set_aside.new.self l.cache c.args.list.now c.set_aside.ensures.same keeps (c.set_aside.ensures.kept some);
+    }
 
 pub invariant_of-self-then-len-self : goal.invariant_of-self-then-len-self
 invariant_of-self-then-len-self g c =

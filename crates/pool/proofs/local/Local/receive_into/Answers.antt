@@ -1,5 +1,5 @@
 use Rattle.std.proofs.Common.{◌≡◌, Some, refl, rules, subst, sym}
-use Rattle.list_calls.specs.Views.{by_burst}
+use Rattle.ringapi.specs.Views.{by_burst}
 use Rattle.pool_laws.specs.Beside.{Receives}
 use Rattle.pool_laws.proofs.Wholes.{free_at, free_of, keeps_of, mine_of}
 use Rattle.pool.proofs.local.Local.receive_into.Goals as goal

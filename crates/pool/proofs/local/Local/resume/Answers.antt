@@ -2,7 +2,7 @@ use Rattle.std.proofs.Common.{◌≡◌, true, false, [], refl, sym, ap, ◌∙�
 use Rattle.fabric_laws.specs.declared.view.View.{View}
 use Rattle.fabric.specs.CacheHands.{Keeps}
 use Rattle.fabric.specs.Settles.{AreNotOwnBuffers, AreOwnBuffers}
-use Rattle.list_calls.specs.Holdings.{IsFreeRing}
+use Rattle.ringapi.specs.Holdings.{IsFreeRing}
 use Rattle.pool_laws.proofs.Kept.{more_kept, more_own, none_kept, none_own, same_view}
 use Rattle.pool.proofs.local.Local.resume.Goals as goal
 
@@ -14,11 +14,11 @@ returns-then-not-may_be-clause-refused g c =
 pub into_hand-requires : goal.into_hand-requires
 into_hand-requires g c =
     let tags = g.T.Tagged.numbers in
-    let none : c.set_aside.result ≡ false = search rules in (
-      search rules,
-      subst (Keeps tags c.set_aside.new.self) (sym c.new-none.ensures)
-          (none_kept tags c.into_cache_hand-cache_hand.result c.set_aside.new.self [] c.args.items c.set_aside.ensures.same c.into_cache_hand-cache_hand.ensures.none (c.set_aside.ensures.other none)),
-    )
+    let none : c.set_aside.result ≡ false = search rules in
+    record {
+      kept = subst (Keeps tags c.set_aside.new.self) (sym c.new-none.ensures)
+          (none_kept tags c.into_cache_hand-cache_hand.result c.set_aside.new.self [] c.args.items c.set_aside.ensures.same c.into_cache_hand-cache_hand.ensures.none (c.set_aside.ensures.other none));
+    }
 
 pub returns-then-not-set_aside-clause-refused : goal.returns-then-not-set_aside-clause-refused
 returns-then-not-set_aside-clause-refused g c =
@@ -40,10 +40,10 @@ overflow_mul-size g c =
 pub into_hand-requires-then-len-size : goal.into_hand-requires-then-len-size
 into_hand-requires-then-len-size g c =
     let tags = g.T.Tagged.numbers in
-    let some : c.set_aside.result ≡ true = search rules in (
-      search rules,
-      more_kept tags c.into_cache_hand-cache_hand.result c.set_aside.new.self [] c.args.items c.set_aside.ensures.same c.into_cache_hand-cache_hand.ensures.none (c.set_aside.ensures.kept some),
-    )
+    let some : c.set_aside.result ≡ true = search rules in
+    record {
+      kept = more_kept tags c.into_cache_hand-cache_hand.result c.set_aside.new.self [] c.args.items c.set_aside.ensures.same c.into_cache_hand-cache_hand.ensures.none (c.set_aside.ensures.kept some);
+    }
 
 pub returns-then-len-size-clause-refused : goal.returns-then-len-size-clause-refused
 returns-then-len-size-clause-refused g c =

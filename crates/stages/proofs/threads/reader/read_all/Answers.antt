@@ -2,23 +2,23 @@ use Rattle.std.proofs.Common.{◌≡◌, [], length, refl, sym, ap, ◌∙◌, s
 use Rattle.counters.specs.Counted.{counts_of}
 use Rattle.counters.specs.Tally.{records_of}
 use Rattle.stages.specs.Feeding.{WhyUnfed}
-use Rattle.run_parts.specs.SoFar.{Looks}
-use Rattle.run_parts.proofs.Fresh.{counted_ports, no_records}
-use Rattle.run_parts.proofs.Known.{on_some}
-use Rattle.run_parts.proofs.SoFar.{none_read}
+use Rattle.run_one.specs.SoFar.{Looks}
+use Rattle.run_one.proofs.Fresh.{counted_ports, no_records}
+use Rattle.run_one.proofs.Known.{on_some}
+use Rattle.run_one.proofs.SoFar.{none_read}
 use Rattle.stages.proofs.Unfed.{unfed_since, unfed_late, unfed_by_stage}
 use Rattle.stages.proofs.threads.reader.read_all.Goals as goal
 
 pub loop-turn-init : goal.loop-turn-init
 loop-turn-init g c =
     let ports : c.len.result ≡ length g.J.Run.before = omega (arith, c.len.ensures, c.requires.settings.ports) in
-    let share = c.new-progress.ensures.share ∙ ap (λ n. counts_of n 0 []) ports in
+    let none = c.new-progress.ensures.oversize ∙ ap (λ n. counts_of n 0 []) ports in
     record {
       read = none_read g.R.Read.remaining g.J.Run.input g.J.Run.room (length g.J.Run.before) c.args.reader.now c.new-progress.result c.requires.input.input
-          c.new-progress.ensures.count share (counted_ports (length g.J.Run.before)) (no_records (length g.J.Run.before));
+          c.new-progress.ensures.count none (counted_ports (length g.J.Run.before)) (no_records (length g.J.Run.before));
       between = c.requires.input.between;
       no_read_failed = refl;
-      turns = omega (arith, c.new-progress.ensures.count, ap records_of share, no_records (length g.J.Run.before));
+      turns = omega (arith, c.new-progress.ensures.count, ap records_of none, no_records (length g.J.Run.before));
     }
 
 pub returns-in-Err : goal.returns-in-Err
@@ -50,5 +50,5 @@ loop-turn-preserved g c =
       read = on_some _ at.packet at.field-0-is at.ensures.read;
       between = on_some _ at.packet at.field-0-is at.ensures.between;
       no_read_failed = at.ensures.no_failure ∙ (c.in-Ok-Record.ensures.no_failure ∙ i.no_read_failed);
-      turns = omega (arith, count.0, ap records_of count.1, ap (λ p. p.count) told.1, ap (λ p. records_of p.share) told.1, i.turns);
+      turns = omega (arith, count.0, ap records_of count.1, ap (λ p. p.count) told.1, ap (λ p. records_of p.oversize) told.1, i.turns);
     }

@@ -3,7 +3,7 @@ use Rattle.counters.specs.Tally.{records_of}
 use Rattle.pcapio.specs.Counted.{HasNotFailed}
 use Rattle.pcapio.specs.Reader.{state_of, source_of}
 use Rattle.pcapio.specs.declared.reader_state.ReaderState.TheVariants.{Between}
-use Rattle.run_parts.specs.SoFar.{HasRead}
+use Rattle.run_one.specs.SoFar.{HasRead}
 use Rattle.stages.proofs.threads.reader.read_all.Given as goal
 
 abbrev pub invariant-loop-turn : goal.invariant-loop-turn
@@ -11,5 +11,5 @@ invariant-loop-turn g l = record {
   read : HasRead g.R.Read.remaining g.J.Run.input g.J.Run.room (length g.J.Run.before) l.reader l.progress;
   between : state_of l.reader ≡ Between;
   no_read_failed : HasNotFailed (source_of l.fn.reader) (source_of l.reader);
-  turns : l.progress.count + records_of l.progress.share ≡ l._turn;
+  turns : l.progress.count + records_of l.progress.oversize ≡ l._turn;
 }

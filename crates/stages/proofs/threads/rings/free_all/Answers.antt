@@ -1,6 +1,6 @@
 use Rattle.std.proofs.Common.{arith, rules, subst, sym}
 use Rattle.fabric.specs.Settles.{AreYours}
-use Rattle.worker.specs.Numbers.{packet_numbers}
+use Rattle.stages.specs.Numbers.{item_numbers}
 use Rattle.stages.proofs.threads.rings.free_all.Goals as goal
 
 pub put_all-requires : goal.put_all-requires
@@ -13,7 +13,7 @@ put_all-requires g c = (
       (
         omega (arith, c.requires.rings.many),
         λ plan there.
-            subst (λ v. AreYours packet_numbers plan v c.args.list.now) (sym c.may_put.ensures.kept.1)
+            subst (λ v. AreYours item_numbers plan v c.args.list.now) (sym c.may_put.ensures.kept.1)
             (c.may_put.ensures.yours plan there c.if-not-may_put.false),
       ),
     ),

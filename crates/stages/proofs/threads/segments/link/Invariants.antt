@@ -2,11 +2,11 @@ use Rattle.std.proofs.Common.{◌++◌, length}
 use Rattle.std.specs.List.{flat_map}
 use Rattle.burst.specs.Numbers.{AreDistinct}
 use Rattle.mbuf.specs.Chain.{numbers_of}
-use Rattle.worker.specs.Numbers.{packet_numbers}
+use Rattle.stages.specs.Numbers.{item_numbers}
 use Rattle.stages.proofs.threads.segments.link.Given as goal
 
-abbrev pub decreases-loop-packet : goal.decreases-loop-packet
-decreases-loop-packet g l = length l.got
+abbrev pub decreases-loop-item : goal.decreases-loop-item
+decreases-loop-item g l = length l.got
 
-abbrev pub invariant-loop-packet : goal.invariant-loop-packet
-invariant-loop-packet g l = AreDistinct (flat_map packet_numbers l.got ++ numbers_of l.whole)
+abbrev pub invariant-loop-item : goal.invariant-loop-item
+invariant-loop-item g l = AreDistinct (flat_map item_numbers l.got ++ numbers_of l.whole)

@@ -7,7 +7,7 @@ use Rattle.steps_file.proofs.stage.plan.opening_gifts.Goals as goal
 pub returns-clause-given : goal.returns-clause-given
 returns-clause-given c =
     let same : c.count_buffers-count.result ≡ buffer_count c.args.gifts.now = omega (arith, c.count_buffers-count.ensures) in
-    c.in_ok-given.ensures.owners
+    c.in_ok-all_owners.ensures.owners
     ∙ ap (map (λ o. unwrap_or o 0)) c.as_slice.ensures.value
     ∙ gifts_from_table c.in_ok-table.table.items c.args.gifts.now
     (subst (λ (n : ℕ). IsTable n c.in_ok-table.table.items c.args.gifts.now) same c.in_ok-table.ensures.table)

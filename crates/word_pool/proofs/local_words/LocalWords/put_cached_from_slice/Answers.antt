@@ -4,11 +4,11 @@ use Rattle.ringcore_laws.specs.FreeRings.{AreSingle}
 use Rattle.fabric_laws.specs.declared.view.View.{View}
 use Rattle.fabric.specs.CacheHands.{Keeps, view_of_cache_hand}
 use Rattle.fabric.specs.Settles.{AreNotOwnBuffers, AreOwnBuffers}
-use Rattle.list_calls.specs.Holdings.{IsFreeRing}
+use Rattle.ringapi.specs.Holdings.{IsFreeRing}
 use Rattle.pool_laws.specs.Hands.{KeepsIn, view_in}
 use Rattle.word_pool.specs.Stacks.{stacked}
 use Rattle.pool_laws.proofs.Kept.{added_kept, back_kept, more_kept, more_own, none_kept, none_own, same_view}
-use Rattle.list_calls.proofs.Singles.{single_both}
+use Rattle.ringapi.proofs.Singles.{single_both}
 use Rattle.word_pool.proofs.local_words.LocalWords.put_cached_from_slice.Goals as goal
 
 pub invariant_of-self : goal.invariant_of-self
@@ -17,41 +17,41 @@ invariant_of-self g c =
     let l = c.args.self.now in
     let was = c.in-Some.is in
     let k = c.in-Some.cache_hand in
-    let none : c.set_aside_slice.result ≡ false = search rules in
+    let none : c.set_aside.result ≡ false = search rules in
     let keeps : Keeps tags k (stacked l.cache) = subst (λ o. KeepsIn tags o (stacked l.cache)) was l.kept in
     let free : IsFreeRing (view_of_cache_hand k).plans l.ring = subst (λ o. IsFreeRing (view_in o).plans l.ring) was l.free in
     record {
       here = refl;
-      free = subst (λ (v : View g.row.T.Denot). IsFreeRing v.plans l.ring) (sym (same_view tags k c.set_aside_slice.new.self c.set_aside_slice.ensures.same)) free;
+      free = subst (λ (v : View g.row.T.Denot). IsFreeRing v.plans l.ring) (sym (same_view tags k c.set_aside.new.self c.set_aside.ensures.same)) free;
       small = l.small;
       room = l.room;
       places = l.places;
       within = l.within;
-      kept = none_kept tags k c.set_aside_slice.new.self (stacked l.cache) c.args.items.now c.set_aside_slice.ensures.same keeps (c.set_aside_slice.ensures.other none);
+      kept = none_kept tags k c.set_aside.new.self (stacked l.cache) c.args.items.now c.set_aside.ensures.same keeps (c.set_aside.ensures.other none);
       single = l.single;
     }
 
-pub returns-then-not-set_aside_slice-clause-exact : goal.returns-then-not-set_aside_slice-clause-exact
-returns-then-not-set_aside_slice-clause-exact g c =
+pub returns-then-not-set_aside-clause-exact : goal.returns-then-not-set_aside-clause-exact
+returns-then-not-set_aside-clause-exact g c =
     let tags = g.T.Tagged.numbers in
     let l = c.args.self.now in
     let k = c.in-Some.cache_hand in
-    let none : c.set_aside_slice.result ≡ false = search rules in
+    let none : c.set_aside.result ≡ false = search rules in
     let keeps : Keeps tags k (stacked l.cache) = subst (λ o. KeepsIn tags o (stacked l.cache)) c.in-Some.is l.kept in (
       subst (λ o. AreNotOwnBuffers tags (view_in o) ((stacked l.cache) ++ c.args.items.now)) (sym c.in-Some.is)
-          (none_own tags k c.set_aside_slice.new.self (stacked l.cache) c.args.items.now keeps (c.set_aside_slice.ensures.other none)),
+          (none_own tags k c.set_aside.new.self (stacked l.cache) c.args.items.now keeps (c.set_aside.ensures.other none)),
       refl,
       refl,
     )
 
-pub restore_slice-requires : goal.restore_slice-requires
-restore_slice-requires g c =
+pub restore-requires : goal.restore-requires
+restore-requires g c =
     let tags = g.T.Tagged.numbers in
     let l = c.args.self.now in
     let k = c.in-Some.cache_hand in
-    let some : c.set_aside_slice.result ≡ true = search rules in
+    let some : c.set_aside.result ≡ true = search rules in
     let keeps : Keeps tags k (stacked l.cache) = subst (λ o. KeepsIn tags o (stacked l.cache)) c.in-Some.is l.kept in
-    record { kept = added_kept tags k c.set_aside_slice.new.self (stacked l.cache) c.args.items.now c.set_aside_slice.ensures.same keeps (c.set_aside_slice.ensures.kept some) }
+    record { kept = added_kept tags k c.set_aside.new.self (stacked l.cache) c.args.items.now c.set_aside.ensures.same keeps (c.set_aside.ensures.kept some) }
 
 pub invariant_of-self-then-items-self : goal.invariant_of-self-then-items-self
 invariant_of-self-then-items-self g c =
@@ -59,10 +59,10 @@ invariant_of-self-then-items-self g c =
     let l = c.args.self.now in
     let was = c.in-Some.is in
     let k = c.in-Some.cache_hand in
-    let some : c.set_aside_slice.result ≡ true = search rules in
+    let some : c.set_aside.result ≡ true = search rules in
     let keeps : Keeps tags k (stacked l.cache) = subst (λ o. KeepsIn tags o (stacked l.cache)) was l.kept in
     let free : IsFreeRing (view_of_cache_hand k).plans l.ring = subst (λ o. IsFreeRing (view_in o).plans l.ring) was l.free in
-    let again = same_view tags c.set_aside_slice.new.self c.restore_slice.new.self c.restore_slice.ensures.same ∙ same_view tags k c.set_aside_slice.new.self c.set_aside_slice.ensures.same in
+    let again = same_view tags c.set_aside.new.self c.restore.new.self c.restore.ensures.same ∙ same_view tags k c.set_aside.new.self c.set_aside.ensures.same in
     record {
       here = refl;
       free = subst (λ (v : View g.row.T.Denot). IsFreeRing v.plans l.ring) (sym again) free;
@@ -70,8 +70,8 @@ invariant_of-self-then-items-self g c =
       room = l.room;
       places = l.places;
       within = l.within;
-      kept = back_kept tags k c.set_aside_slice.new.self c.restore_slice.new.self (stacked l.cache) c.args.items.now c.set_aside_slice.ensures.same c.restore_slice.ensures.same keeps
-          (c.set_aside_slice.ensures.kept some) c.restore_slice.ensures.back;
+      kept = back_kept tags k c.set_aside.new.self c.restore.new.self (stacked l.cache) c.args.items.now c.set_aside.ensures.same c.restore.ensures.same keeps
+          (c.set_aside.ensures.kept some) c.restore.ensures.back;
       single = l.single;
     }
 
@@ -80,10 +80,10 @@ returns-then-items-self-clause-exact g c =
     let tags = g.T.Tagged.numbers in
     let l = c.args.self.now in
     let k = c.in-Some.cache_hand in
-    let some : c.set_aside_slice.result ≡ true = search rules in
+    let some : c.set_aside.result ≡ true = search rules in
     let keeps : Keeps tags k (stacked l.cache) = subst (λ o. KeepsIn tags o (stacked l.cache)) c.in-Some.is l.kept in (
       subst (λ o. AreOwnBuffers tags (view_in o) ((stacked l.cache) ++ c.args.items.now)) (sym c.in-Some.is)
-          (more_own tags k c.set_aside_slice.new.self (stacked l.cache) c.args.items.now keeps l.single (c.set_aside_slice.ensures.kept some)),
+          (more_own tags k c.set_aside.new.self (stacked l.cache) c.args.items.now keeps l.single (c.set_aside.ensures.kept some)),
       omega (arith, c.if-items-self.true, c.len.ensures.value, length-append (stacked l.cache) c.args.items.now),
       refl,
       refl,
@@ -95,12 +95,12 @@ invariant_of-self-2 g c =
     let l = c.args.self.now in
     let was = c.in-Some.is in
     let k = c.in-Some.cache_hand in
-    let some : c.set_aside_slice.result ≡ true = search rules in
+    let some : c.set_aside.result ≡ true = search rules in
     let keeps : Keeps tags k (stacked l.cache) = subst (λ o. KeepsIn tags o (stacked l.cache)) was l.kept in
     let free : IsFreeRing (view_of_cache_hand k).plans l.ring = subst (λ o. IsFreeRing (view_in o).plans l.ring) was l.free in
     record {
       here = refl;
-      free = subst (λ (v : View g.row.T.Denot). IsFreeRing v.plans l.ring) (sym (same_view tags k c.set_aside_slice.new.self c.set_aside_slice.ensures.same)) free;
+      free = subst (λ (v : View g.row.T.Denot). IsFreeRing v.plans l.ring) (sym (same_view tags k c.set_aside.new.self c.set_aside.ensures.same)) free;
       small = l.small;
       room = l.room;
       places = omega (arith, c.push_slice.ensures.room, l.places);
@@ -112,9 +112,9 @@ invariant_of-self-2 g c =
         ap length c.push_slice.ensures.pushed,
         length-append (stacked l.cache) c.args.items.now,
       );
-      kept = subst (Keeps tags c.set_aside_slice.new.self) (sym c.push_slice.ensures.pushed)
-          (more_kept tags k c.set_aside_slice.new.self (stacked l.cache) c.args.items.now c.set_aside_slice.ensures.same keeps (c.set_aside_slice.ensures.kept some));
-      single = subst (AreSingle tags) (sym c.push_slice.ensures.pushed) (single_both tags (stacked l.cache) c.args.items.now l.single (c.set_aside_slice.ensures.kept some).0);
+      kept = subst (Keeps tags c.set_aside.new.self) (sym c.push_slice.ensures.pushed)
+          (more_kept tags k c.set_aside.new.self (stacked l.cache) c.args.items.now c.set_aside.ensures.same keeps (c.set_aside.ensures.kept some));
+      single = subst (AreSingle tags) (sym c.push_slice.ensures.pushed) (single_both tags (stacked l.cache) c.args.items.now l.single (c.set_aside.ensures.kept some).0);
     }
 
 pub returns-clause-exact : goal.returns-clause-exact
@@ -122,10 +122,10 @@ returns-clause-exact g c =
     let tags = g.T.Tagged.numbers in
     let l = c.args.self.now in
     let k = c.in-Some.cache_hand in
-    let some : c.set_aside_slice.result ≡ true = search rules in
+    let some : c.set_aside.result ≡ true = search rules in
     let keeps : Keeps tags k (stacked l.cache) = subst (λ o. KeepsIn tags o (stacked l.cache)) c.in-Some.is l.kept in (
       subst (λ o. AreOwnBuffers tags (view_in o) ((stacked l.cache) ++ c.args.items.now)) (sym c.in-Some.is)
-          (more_own tags k c.set_aside_slice.new.self (stacked l.cache) c.args.items.now keeps l.single (c.set_aside_slice.ensures.kept some)),
+          (more_own tags k c.set_aside.new.self (stacked l.cache) c.args.items.now keeps l.single (c.set_aside.ensures.kept some)),
       omega (arith, c.if-items-self.false, c.len.ensures.value, l.within, length-append (stacked l.cache) c.args.items.now),
       refl,
       c.push_slice.ensures.pushed,

@@ -1,5 +1,5 @@
 use Rattle.std.proofs.Common.{◌≡◌, Some, refl, rules, subst, sym}
-use Rattle.list_calls.specs.Views.{by_bulk}
+use Rattle.ringapi.specs.Views.{by_bulk}
 use Rattle.pool_laws.specs.Beside.{Sends, unsent_of}
 use Rattle.word_pool.specs.Stacks.{stacked}
 use Rattle.pool_laws.proofs.Wholes.{free_at, free_of, keeps_of, mine_of}

@@ -1,0 +1,18 @@
+use Rattle.std.proofs.Common.{map}
+use Rattle.pcapio.specs.Counted.{told, failures_of}
+use Rattle.pcapio.specs.Reader.{order_of, resolution_of, rest, source_of}
+use Rattle.run_one.specs.Ports.{devices_of}
+use Rattle.run_one.specs.Whole.{forwarding_by}
+use Rattle.run_one.proofs.Opened.{input_of}
+use Rattle.run_one.proofs.one.run_one.Given as goal
+
+abbrev pub ghosts-run_opened : goal.ghosts-run_opened
+ghosts-run_opened g a = record {
+  input = input_of (order_of a.reader) (rest g.R.Read.remaining a.reader);
+  room = a.settings.now.room;
+  forwarding = forwarding_by a.settings.now;
+  resolution = resolution_of a.reader;
+  before = map (told g.W.Write.contents) (devices_of a.outputs.writers.items);
+  failures = map failures_of (devices_of a.outputs.writers.items);
+  read_failures = failures_of (source_of a.reader);
+}

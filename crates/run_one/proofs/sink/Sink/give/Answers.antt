@@ -1,0 +1,54 @@
+use Rattle.std.proofs.Common.{rules, ◌≡◌, ◌+◌, ℕ, List, [], ◌∷◌, ◌++◌, Some, sym, ap, ◌∙◌, subst, length, slice_get}
+use Rattle.std.specs.FinMap as map
+use Rattle.reorder.specs.Waiting.{after_next}
+use Rattle.pcapio.specs.Record.{packet_in}
+use Rattle.stages_laws.specs.Output.{Fate}
+use Rattle.run_one.specs.Packets.{fate_with}
+use Rattle.run_one.specs.Ports.{HasTexts}
+use Rattle.run_one.specs.Tallies.{IsTally, fates_of}
+use Rattle.run_one.proofs.Windows.{all_next}
+use Rattle.run_one.proofs.Texts.{texts_turn, begun_turn}
+use Rattle.run_one.proofs.Counting.{tally_turn}
+use Rattle.counters.specs.Counted.{counts_of, IsWithin}
+use Rattle.ipv4.specs.declared.verdicts.Verdict.{Verdict}
+use Rattle.run_one.proofs.Failures.{failures_turn}
+use Rattle.run_one.proofs.Counting.{within}
+use Rattle.run_one.proofs.sink.Sink.give.Goals as goal
+
+pub add-requires-clause-port : goal.add-requires-clause-port
+add-requires-clause-port g c =
+    let x = c.in_ok-seconds.field-0 in
+    subst (λ n. IsWithin n x.verdict) (sym c.args.self.now.ports) (within (length g.J.Run.before) x.verdict x.port)
+
+pub invariant_of-self-2 : goal.invariant_of-self-2
+invariant_of-self-2 g c =
+    let sink = c.args.self.now in
+    let x = c.in_ok-seconds.field-0 in
+    let outs = fates_of g.J.Run.forwarding g.J.Run.room g.J.Run.input in
+    let o = fate_with x.verdict (packet_in x.seconds x.fraction x.wire x.chain) in
+    let got : map.get sink.window.held sink.window.next ≡ Some x = sym c.in_ok-seconds.ensures.item in
+    let after : c.pop.new.self ≡ after_next sink.window = c.in_ok-seconds.ensures.given in
+    let further : c.pop.new.self.next ≡ sink.window.next + 1 = ap (λ w. w.next) after in
+    let here : (all : List Fate) → outs ≡ Some all → slice_get all sink.window.next ≡ Some o =
+    λ all known. subst (λ n. slice_get all n ≡ Some o) (sink.keyed sink.window.next x got) (x.is all known) in
+    record {
+      keyed = λ n y is. all_next (λ k z. z.seq ≡ k) sink.window sink.keyed n y (subst (λ w. map.get w.held n ≡ Some y) after is);
+      counted = subst (λ n. IsTally outs (length g.J.Run.before) n c.add.new.self) (sym further)
+          (tally_turn outs (length g.J.Run.before) sink.window.next o sink.counts c.add.new.self here sink.counted
+          (subst (λ n. (oversize : ℕ) (vs : List Verdict) → sink.counts ≡ counts_of n oversize vs → c.add.new.self ≡ counts_of n oversize
+          (vs ++ x.verdict ∷ [])) sink.ports c.add.ensures.counted));
+      bounded = search rules;
+      ports = search rules;
+      many = c.put_unless_failed.ensures.length ∙ sink.many;
+      texts = subst (λ n. HasTexts g.W.Write.contents g.J.Run.before g.J.Run.resolution outs n c.put_unless_failed.new.self.failed c.put_unless_failed.new.self.writers.items)
+          (sym further)
+          (texts_turn g.W.Write.contents g.J.Run.before g.J.Run.resolution outs sink.window.next o sink.outputs.failed c.put_unless_failed.new.self.failed
+          sink.outputs.writers.items c.put_unless_failed.new.self.writers.items
+          here sink.texts (λ p e. ap (λ u. u.failed) (c.put_unless_failed.ensures.still p e) ∙ e) c.put_unless_failed.ensures.longer);
+      begun = begun_turn g.W.Write.contents g.J.Run.before g.J.Run.resolution outs sink.window.next o sink.outputs.failed c.put_unless_failed.new.self.failed
+          sink.outputs.writers.items c.put_unless_failed.new.self.writers.items
+          here sink.texts sink.begun (λ p e. ap (λ u. u.writers.items) (c.put_unless_failed.ensures.still p e)) c.put_unless_failed.ensures.cut;
+      failures = failures_turn g.J.Run.failures sink.outputs.failed c.put_unless_failed.new.self.failed sink.outputs.writers.items c.put_unless_failed.new.self.writers.items
+          sink.failures
+          (λ p e. (ap (λ u. u.failed) (c.put_unless_failed.ensures.still p e) ∙ e, ap (λ u. u.writers.items) (c.put_unless_failed.ensures.still p e))) c.put_unless_failed.ensures.failures;
+    }

@@ -1,5 +1,0 @@
-use Rattle.fabric.specs.Hands.{IsHandOf}
-use Rattle.stages.proofs.threads.start_workers.Given as goal
-
-abbrev pub invariant-loop-started : goal.invariant-loop-started
-invariant-loop-started g l = IsHandOf l.f l.hand

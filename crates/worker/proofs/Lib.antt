@@ -1,4 +1,0 @@
-pub mod Settled
-pub mod Marks
-pub mod Rounds
-mod Rows

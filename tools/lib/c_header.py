@@ -1,0 +1,55 @@
+"""What c/hokhtura.h declares: its calls with their parameters and comments, and its codes."""
+import os
+import re
+
+TOP = os.path.dirname(os.path.dirname(os.path.dirname(os.path.abspath(__file__))))
+C = os.path.join(TOP, "c")
+HEADER = os.path.join(C, "hokhtura.h")
+
+COMMENT = r"/\*.*?\*/"
+CALL = re.compile(r"HK_API\s+(?:HK_CHECKED\s+)?([\w\s]+?[\s*]+)(hk_\w+)\(([^)]*)\);")
+CODE = re.compile(r"^\s*(HK_(?:OK|E_\w+)) = (-?\d+)", re.M)
+
+
+class Call:
+    """A call: its name, the type of its result, its parameters as (type, name), and what its comment says."""
+
+    def __init__(self, name, result, parameters, comment):
+        self.name, self.result, self.parameters, self.comment = name, result, parameters, comment
+
+
+def type_and_name(text):
+    """`const uint64_t *words` as ("const uint64_t *", "words")."""
+    found = re.fullmatch(r"(.*?)(\w+)", " ".join(text.split()))
+    return found[1].strip(), found[2]
+
+
+def parameters_of(text):
+    return [] if text.strip() in ("", "void") else [type_and_name(one) for one in text.split(",")]
+
+
+def read():
+    with open(HEADER, encoding="utf-8") as file:
+        return file.read()
+
+
+def calls(text):
+    """The calls in the order of the header. A comment is that of all calls up to the next one; where it says "Codes as
+    above", the one before it is added."""
+    found, comment = [], ""
+    for part in re.finditer(f"{COMMENT}|{CALL.pattern}", text, re.S):
+        if part[0].startswith("/*"):
+            said = re.sub(r"\s*\*?\n \* ?", " ", part[0])
+            comment = f"{comment} {said}" if "Codes as above" in said else said
+        else:
+            found.append(Call(part[2], " ".join(part[1].split()), parameters_of(part[3]), comment))
+    declared = set(re.findall(r"\b(hk_\w+)\s*\(", re.sub(COMMENT, "", text, flags=re.S)))
+    missing = declared - {call.name for call in found}
+    if missing:
+        raise ValueError(f"hokhtura.h: not read: {' '.join(sorted(missing))}")
+    return found
+
+
+def codes(text):
+    """The codes with their numbers."""
+    return {name: int(number) for name, number in CODE.findall(text)}
