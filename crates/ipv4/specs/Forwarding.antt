@@ -3,6 +3,7 @@ use Rattle.std.specs.Prelude.{◌≡◌, ◌<◌, ◌≤◌, ℕ, ◌-◌, ◌==
 use Rattle.std.specs.Prelude.{Ok, Err, ok_or, length, take, drop, nat_lt, option_and_then, if◌then◌else◌}
 use Rattle.lpm.specs.Prefixes.{Members}
 use Rattle.lpm.specs.Match.{lookup_in}
+use Rattle.ipv4.specs.declared.ports.Hop.{Hop}
 use Rattle.ipv4.specs.declared.ports.Ports.{Ports}
 use Rattle.ipv4.specs.declared.ports.Way.{Way}
 use Rattle.ipv4.specs.declared.verdicts.Reason.{Reason}
@@ -10,7 +11,7 @@ use Rattle.ipv4.specs.declared.verdicts.Verdict.{Verdict}
 use Rattle.ipv4.specs.Checksum.{ones_complement_sum, complement}
 use Rattle.ipv4.specs.Fields.{is_tagged, offset_of, type_of, packet_of, version_of, header_len, total_len, time_to_live}
 use Rattle.ipv4.specs.Fields.{destination_of, header_of, body_of, with_time_to_live, with_checksum}
-use Rattle.ipv4.specs.Ports.{way_of}
+use Rattle.ipv4.specs.Ports.{way_in, way_of}
 
 -- The drops, in the order of the tests: the first row that holds decides. `wire` is the length of the frame on the
 -- wire.
@@ -55,6 +56,14 @@ way_or None way = ok_or way Reason.NoRoute
 unfoldable pub judged : Members → Ports → List ℕ → ℕ → Result Way Reason
 judged routes ports frame wire = way_or (first_reason (drops frame wire)) (way_from routes ports (packet_of frame))
 
+-- the same where its way was found elsewhere
+unfoldable pub judged_along : Option Way → List ℕ → ℕ → Result Way Reason
+judged_along way frame wire = way_or (first_reason (drops frame wire)) way
+
+-- where a lookup of the destination found this hop, by the entries of hop numbers and the sources of the ports
+abbrev pub judged_by : List Hop → List (List ℕ) → Option ℕ → List ℕ → ℕ → Result Way Reason
+judged_by hops sources found frame wire = judged_along (option_and_then (way_in hops sources) found) frame wire
+
 -- one less time to live (RFC 1812 section 5.3.1)
 abbrev pub lowered : List ℕ → List ℕ
 lowered header = with_time_to_live (time_to_live header - 1) header
@@ -91,6 +100,24 @@ outcome_of frame (Ok way) = record { verdict = Verdict.Send way.port (is_tagged 
 
 abbrev pub forwarded : Members → Ports → List ℕ → ℕ → Outcome
 forwarded routes ports frame wire = outcome_of frame (judged routes ports frame wire)
+
+-- the same where its way was found elsewhere
+abbrev pub forwarded_along : Option Way → List ℕ → ℕ → Outcome
+forwarded_along way frame wire = outcome_of frame (judged_along way frame wire)
+
+-- where a lookup of the destination found this hop
+abbrev pub forwarded_by : List Hop → List (List ℕ) → Option ℕ → List ℕ → ℕ → Outcome
+forwarded_by hops sources found frame wire = outcome_of frame (judged_by hops sources found frame wire)
+
+-- the destination of the packet, where the type is that of IPv4 and a header of 20 bytes is there (RFC 894, RFC 791
+-- section 3.1)
+unfoldable pub destination_in : List ℕ → Option ℕ
+destination_in frame =
+    if nat_lt (length frame) 14
+    then None
+    else (if nat_lt (length (packet_of frame)) 20
+    then None
+    else (if type_of frame == 0x0800 then Some (destination_of (packet_of frame)) else None))
 
 -- a packet whose header is valid, and which isn't at the end of its way: the case in which no row of the drops holds
 pub record IsForwardable (packet : List ℕ) : Type 0 where

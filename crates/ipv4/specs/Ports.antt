@@ -8,11 +8,14 @@ use Rattle.ipv4.specs.declared.ports.Way.{Way}
 abbrev pub leaving : Hop → List ℕ → Way
 leaving entry from = record { port = entry.port; to = entry.to; from = from }
 
--- the way by a hop number's entry; none if there is no such entry, or its port has no source
+-- the way by a hop number's entry, with the entries and the sources of the ports; none if there is no such entry, or its
+-- port has no source
+abbrev pub way_in : List Hop → List (List ℕ) → ℕ → Option Way
+way_in hops sources hop =
+    option_and_then (λ entry. option_map (leaving entry) (slice_get sources entry.port)) (slice_get hops hop)
+
 abbrev pub way_of : Ports → ℕ → Option Way
-way_of ports hop =
-    option_and_then (λ entry. option_map (leaving entry) (slice_get ports.sources.items entry.port))
-    (slice_get ports.hops.items hop)
+way_of ports hop = way_in ports.hops.items ports.sources.items hop
 
 -- each address has 6 bytes, as a hardware address has
 abbrev pub HasAddresses : Ports → Type 0

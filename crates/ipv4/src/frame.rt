@@ -11,9 +11,10 @@ use crate::rewrite::rewrite;
 use crate::verdicts::Verdict;
 use lpm::Table;
 
-/// The verdict on the frame.
+/// The verdict on a frame that was `wire` bytes long and whose captured bytes are in one slice: what `verdict` says of
+/// one in a chain. Requires: `wire` is at least the number of bytes. Takes no memory.
 #[inline]
-pub(crate) fn verdict_of_frame(frame: &[u8], table: &Table, ports: &Ports, wire: usize) -> Verdict
+pub fn verdict_of_frame(frame: &[u8], table: &Table, ports: &Ports, wire: usize) -> Verdict
     requires { length frame.now ≤ wire }
     ensures { result ≡ (forwarded table.now.members ports.now frame.now wire).verdict }
 {

@@ -1,8 +1,8 @@
 //! The verdict on a frame whose header is contiguous.
-ghost use Rattle.std.specs.Prelude.{◌≡◌, ◌≤◌, ◌==◌, IfSome, length};
+ghost use Rattle.std.specs.Prelude.{◌≡◌, ◌≤◌, ◌==◌, IfErr, IfOk, IfSome, None, OnOk, Some, length};
 ghost use Rattle.ipv4.specs.Checksum.{ones_complement_sum};
-ghost use Rattle.ipv4.specs.Fields.{header_len, header_of};
-ghost use Rattle.ipv4.specs.Forwarding.{judged, way_from};
+ghost use Rattle.ipv4.specs.Fields.{header_len, header_of, packet_of};
+ghost use Rattle.ipv4.specs.Forwarding.{drops, first_reason, judged, way_from};
 ghost use Rattle.ipv4.specs.Prefetched.{IsPrefetched};
 
 use crate::checksum::sum16;
@@ -12,7 +12,7 @@ use crate::prefetched::{Prefetched, next_hop};
 use crate::verdicts::Reason;
 use lpm::Table;
 
-/// The way of the frame, or why it is dropped, tested in the order of the table of reasons.
+/// The way of the frame, or why it is dropped.
 #[inline]
 #[tactic(auto, unfolding(crate::specs::Forwarding::judged))]
 pub(crate) fn judge(
@@ -25,6 +25,20 @@ pub(crate) fn judge(
     requires wire { length frame.now ≤ wire }
     requires prefetched { IfSome prefetched (IsPrefetched table.now.members) }
     ensures { result ≡ judged table.now.members ports.now frame.now wire }
+{
+    let packet = checked(frame, wire)?;
+    way_from(packet, table, ports, prefetched).ok_or(Reason::NoRoute)
+}
+
+/// The packet of a frame that isn't dropped before its destination is looked up, or why it is, tested in the order of
+/// the table of reasons.
+#[inline]
+pub(crate) fn checked(frame: &[u8], wire: usize) -> Result<&[u8], Reason>
+    requires { length frame.now ≤ wire }
+    ensures passed { OnOk result (first_reason (drops frame.now wire) ≡ None) }
+    ensures packet { IfOk result (λ packet. packet.now ≡ packet_of frame.now) }
+    ensures headed { IfOk result (λ packet. 20 ≤ length packet.now) }
+    ensures dropped { IfErr result (λ reason. first_reason (drops frame.now wire) ≡ Some reason) }
 {
     if frame.len() < ETHERNET {
         return Err(Reason::Short);
@@ -63,7 +77,7 @@ pub(crate) fn judge(
     if packet[8] < 2 {
         return Err(Reason::Expired);
     }
-    way_from(packet, table, ports, prefetched).ok_or(Reason::NoRoute)
+    Ok(packet)
 }
 
 /// Whether the header's checksum is right.

@@ -1,12 +1,13 @@
 //! Laws of forwarding, each the contract of a function without a body.
-ghost use Rattle.std.specs.Prelude.{◌≡◌, ◌<◌, ℕ, Bool, List, length};
+ghost use Rattle.std.specs.Prelude.{◌≡◌, ◌<◌, ℕ, Bool, List, length, unwrap_or};
+ghost use Rattle.lpm.specs.Match.{lookup_in};
 ghost use Rattle.lpm.specs.Prefixes.{Members};
 ghost use Rattle.ipv4.specs.declared.ports.Ports.{Ports};
 ghost use Rattle.ipv4.specs.declared.verdicts.Verdict.TheVariants.{Send};
 ghost use Rattle.ipv4.specs.Bytes.{AreBytes};
 ghost use Rattle.ipv4.specs.Checksum.{ones_complement_sum};
 ghost use Rattle.ipv4.specs.Fields.{header_of, packet_of, time_to_live};
-ghost use Rattle.ipv4.specs.Forwarding.{forwarded};
+ghost use Rattle.ipv4.specs.Forwarding.{destination_in, forwarded, forwarded_by};
 ghost use Rattle.ipv4.specs.Ports.{HasAddresses};
 
 /// A frame that is sent has a correct checksum again, and the same length.
@@ -32,4 +33,11 @@ pub fn a_sent_frame_is_sent_again()
         → HasAddresses ports → AreBytes frame → let sent = forwarded routes ports frame wire in
         sent.verdict ≡ Send port tagged → 1 < time_to_live (packet_of sent.frame)
         → (forwarded routes ports sent.frame wire).verdict ≡ Send port tagged }
+{}
+
+/// A frame whose destination was looked up elsewhere becomes what it becomes where the same routes are looked up here.
+pub fn a_looked_up_frame_is_forwarded()
+    ensures { (routes : Members) (ports : Ports) (frame : List ℕ) (wire : ℕ)
+        → let found = lookup_in routes (unwrap_or (destination_in frame) 0) in
+        forwarded_by ports.hops.items ports.sources.items found frame wire ≡ forwarded routes ports frame wire }
 {}

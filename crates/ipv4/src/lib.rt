@@ -17,6 +17,7 @@
 mod chains;
 mod checksum;
 mod fields;
+mod found;
 mod frame;
 mod head;
 mod judge;
@@ -28,8 +29,12 @@ mod verdicts;
 
 pub use chains::{forward, forward_prefetched, verdict};
 pub use checksum::sum16;
-pub use frame::forward_frame;
-pub use laws::{a_frame_is_sent_by_a_port, a_sent_frame_is_right, a_sent_frame_is_sent_again};
-pub use ports::{Hop, MAX_PORTS, Ports};
+pub use found::{destination, forward_along, verdict_along};
+pub use frame::{forward_frame, verdict_of_frame};
+pub use laws::{
+    a_frame_is_sent_by_a_port, a_looked_up_frame_is_forwarded, a_sent_frame_is_right,
+    a_sent_frame_is_sent_again,
+};
+pub use ports::{Hop, MAX_PORTS, Ports, Way};
 pub use prefetched::{LOOKUPS, Lookups, Prefetched, presumed_destination};
 pub use verdicts::{Reason, Verdict};

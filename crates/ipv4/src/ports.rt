@@ -6,6 +6,7 @@ ghost use Rattle.ipv4.specs.Ports.{way_of};
 pub const MAX_PORTS: usize = 16;
 
 /// Where a hop number leads: a port, and the address of the neighbour on it.
+#[repr(C)]
 #[derive(Clone, Copy, Debug, PartialEq, Eq)]
 pub struct Hop {
     pub port: u32,
@@ -22,7 +23,7 @@ pub struct Ports {
 
 /// The way of a frame that is sent: its port, and the two addresses that it leaves with.
 #[derive(Clone, Copy)]
-pub(crate) struct Way {
+pub struct Way {
     pub port: u32,
     pub to: [u8; 6],
     pub from: [u8; 6],

@@ -17,7 +17,7 @@ use Rattle.lpm.proofs.Masks.{size_pos, first_bits-masked, masked_le, below_next,
 use Rattle.lpm.proofs.Firsts.{deeper_has, has_deeper_is}
 
 -- a pair is at most another if its first part is smaller, or the same and its second at most the other's
-abbrev IsLePair : ℕ → ℕ → ℕ → ℕ → Type 0
+abbrev pub IsLePair : ℕ → ℕ → ℕ → ℕ → Type 0
 IsLePair a b c d = (a < b) ⊎ ((a ≡ b) × (c ≤ d))
 
 le_pair : (a b c d : ℕ) (r s : Ordering) → MatchOrdering r (a < b) (a ≡ b) (b < a) → MatchOrdering s (c < d) (c ≡ d) (d < c)
@@ -40,7 +40,7 @@ from_le : (p q : Prefix) → IsLeBy prefix_cmp p q → IsLePair p.address q.addr
 from_le p q e = le_pair _ _ _ _ (nat_cmp p.address q.address) (nat_cmp p.depth q.depth) (ranked p.address q.address _ refl)
     (ranked p.depth q.depth _ refl) e
 
-to_le : (p q : Prefix) → IsLePair p.address q.address p.depth q.depth → IsLeBy prefix_cmp p q
+pub to_le : (p q : Prefix) → IsLePair p.address q.address p.depth q.depth → IsLeBy prefix_cmp p q
 to_le p q h = pair_le _ _ _ _ (nat_cmp p.address q.address) (nat_cmp p.depth q.depth) (ranked p.address q.address _ refl)
     (ranked p.depth q.depth _ refl) h
 

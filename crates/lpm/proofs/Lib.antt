@@ -22,3 +22,5 @@ pub mod Shows
 pub mod Rights
 pub mod Shallow
 pub mod Rows
+pub mod Counts
+pub mod Walks

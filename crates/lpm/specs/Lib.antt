@@ -13,3 +13,4 @@ pub mod Routes
 pub mod Right
 pub mod Shown
 pub mod NextHop
+pub mod Listing

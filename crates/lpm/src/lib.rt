@@ -22,10 +22,12 @@ mod overwrite;
 mod packed_entry;
 mod places;
 mod prefix;
+mod route;
 mod table;
 
 pub use entry::Entry;
 pub use fault::RouteFault;
 pub use next_hop::NextHop;
 pub use prefix::Prefix;
+pub use route::Route;
 pub use table::Table;

@@ -1,6 +1,6 @@
 //! The members of a table in a search tree, so a member is found, added or removed without visiting all others.
 
-ghost use Rattle.std.specs.Prelude.{◌≡◌, ℕ, ◌≤◌, ◌<◌, ◌-◌, OnOk, OnErr, IfErr, IsSome};
+ghost use Rattle.std.specs.Prelude.{◌≡◌, ℕ, ◌≤◌, ◌<◌, ◌-◌, OnOk, OnErr, IfErr, IfSome, IfNone, IsSome};
 ghost use Rattle.std.specs.FinMap as map;
 ghost use Rattle.std.specs.Bool.{OnTrue, OnFalse};
 ghost use Rattle.std.specs.BTreeMap.Range.{IsLeBy};
@@ -9,6 +9,7 @@ ghost use Rattle.lpm.specs.Prefixes.{AreMembers, first_bits, prefix_cmp};
 ghost use Rattle.lpm.specs.Between.{SomeBetween, NoneBetween};
 ghost use Rattle.lpm.specs.Match.{longest};
 ghost use Rattle.lpm.specs.Groups.{has_deeper};
+ghost use Rattle.lpm.specs.Listing.{IsFirstFrom, NoneFrom};
 
 use crate::fault::RouteFault;
 use crate::packed_entry::PackedEntry;
@@ -93,6 +94,24 @@ impl Members {
             tried -= 1;
         }
         PackedEntry::none()
+    }
+
+    /// How many members there are.
+    pub fn len(&self) -> usize
+        ensures { result ≡ map.len self.now }
+    {
+        self.hops.len()
+    }
+
+    /// The first member that is not before `low`, with its hop.
+    pub fn first_from(&self, low: Prefix) -> Option<(Prefix, u32)>
+        ensures found { IfSome result (λ p. IsFirstFrom self.now low p.0 p.1) }
+        ensures none { IfNone result (NoneFrom self.now low) }
+    {
+        match self.hops.range(low..).next() {
+            Some((prefix, hop)) => Some((*prefix, *hop)),
+            None => None,
+        }
     }
 
     /// Whether a member is between two prefixes, inclusive.

@@ -18,6 +18,9 @@ use std::alloc::{AllocError, Global};
 use std::marker::Model;
 
 mod adding;
+mod clearing;
+mod listing;
+mod refusing;
 mod removing;
 
 /// The maximum depth of a route.

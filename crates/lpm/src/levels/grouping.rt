@@ -1,6 +1,6 @@
 //! The groups: memory for one more, giving an entry a group, and taking it back.
 
-ghost use Rattle.std.specs.Prelude.{◌≡◌, ◌+◌, ◌<◌, ◌^◌, ◌↔◌, ℕ, true, false, if◌then◌else◌, OnOk, OnErr, IfErr};
+ghost use Rattle.std.specs.Prelude.{◌≡◌, ◌+◌, ◌<◌, ◌^◌, ◌↔◌, ℕ, true, false, if◌then◌else◌, OnOk, OnErr, IfErr, IsTrue};
 ghost use Rattle.std.specs.Prelude.{◌⊎◌};
 ghost use Rattle.lpm.specs.TableEntry.{is_group};
 ghost use Rattle.lpm.specs.TwoLevels.{first_at, entry_at, used_of, Grows, Regroups};
@@ -86,6 +86,14 @@ impl Levels {
             Ok(()) => Ok(()),
             Err(_) => Err(RouteFault::Memory),
         }
+    }
+
+    /// Whether the entry has no group, and the maximum number of groups is in use for other entries.
+    pub fn lacks_group(&self, first: usize) -> bool
+        requires { first < 2 ^ self.now.bits }
+        ensures { IsTrue result ↔ ((is_group (first_at self.now first) ≡ false) × (used_of self.now ≡ self.now.limit)) }
+    {
+        !self.first.at(first).is_group() && self.is_full()
     }
 
     /// Gives the entry a group, if it has none.

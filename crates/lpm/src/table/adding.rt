@@ -11,7 +11,7 @@ use crate::places::first_of;
 use crate::prefix::Prefix;
 
 /// One more than the maximum next hop.
-const HOPS: u32 = 1 << 24;
+pub(super) const HOPS: u32 = 1 << 24;
 
 impl Table {
     /// Adds a route for the first `depth` bits of `addr`, or changes the next hop of an existing one.

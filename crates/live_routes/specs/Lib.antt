@@ -1,0 +1,5 @@
+pub mod Forwarding
+pub mod Faults
+pub mod Changes
+pub mod Seen
+pub mod Routing

@@ -1,0 +1,5 @@
+mod Ends
+mod Kept
+mod Shown
+mod Rows
+mod Unsound

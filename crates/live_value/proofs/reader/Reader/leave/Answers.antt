@@ -1,0 +1,12 @@
+use Rattle.std.proofs.Common.{rules, ap, ◌∙◌}
+use Rattle.std.specs.Arc.{arc_value}
+use Rattle.live_value.proofs.Ends.{may_leave_with}
+use Rattle.live_value.proofs.reader.Reader.leave.Goals as goal
+
+pub store-requires : goal.store-requires
+store-requires g c = let was = c.self.invariant in (
+  search rules,
+  search rules,
+  may_leave_with arc_value _ _ _ _ _ _ _ _ was.small (ap (λ v. v.inside) c.self.view_is
+      ∙ c.requires) c.take-held.ensures.value was.at was.last c.exchange.ensures.3,
+)

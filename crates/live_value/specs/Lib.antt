@@ -1,0 +1,4 @@
+pub mod Pasts
+pub mod Lanes
+pub mod Lines
+pub mod Publishing
