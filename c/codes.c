@@ -16,7 +16,7 @@
     X(HK_E_USED, "the handle has something already")                          \
     X(HK_E_SHARED, "other handles share it")                                  \
     X(HK_E_MEMORY, "out of memory")                                           \
-    X(HK_E_PLAN, "no such rings, pool, table or window can be made")          \
+    X(HK_E_PLAN, "no such rings, pool, table, port or window can be made") \
     X(HK_E_WORN, "the positions of the ring are used up")                     \
     X(HK_E_PARTS, "too many splits")                                          \
     X(HK_E_NOTYOURS, "a number that the handle doesn't have, or given twice") \

@@ -42,6 +42,27 @@ extern int64_t hkx_routes_remove(struct hk_cell *h, uint32_t address, uint32_t d
 extern int64_t hkx_routes_lookup(struct hk_cell *h, uint32_t address);
 extern int64_t hkx_routes_lookup_bulk(struct hk_cell *h, const uint32_t *addresses, size_t addresses_length,
     uint32_t *hops, size_t hops_length);
+extern int64_t hkx_fib_open(struct hk_cell *h, uint32_t bits, uint32_t groups, const hk_port *ports,
+    size_t ports_length, const hk_next_hop *hops, size_t hops_length);
+extern int64_t hkx_fib_share(struct hk_cell *h, struct hk_cell *second);
+extern int64_t hkx_fib_add(struct hk_cell *h, uint32_t address, uint32_t depth, uint32_t hop);
+extern int64_t hkx_fib_remove(struct hk_cell *h, uint32_t address, uint32_t depth);
+extern int64_t hkx_fib_clear(struct hk_cell *h);
+extern int64_t hkx_fib_set_hop(struct hk_cell *h, uint32_t number, const hk_next_hop *hop);
+extern int64_t hkx_fib_set_port(struct hk_cell *h, uint32_t number, const hk_port *port);
+extern int64_t hkx_fib_publish(struct hk_cell *h);
+extern int64_t hkx_fib_pending(struct hk_cell *h);
+extern int64_t hkx_fib_get(struct hk_cell *h, uint32_t address, uint32_t depth);
+extern int64_t hkx_fib_count(struct hk_cell *h);
+extern int64_t hkx_fib_walk(struct hk_cell *h, uint32_t address, uint32_t depth, hk_fib_route *place);
+extern int64_t hkx_forward_lookup(struct hk_cell *h, uint32_t address);
+extern int64_t hkx_forward_lookup_bulk(struct hk_cell *h, const uint32_t *addresses, size_t addresses_length,
+    uint32_t *hops, size_t hops_length);
+extern int64_t hkx_forward_frame(struct hk_cell *h, uint8_t *frame, size_t frame_length, size_t wire);
+extern int64_t hkx_forward_burst(struct hk_cell *h, hk_frame *frames, size_t frames_length, uint32_t *verdicts,
+    size_t verdicts_length);
+extern int64_t hkx_forward_verdict(struct hk_cell *h, const uint8_t *frame, size_t frame_length, size_t wire);
+extern int64_t hkx_forward_class(struct hk_cell *h, size_t port, const uint8_t *frame, size_t frame_length);
 extern int64_t hkx_reorder_open(struct hk_cell *h, uint32_t size);
 extern int64_t hkx_reorder_insert(struct hk_cell *h, uint64_t number, uint64_t word);
 extern int64_t hkx_reorder_drain(struct hk_cell *h, uint64_t *words, size_t words_length);
@@ -378,6 +399,153 @@ int64_t hk_routes_lookup_bulk(hk_routes *routes, const uint32_t *addresses, uint
 
 void hk_routes_free(hk_routes *routes) {
     struct hk_cell cell = {routes};
+    (void)hkx_free(&cell);
+}
+
+/* ---- Forwarding tables ---- */
+
+int64_t hk_fib_open(hk_fib **out, uint32_t bits, uint32_t groups, const hk_port *ports, size_t port_count,
+                    const hk_next_hop *hops, size_t hop_count) {
+    static const hk_port no_ports[1];
+    static const hk_next_hop no_hops[1];
+    if (!out || (port_count > 0 && !ports) || (hop_count > 0 && !hops)) return HK_E_NULL;
+    if (port_count > HK_MOST_PORTS || hop_count > HK_MOST_HOPS) return HK_E_PLAN;
+    struct hk_cell cell = {NULL};
+    int64_t code =
+        hkx_fib_open(&cell, bits, groups, ports ? ports : no_ports, port_count, hops ? hops : no_hops, hop_count);
+    if (code >= 0) *out = cell.at;
+    return code;
+}
+
+int64_t hk_fib_share(hk_fib *fib, hk_forward **out) {
+    if (!out) return HK_E_NULL;
+    struct hk_cell first = {fib}, second = {NULL};
+    int64_t code = hkx_fib_share(&first, &second);
+    if (code >= 0) *out = second.at;
+    return code;
+}
+
+int64_t hk_fib_add(hk_fib *fib, uint32_t address, uint32_t depth, uint32_t hop) {
+    struct hk_cell cell = {fib};
+    return hkx_fib_add(&cell, address, depth, hop);
+}
+
+int64_t hk_fib_remove(hk_fib *fib, uint32_t address, uint32_t depth) {
+    struct hk_cell cell = {fib};
+    return hkx_fib_remove(&cell, address, depth);
+}
+
+int64_t hk_fib_clear(hk_fib *fib) {
+    struct hk_cell cell = {fib};
+    return hkx_fib_clear(&cell);
+}
+
+int64_t hk_fib_set_hop(hk_fib *fib, uint32_t number, const hk_next_hop *hop) {
+    if (!hop) return HK_E_NULL;
+    struct hk_cell cell = {fib};
+    return hkx_fib_set_hop(&cell, number, hop);
+}
+
+int64_t hk_fib_set_port(hk_fib *fib, uint32_t number, const hk_port *port) {
+    if (!port) return HK_E_NULL;
+    struct hk_cell cell = {fib};
+    return hkx_fib_set_port(&cell, number, port);
+}
+
+int64_t hk_fib_publish(hk_fib *fib) {
+    struct hk_cell cell = {fib};
+    return hkx_fib_publish(&cell);
+}
+
+int64_t hk_fib_pending(hk_fib *fib) {
+    struct hk_cell cell = {fib};
+    return hkx_fib_pending(&cell);
+}
+
+int64_t hk_fib_get(hk_fib *fib, uint32_t address, uint32_t depth) {
+    struct hk_cell cell = {fib};
+    return hkx_fib_get(&cell, address, depth);
+}
+
+int64_t hk_fib_count(hk_fib *fib) {
+    struct hk_cell cell = {fib};
+    return hkx_fib_count(&cell);
+}
+
+int64_t hk_fib_walk(hk_fib *fib, uint32_t address, uint32_t depth, hk_fib_route *route) {
+    if (!route) return HK_E_NULL;
+    struct hk_cell cell = {fib};
+    return hkx_fib_walk(&cell, address, depth, route);
+}
+
+void hk_fib_free(hk_fib *fib) {
+    struct hk_cell cell = {fib};
+    (void)hkx_free(&cell);
+}
+
+int64_t hk_forward_lookup(hk_forward *forward, uint32_t address) {
+    struct hk_cell cell = {forward};
+    return hkx_forward_lookup(&cell, address);
+}
+
+int64_t hk_forward_lookup_bulk(hk_forward *forward, const uint32_t *addresses, uint32_t *hops, size_t n) {
+    static uint32_t none[1];
+    if (n > SIZE_MAX / 8) return HK_E_COUNT;
+    if (n > 0 && (!addresses || !hops)) return HK_E_NULL;
+    struct hk_cell cell = {forward};
+    return hkx_forward_lookup_bulk(&cell, addresses ? addresses : none, n, hops ? hops : none, n);
+}
+
+/* ---- Forwarding of frames ---- */
+
+/* Checks a frame: 0 if the call may go on, else the code to return. */
+static inline int64_t refused_frame(const hk_forward *forward, const void *bytes, size_t held, size_t wire) {
+    if (!forward || !bytes) return HK_E_NULL;
+    return held > wire ? HK_E_COUNT : HK_OK;
+}
+
+int64_t hk_forward_frame(hk_forward *forward, uint8_t *bytes, size_t held, size_t wire) {
+    int64_t code = refused_frame(forward, bytes, held, wire);
+    if (code < 0) return code;
+    struct hk_cell cell = {forward};
+    return hkx_forward_frame(&cell, bytes, held, wire);
+}
+
+int64_t hk_forward_verdict(hk_forward *forward, const uint8_t *bytes, size_t held, size_t wire) {
+    int64_t code = refused_frame(forward, bytes, held, wire);
+    if (code < 0) return code;
+    struct hk_cell cell = {forward};
+    return hkx_forward_verdict(&cell, bytes, held, wire);
+}
+
+/* Checks the frames of a burst. */
+static inline int64_t refused_frames(const hk_frame *frames, size_t n) {
+    bool wrong = n == 0;
+    for (size_t i = 0; i < n; i++) {
+        if (!frames[i].bytes) return HK_E_NULL;
+        wrong |= frames[i].held > frames[i].wire;
+    }
+    return wrong ? HK_E_COUNT : HK_OK;
+}
+
+/* The export changes what the frames point to, and not the array of frames. */
+int64_t hk_forward_burst(hk_forward *forward, const hk_frame *frames, uint32_t *verdicts, size_t n) {
+    if (n > HK_FORWARD_MOST) return HK_E_COUNT;
+    if (!forward || (n > 0 && (!frames || !verdicts))) return HK_E_NULL;
+    int64_t code = refused_frames(frames, n);
+    if (code < 0) return code;
+    struct hk_cell cell = {forward};
+    return hkx_forward_burst(&cell, (hk_frame *)frames, n, verdicts, n);
+}
+
+int64_t hk_forward_class(hk_forward *forward, size_t port, const uint8_t *bytes, size_t held) {
+    if (!forward || !bytes) return HK_E_NULL;
+    struct hk_cell cell = {forward};
+    return hkx_forward_class(&cell, port, bytes, held);
+}
+
+void hk_forward_free(hk_forward *forward) {
+    struct hk_cell cell = {forward};
     (void)hkx_free(&cell);
 }
 

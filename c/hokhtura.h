@@ -1,16 +1,18 @@
-/* Hokhtura for C and C++: rings of 64-bit words, pools of numbers, routes by longest prefix, reorder windows.
+/* Hokhtura for C and C++: rings of 64-bit words, pools of numbers, routes by longest prefix, forwarding of frames,
+ * reorder windows.
  *
- * HANDLES. `hk_hand`, `hk_pool`, `hk_routes` and `hk_reorder` are handles. Each handle is used by one thread at a time:
- * no two calls on one handle overlap. Different handles may be used at the same time, without a lock. Threads reach
- * what they share, a set of rings, a pool or a table of routes, through a handle for each thread: `hk_hand_split`,
- * `hk_pool_split`, `hk_routes_share`. To pass a handle to another thread, order the two threads' calls on it by the
- * start or the end of a thread, a lock, or a sequentially consistent atomic.
+ * HANDLES. `hk_hand`, `hk_pool`, `hk_routes`, `hk_fib`, `hk_forward` and `hk_reorder` are handles. Each is used by one
+ * thread at a time: no two calls on one handle overlap. Different handles may be used at the same time, without a lock.
+ * Threads reach what they share, a set of rings, a pool, a table of routes or a forwarding table, through a handle for
+ * each thread: `hk_hand_split`, `hk_pool_split`, `hk_routes_share`, `hk_fib_share`. To pass a handle to another thread,
+ * order the two threads' calls on it by the start or the end of a thread, a lock, or a sequentially consistent atomic.
  *
  * RETURN VALUES. A call returns a count of 0 or more (HK_OK is 0), or a code below 0, `enum hk_code`. Unless a call
  * says otherwise, a code means that nothing was changed: no handle, no array, no ring. Of several mistakes a call
- * returns the first of these: HK_E_COUNT, if it is given an array of words, numbers or addresses and a count above the
- * largest; HK_E_NULL; the others in the order in which its comment lists them. Such an array may be null if its count
- * is 0. HK_E_MEMORY may come before any of these. No call ends the process, blocks, sleeps or loops without a limit.
+ * returns the first of these: HK_E_COUNT, if it is given an array of words, numbers, addresses or frames and a count
+ * above the largest; HK_E_NULL; the others in the order in which its comment lists them. Such an array may be null if
+ * its count is 0. HK_E_MEMORY may come before any of these. No call ends the process, blocks, sleeps or loops without a
+ * limit.
  *
  * TRIES. A put or a take has two steps: it reserves positions, and finishes. A peek has only the first step, and a call
  * that finishes only the second. If other threads come first, a call tries each of its steps 1,024 times at most, the
@@ -21,8 +23,9 @@
  * frees what they share.
  *
  * WHAT A CALL CAN'T SEE, and the caller must avoid: a handle that was freed; one handle in two calls at once; an array
- * with fewer places than the count that is given, or that overlaps another argument; a call from a signal handler, or
- * in the child of a process with threads after fork. Everything else returns a code. */
+ * with fewer places than the count that is given, or that overlaps another argument; a frame that overlaps another one
+ * of the same call; a call from a signal handler, or in the child of a process with threads after fork. Everything else
+ * returns a code. */
 #ifndef HOKHTURA_H
 #define HOKHTURA_H 1
 
@@ -66,7 +69,7 @@ enum hk_code {
     HK_E_USED = -11,    /* not returned by any call of this header */
     HK_E_SHARED = -12,  /* other handles share it */
     HK_E_MEMORY = -13,  /* out of memory */
-    HK_E_PLAN = -14,    /* no such rings, pool, table or window can be made */
+    HK_E_PLAN = -14,    /* no such rings, pool, table, port or window can be made */
     HK_E_WORN = -15,    /* the ring's positions, 2^44 of them, are used up */
     HK_E_PARTS = -16,   /* too many splits lie between this hand and the first one (63 at most) */
     HK_E_NOTYOURS = -17, /* a number that this handle of the pool doesn't have, has cached, or that is given twice */
@@ -241,6 +244,149 @@ HK_API HK_CHECKED int64_t hk_routes_lookup(hk_routes *routes, uint32_t address);
 HK_API HK_CHECKED int64_t hk_routes_lookup_bulk(hk_routes *routes, const uint32_t *addresses, uint32_t *hops, size_t n);
 /* Frees a handle, and with the last one the table; null is allowed. */
 HK_API void hk_routes_free(hk_routes *routes);
+
+/* ---- Forwarding tables: routes that change while lookups run ----------------------------------------------------- */
+
+/* The writer's handle on a forwarding table: routes to the numbers of next hops, the next hops, and the ports. One
+ * thread at a time changes it. Readers see no change before hk_fib_publish, and then see all changes at once. No call
+ * waits: a change or a publish that can't be made yet, since a reader is still in a call that began before the last
+ * publish, is refused with HK_E_PENDING and changes nothing; call again. There are two copies of the routes. */
+typedef struct hk_fib hk_fib;
+
+/* A reader's handle, for one thread at a time. It looks addresses up and forwards frames. Each call is answered by one
+ * publish, which is no older than any that this handle saw. A reader neither waits nor takes memory. */
+typedef struct hk_forward hk_forward;
+
+/* The largest number of ports, of next hops, and of frames in one burst. */
+#define HK_MOST_PORTS 256
+#define HK_MOST_HOPS 16777216
+#define HK_FORWARD_MOST 64
+
+/* A port: its hardware address, its IPv4 address as a number, and how many bits of that are the prefix of the port's
+ * net, 1 to 32; with 0 the port has no IPv4 address. `zero` is ignored. */
+typedef struct hk_port {
+    uint32_t address;
+    uint8_t mac[6];
+    uint8_t depth;
+    uint8_t zero;
+} hk_port;
+
+/* Where a hop number of the routes leads: the number of a port, and the hardware address of the neighbour on it. A hop
+ * number without a next hop, or whose port isn't there, leads nowhere: so routes for the router's own addresses need no
+ * port, and a table that is only looked up needs neither ports nor next hops. */
+typedef struct hk_next_hop {
+    uint32_t port;
+    uint8_t to[6];
+} hk_next_hop;
+
+/* A route: the first `depth` bits of an address, whose other bits are 0, and the number of its next hop. */
+typedef struct hk_fib_route {
+    uint32_t address;
+    uint32_t depth;
+    uint32_t hop;
+} hk_fib_route;
+
+/* [memory] Makes a table without routes and with these ports and next hops, which are copied: 0 to HK_MOST_PORTS and 0
+ * to HK_MOST_HOPS. Its first level has 2^bits entries, bits 16 or 24, and it has at most `groups` groups of 2^(32 -
+ * bits) entries. `ports` and `hops` may be null where there are none. HK_E_NULL; HK_E_PLAN: other bits, too many, or a
+ * depth above 32; HK_E_MEMORY. */
+HK_API HK_CHECKED int64_t hk_fib_open(hk_fib **out, uint32_t bits, uint32_t groups, const hk_port *ports,
+                                      size_t port_count, const hk_next_hop *hops, size_t hop_count);
+/* [memory] Makes a reader, which may go to another thread. HK_E_NULL, HK_E_KIND, HK_E_MEMORY. */
+HK_API HK_CHECKED int64_t hk_fib_share(hk_fib *fib, hk_forward **out);
+/* [memory] Draws up a route for the first `depth` bits of an address, 1 to 32, or another next hop of it, whose number
+ * is below 2^24. HK_E_NULL, HK_E_KIND, HK_E_PENDING, HK_E_DEPTH, HK_E_HOP, HK_E_GROUPS, HK_E_MEMORY. */
+HK_API HK_CHECKED int64_t hk_fib_add(hk_fib *fib, uint32_t address, uint32_t depth, uint32_t hop);
+/* [memory] Draws up the removal of a route. HK_E_NULL, HK_E_KIND, HK_E_PENDING, HK_E_DEPTH, HK_E_NOROUTE,
+ * HK_E_MEMORY. */
+HK_API HK_CHECKED int64_t hk_fib_remove(hk_fib *fib, uint32_t address, uint32_t depth);
+/* [memory] Draws up the removal of all routes. HK_E_NULL, HK_E_KIND, HK_E_PENDING, HK_E_MEMORY. */
+HK_API HK_CHECKED int64_t hk_fib_clear(hk_fib *fib);
+/* [memory] Draws up another next hop for a number below the count that the table was opened with. HK_E_NULL, HK_E_KIND,
+ * HK_E_PENDING, HK_E_HOP: there is no such number; HK_E_MEMORY. */
+HK_API HK_CHECKED int64_t hk_fib_set_hop(hk_fib *fib, uint32_t number, const hk_next_hop *hop);
+/* [memory] Draws up another port for a number below the count that the table was opened with. HK_E_NULL, HK_E_KIND,
+ * HK_E_PLAN: a depth above 32; HK_E_PENDING, HK_E_COUNT: there is no such number; HK_E_MEMORY. */
+HK_API HK_CHECKED int64_t hk_fib_set_port(hk_fib *fib, uint32_t number, const hk_port *port);
+/* [memory] Publishes all that is drawn up at once: readers see it from their next call on. HK_E_NULL, HK_E_KIND,
+ * HK_E_PENDING, HK_E_MEMORY. */
+HK_API HK_CHECKED int64_t hk_fib_publish(hk_fib *fib);
+/* How many changes readers don't see yet. HK_E_NULL, HK_E_KIND. */
+HK_API HK_CHECKED int64_t hk_fib_pending(hk_fib *fib);
+/* The number of the next hop of exactly this route, with what is drawn up. HK_E_NULL, HK_E_KIND, HK_E_DEPTH,
+ * HK_E_NOROUTE. */
+HK_API HK_CHECKED int64_t hk_fib_get(hk_fib *fib, uint32_t address, uint32_t depth);
+/* How many routes there are, with what is drawn up. HK_E_NULL, HK_E_KIND. */
+HK_API HK_CHECKED int64_t hk_fib_count(hk_fib *fib);
+/* Writes the first route, with what is drawn up, that isn't before this address and depth, in the order of addresses
+ * and then of depths. A walk over all routes begins with 0 and 0, and goes on with the address of the route found and
+ * its depth + 1. HK_E_NULL, HK_E_KIND; HK_E_NOROUTE: there is none. */
+HK_API HK_CHECKED int64_t hk_fib_walk(hk_fib *fib, uint32_t address, uint32_t depth, hk_fib_route *route);
+/* Frees the writer's handle; null is allowed. Readers keep what was published last. */
+HK_API void hk_fib_free(hk_fib *fib);
+
+/* The next hop's number of the longest published route that covers an address. HK_E_NULL, HK_E_KIND, HK_E_NOROUTE. */
+HK_API HK_CHECKED int64_t hk_forward_lookup(hk_forward *forward, uint32_t address);
+/* The same for n addresses, all by one publish: hops[i] is the next hop for addresses[i], or HK_NO_HOP. HK_E_COUNT: n
+ * is above SIZE_MAX / 8. HK_E_NULL, HK_E_KIND. */
+HK_API HK_CHECKED int64_t hk_forward_lookup_bulk(hk_forward *forward, const uint32_t *addresses, uint32_t *hops,
+                                                 size_t n);
+
+/* ---- Forwarding of frames ---------------------------------------------------------------------------------------- */
+
+/* A reader forwards Ethernet frames with IPv4 packets where they lie, by the routes, next hops and ports of one
+ * publish. What becomes of a frame is decided by its bytes and its length on the wire: it is dropped for the first
+ * reason of `enum hk_drop` that holds, and is unchanged then; or it is sent. A frame that is sent has the address of the
+ * next hop and that of the port it leaves through, a time to live one less, and a correct checksum; every other byte is
+ * as it was, and so an 802.1Q tag is kept. The caller sends it, or drops it.
+ *
+ * What a router does beside this is the caller's: hk_forward_class tells which frames are for the router itself and
+ * which must not be forwarded; the drops tell what ICMP is due for (RFC 1812 section 4.3.3); the caller compares the
+ * length of a frame with the MTU of the port that it leaves through. */
+
+/* A frame: `held` bytes of it are there, at an address that isn't null, and it had `wire` bytes, at least `held`. */
+typedef struct hk_frame {
+    uint8_t *bytes;
+    size_t held;
+    size_t wire;
+} hk_frame;
+
+/* A verdict is the number of a port, plus HK_TAGGED if the frame has an 802.1Q tag; or HK_DROP and the number of a
+ * reason. */
+#define HK_TAGGED 0x10000
+#define HK_DROP 0x20000
+enum hk_drop {
+    HK_DROP_SHORT = HK_DROP + 1,       /* the bytes end before the type, or before the end of the IPv4 header */
+    HK_DROP_NOTIPV4 = HK_DROP + 2,     /* the type isn't that of IPv4 (RFC 894) */
+    HK_DROP_BADHEADER = HK_DROP + 3,   /* the version is not 4, or the header shorter than 20 bytes (RFC 1812, 5.2.2) */
+    HK_DROP_BADLENGTH = HK_DROP + 4,   /* the total length is below the header's, or above that on the wire (5.2.2) */
+    HK_DROP_BADCHECKSUM = HK_DROP + 5, /* the header's checksum is wrong (5.2.2) */
+    HK_DROP_EXPIRED = HK_DROP + 6,     /* the time to live is 0 or 1 (5.3.1) */
+    HK_DROP_NOROUTE = HK_DROP + 7      /* no route covers the destination, or its hop leads nowhere (5.2.4) */
+};
+
+/* What a frame is addressed to: the bits of hk_forward_class. */
+#define HK_TO_PORT 1       /* the hardware address of the port that it came in through (IEEE 802.3, 3.2.4) */
+#define HK_TO_GROUP 2      /* a link-layer multicast or broadcast: not to be forwarded (RFC 1812, 5.3.4) */
+#define HK_TO_OWN 4        /* the IPv4 address of one of the ports: to be delivered here (RFC 1812, 5.2.3) */
+#define HK_TO_MULTICAST 8  /* a host group, 224.0.0.0 to 239.255.255.255 (RFC 1112, 4; RFC 1122, 3.2.1.3) */
+#define HK_TO_BROADCAST 16 /* 255.255.255.255, or all hosts of a port's net (RFC 1812, 5.3.5; RFC 1122, 3.2.1.3) */
+
+/* Forwards a frame of `held` bytes that had `wire` bytes on the wire. Returns the verdict; if the frame is sent, it is
+ * rewritten in place. HK_E_NULL; HK_E_COUNT: `wire` is below `held`; HK_E_KIND. */
+HK_API HK_CHECKED int64_t hk_forward_frame(hk_forward *forward, uint8_t *bytes, size_t held, size_t wire);
+/* Forwards n frames, 1 to HK_FORWARD_MOST, with their lookups together: verdicts[i] is that of frames[i]. Returns how
+ * many of them are sent. HK_E_NULL, also if the bytes of a frame are null; HK_E_COUNT, also if a frame has more bytes
+ * than it had on the wire; HK_E_KIND. */
+HK_API HK_CHECKED int64_t hk_forward_burst(hk_forward *forward, const hk_frame *frames, uint32_t *verdicts, size_t n);
+/* The verdict on a frame, which stays as it is. HK_E_NULL; HK_E_COUNT: `wire` is below `held`; HK_E_KIND. */
+HK_API HK_CHECKED int64_t hk_forward_verdict(hk_forward *forward, const uint8_t *bytes, size_t held, size_t wire);
+/* What a frame is addressed to that came in through a port, 0 to the number of ports - 1: the sum of the HK_TO_ bits
+ * that hold. Those of the IPv4 destination are 0 if the frame has no IPv4 packet; nothing else of its header is tested.
+ * HK_E_NULL, HK_E_KIND; HK_E_COUNT: there is no such port. */
+HK_API HK_CHECKED int64_t hk_forward_class(hk_forward *forward, size_t port, const uint8_t *bytes, size_t held);
+/* Frees a reader's handle; null is allowed. */
+HK_API void hk_forward_free(hk_forward *forward);
 
 /* ---- Reorder windows --------------------------------------------------------------------------------------------- */
 

@@ -40,6 +40,8 @@ struct all {
     hk_routes *routes, *lookups;
     hk_reorder *window;
     hk_pool *pool, *further;
+    hk_fib *fib;
+    hk_forward *forward, *share;
 };
 
 /* A split that is refused leaves the cache as it is. */
@@ -51,9 +53,49 @@ static void split_pool(struct all *all) {
     IS(hk_pool_try_put_bulk(all->pool, &number, 1), 1);
 }
 
+/* A change that is refused isn't drawn up, and neither the routes nor a reader see anything of it. */
+static void draw_up(struct all *all, int64_t code, int64_t pending, int64_t routes) {
+    tell(code);
+    if (code == HK_OK) return;
+    IS(hk_fib_pending(all->fib), pending), IS(hk_fib_count(all->fib), routes);
+}
+
+static void add(struct all *all, uint32_t address, uint32_t depth, uint32_t hop) {
+    int64_t pending = hk_fib_pending(all->fib), routes = hk_fib_count(all->fib);
+    draw_up(all, hk_fib_add(all->fib, address, depth, hop), pending, routes);
+}
+
+/* A publish that is refused shows nothing. One that isn't may have been refused memory for the second copy, which the
+ * next call then makes up for. */
+static void publish(struct all *all) {
+    int64_t pending = hk_fib_pending(all->fib), routes = hk_fib_count(all->fib);
+    long before = count;
+    int64_t code = hk_fib_publish(all->fib);
+    draw_up(all, code, pending, routes);
+    if (code == HK_OK && before < from && from <= count) said++;
+}
+
+/* A forwarding table, a reader from before the first publish, and one from after it. */
+static void open_fib(struct all *all) {
+    hk_port ports[9] = {{0x0a000001, {2, 0, 0, 0, 0, 1}, 24, 0}};
+    hk_next_hop hops[9] = {{0, {2, 0, 0, 0, 0, 3}}};
+    tell(hk_fib_open(&all->fib, 16, 4, ports, 9, hops, 9));
+    if (!all->fib) return;
+    tell(hk_fib_share(all->fib, &all->forward));
+    add(all, 0x0a000000, 8, 1), add(all, 0x0a000000, 24, 2), add(all, 0x0a010000, 25, 3), add(all, 0x0b000000, 24, 4);
+    draw_up(all, hk_fib_set_hop(all->fib, 2, &hops[0]), hk_fib_pending(all->fib), hk_fib_count(all->fib));
+    draw_up(all, hk_fib_set_port(all->fib, 1, &ports[0]), hk_fib_pending(all->fib), hk_fib_count(all->fib));
+    publish(all);
+    tell(hk_fib_share(all->fib, &all->share));
+    draw_up(all, hk_fib_clear(all->fib), hk_fib_pending(all->fib), hk_fib_count(all->fib));
+    add(all, 0x0a000000, 24, 0), add(all, 0x0c000000, 25, 5);
+    draw_up(all, hk_fib_remove(all->fib, 0x0c000000, 25), hk_fib_pending(all->fib), hk_fib_count(all->fib));
+    publish(all);
+}
+
 static void open_all(struct all *all) {
     hk_ring_plan plans[2] = {{8, 0, HK_MULTI, HK_MULTI}, {5, 1, HK_HTS, HK_HTS}};
-    *all = (struct all){NULL, NULL, NULL, NULL, NULL, NULL, NULL};
+    *all = (struct all){NULL, NULL, NULL, NULL, NULL, NULL, NULL, NULL, NULL, NULL};
     tell(hk_hand_open(&all->hand, plans, 2));
     if (all->hand) tell(hk_hand_split(all->hand, &all->second));
     tell(hk_routes_open(&all->routes, 16, 4));
@@ -63,6 +105,7 @@ static void open_all(struct all *all) {
         tell(hk_routes_add(all->routes, 0x0a010000, 25, 3));
         tell(hk_routes_share(all->routes, &all->lookups));
     }
+    open_fib(all);
     tell(hk_reorder_open(&all->window, 16));
     tell(hk_pool_open(&all->pool, 2000, 8, 2));
     if (all->pool) split_pool(all);
@@ -76,6 +119,25 @@ static void free_all(struct all *all) {
     hk_reorder_free(all->window);
     hk_pool_free(all->pool);
     hk_pool_free(all->further);
+    hk_fib_free(all->fib);
+    hk_forward_free(all->forward);
+    hk_forward_free(all->share);
+}
+
+/* Calls of readers, which take no memory, while the writer's handle is there and after it is freed. */
+static void forward_all(struct all *all) {
+    uint8_t bytes[34] = {1, 2, 3, 4, 5, 6, 7, 8, 9, 10, 11, 12, 8, 0,
+        0x45, 0, 0, 20, 0, 0, 0, 0, 64, 17, 0x66, 0xd7, 10, 0, 0, 2, 10, 0, 0, 1};
+    hk_frame frame = {bytes, 34, 34};
+    uint32_t verdict = 7;
+    IS(hk_fib_get(all->fib, 0x0a000000, 24), 0), IS(hk_fib_count(all->fib), 1), IS(hk_fib_pending(all->fib), 0);
+    IS(hk_forward_lookup(all->forward, 0x0a000001), 0), IS(hk_forward_lookup(all->share, 0x0b000001), HK_E_NOROUTE);
+    hk_fib_free(all->fib), all->fib = NULL;
+    IS(hk_forward_verdict(all->forward, bytes, 34, 34), 0), IS(hk_forward_class(all->share, 0, bytes, 34), 6);
+    IS(hk_forward_frame(all->forward, bytes, 34, 34), 0), IS(hk_forward_burst(all->share, &frame, &verdict, 1), 1);
+    IS(verdict, 0), IS(bytes[22], 62);
+    hk_forward_free(all->forward), hk_forward_free(all->share);
+    all->forward = all->share = NULL;
 }
 
 /* Calls that take no memory, each once. */
@@ -91,6 +153,7 @@ static void call_all(struct all *all) {
     IS(hk_ring_count(all->hand, 1), 1);
     IS(hk_routes_lookup(all->lookups, 0x0a000001), 2);
     IS(hk_routes_lookup_bulk(all->lookups, addresses, hops, 2), HK_OK);
+    forward_all(all);
     hk_routes_free(all->lookups);
     all->lookups = NULL;
     IS(hk_routes_remove(all->routes, 0x0a000000, 24), HK_OK);
@@ -117,6 +180,8 @@ static void free_crosswise(struct all *all) {
     hk_hand_free((hk_hand *)all->routes), hk_reorder_free((hk_reorder *)all->lookups);
     hk_hand_free((hk_hand *)all->window);
     hk_reorder_free((hk_reorder *)all->pool), hk_routes_free((hk_routes *)all->further);
+    hk_reorder_free((hk_reorder *)all->forward), hk_hand_free((hk_hand *)all->share);
+    hk_forward_free((hk_forward *)all->fib);
 }
 
 int main(void) {

@@ -1,5 +1,5 @@
 /* Each call with each bad argument, and with each two: the code, and that nothing was changed. The calls are those of
- * refusals.txt, of which tools/c_refusals.py makes refusals.inc. The handles here are what it names. */
+ * refusals.txt, of which tools/lib/c_refusals.py makes refusals.inc. The handles here are what it names. */
 #include "tests.h"
 
 #include <signal.h>
@@ -8,7 +8,7 @@
 #include <unistd.h>
 
 /* Each set of rings has a ring of HTS sides and a ring of multi sides; an open span has three positions of seven. */
-enum { RINGS = 2, MULTI_RING = 1, SPAN = 3, LEFT = 4, NUMBERS = 8, POOL_RINGS = 1 };
+enum { RINGS = 2, MULTI_RING = 1, SPAN = 3, LEFT = 4, NUMBERS = 8, POOL_RINGS = 1, PORTS = 1, HOPS = 8, HELD = 34 };
 
 #define TWO(size, exact, put, take) ((hk_ring_plan[2]){{8, 0, HK_HTS, HK_HTS}, {size, exact, put, take}})
 
@@ -17,6 +17,8 @@ enum { RINGS = 2, MULTI_RING = 1, SPAN = 3, LEFT = 4, NUMBERS = 8, POOL_RINGS = 
 static hk_hand *idle, *other, *putting, *taking, *closed;
 static hk_pool *pool;
 static hk_routes *table, *shared, *sharer;
+static hk_fib *fib;
+static hk_forward *forwarder;
 static hk_reorder *window;
 
 /* What calls write to: handles, words and numbers. */
@@ -24,18 +26,31 @@ static struct made {
     hk_hand *hand;
     hk_pool *pool;
     hk_routes *table;
+    hk_fib *fib;
+    hk_forward *forwarder;
     hk_reorder *window;
 } made, unmade;
 static uint64_t given[HK_MOST + 1], places[HK_MOST + 1];
 static uint32_t numbers[HK_POOL_MOST + 1];
 static const uint32_t addresses[2] = {0x0a000001, 0x0a010001};
+static const hk_port one_port[1] = {{0x0a000001, {2, 0, 0, 0, 0, 1}, 24, 0}};
+static const hk_next_hop one_hop[1] = {{0, {2, 0, 0, 0, 0, 2}}};
+static hk_fib_route found;
 
 /* Numbers of the pool: two that its handle got, and pairs with one that may not be put. */
 static uint32_t own[2], free_ones[2], twice[2], cached[2], high[2], highest[2];
 
+/* A frame from 10.0.0.2 to 10.0.0.1, and lists of two: right ones, one without bytes, one longer than on the wire. */
+static uint8_t frame[HELD] = {1, 2, 3, 4, 5, 6, 7, 8, 9, 10, 11, 12, 8, 0,
+    0x45, 0, 0, 20, 0, 0, 0, 0, 64, 17, 0x66, 0xd7, 10, 0, 0, 2, 10, 0, 0, 1};
+static uint8_t unsent[HELD];
+static const hk_frame frames[2] = {{frame, HELD, HELD}, {frame, 14, 14}};
+static const hk_frame without_bytes[2] = {{frame, HELD, HELD}, {NULL, 0, 0}};
+static const hk_frame too_long[2] = {{frame, HELD, HELD}, {frame, HELD, HELD - 1}};
+
 /* What is seen of all handles. */
 struct seen {
-    int64_t spans[3], rings[4], numbers[NUMBERS + 1], hops[4];
+    int64_t spans[3], rings[4], numbers[NUMBERS + 1], hops[4], drawn[4], found[2], verdict, class;
     uint64_t words[HK_MOST], next;
 };
 
@@ -78,6 +93,17 @@ static void open_tables(void) {
     IS(hk_routes_share(shared, &sharer), HK_OK);
 }
 
+/* The forwarder has seen a route whose hop leads to its port, and another one is drawn up. */
+static void open_forwarder(void) {
+    hk_next_hop hops[HOPS] = {one_hop[0]};
+    hops[7] = hops[0];
+    IS(hk_fib_open(&fib, 16, 1, one_port, PORTS, hops, HOPS), HK_OK);
+    IS(hk_fib_add(fib, 0x0a000000, 8, 7), HK_OK), IS(hk_fib_publish(fib), HK_OK);
+    IS(hk_fib_share(fib, &forwarder), HK_OK);
+    IS(hk_fib_add(fib, 0x0a010000, 24, 5), HK_OK);
+    memcpy(unsent, frame, sizeof unsent);
+}
+
 /* The window waits for number 1, and number 2 is there. */
 static void open_window(void) {
     IS(hk_reorder_open(&window, 4), HK_OK);
@@ -98,6 +124,11 @@ static void look(struct seen *seen) {
         seen->hops[2 * i] = hk_routes_lookup(table, addresses[i]);
         seen->hops[2 * i + 1] = hk_routes_lookup(shared, addresses[i]);
     }
+    seen->drawn[0] = hk_fib_get(fib, 0x0a000000, 8), seen->drawn[1] = hk_fib_get(fib, 0x0a010000, 24);
+    seen->drawn[2] = hk_fib_count(fib), seen->drawn[3] = hk_fib_pending(fib);
+    for (int i = 0; i < 2; i++) seen->found[i] = hk_forward_lookup(forwarder, addresses[i]);
+    seen->verdict = hk_forward_verdict(forwarder, frame, HELD, HELD);
+    seen->class = hk_forward_class(forwarder, 0, frame, HELD);
     if (hk_ring_peek_take_burst(other, 0, seen->words, HK_MOST) < 0 || hk_ring_finish_take(other, 0) != 0
         || hk_reorder_next(window, &seen->next) != HK_OK) hk_failed++;
 }
@@ -108,7 +139,7 @@ static const char *volatile call;
 
 /* Whether the arrays and the places for handles are as they were made. */
 static int is_unwritten(void) {
-    int same = memcmp(&made, &unmade, sizeof made) == 0;
+    int same = memcmp(&made, &unmade, sizeof made) == 0 && memcmp(frame, unsent, sizeof frame) == 0;
     for (size_t i = 0; i <= HK_MOST; i++) same &= places[i] == UINT64_MAX && given[i] == 100 + i;
     for (size_t i = 0; i <= HK_POOL_MOST; i++) same &= numbers[i] == UINT32_MAX;
     return same;
@@ -163,6 +194,7 @@ static void free_all(void) {
     hk_hand_free(idle), hk_hand_free(other), hk_hand_free(putting), hk_hand_free(taking), hk_hand_free(closed);
     hk_pool_free(pool);
     hk_routes_free(table), hk_routes_free(shared), hk_routes_free(sharer);
+    hk_fib_free(fib), hk_forward_free(forwarder);
     hk_reorder_free(window);
 }
 
@@ -178,10 +210,12 @@ int main(void) {
     signal(SIGSEGV, died), signal(SIGBUS, died);
     setvbuf(stdout, NULL, _IONBF, 0);
     for (uint64_t i = 0; i <= HK_MOST; i++) given[i] = 100 + i;
-    open_hands(), open_pool(), open_tables(), open_window();
+    open_hands(), open_pool(), open_tables(), open_forwarder(), open_window();
     memset(places, 0xff, sizeof places), memset(numbers, 0xff, sizeof numbers);
     memset(&made, 0xff, sizeof made), unmade = made;
     look(&before), IS(before.words[0], 100), IS(before.numbers[own[0]], 1), IS(before.next, 1);
+    IS(before.verdict, 0), IS(before.class, HK_TO_GROUP + HK_TO_OWN);
+    IS(before.found[1], 7), IS(before.drawn[1], 5), IS(before.drawn[2], 2), IS(before.drawn[3], 1);
     (void)is_left(HK_E_COUNT);
     all();
     contents();

@@ -1,4 +1,4 @@
-/* The text and the name of each code, from texts.tsv, of which tools/c_refusals.py makes texts.inc. */
+/* The text and the name of each code, from texts.tsv, of which tools/lib/c_refusals.py makes texts.inc. */
 #include "tests.h"
 
 #include <string.h>

@@ -106,6 +106,24 @@ ONCE(hkx_routes_add)
 ONCE(hkx_routes_remove)
 ONCE(hkx_routes_lookup)
 ONCE(hkx_routes_lookup_bulk)
+ONCE(hkx_fib_open)
+ONCE(hkx_fib_share)
+ONCE(hkx_fib_add)
+ONCE(hkx_fib_remove)
+ONCE(hkx_fib_clear)
+ONCE(hkx_fib_set_hop)
+ONCE(hkx_fib_set_port)
+ONCE(hkx_fib_publish)
+ONCE(hkx_fib_pending)
+ONCE(hkx_fib_get)
+ONCE(hkx_fib_count)
+ONCE(hkx_fib_walk)
+ONCE(hkx_forward_lookup)
+ONCE(hkx_forward_lookup_bulk)
+ONCE(hkx_forward_frame)
+ONCE(hkx_forward_burst)
+ONCE(hkx_forward_verdict)
+ONCE(hkx_forward_class)
 ONCE(hkx_reorder_open)
 ONCE(hkx_reorder_insert)
 ONCE(hkx_reorder_drain)
@@ -258,6 +276,51 @@ static void tables_and_windows(void) {
     told(never, never, never), hk_reorder_free(window), tried(0, 0, 1);
 }
 
+static void tables_that_change(void) {
+    hk_fib *fib = (hk_fib *)hand, *another = NULL;
+    hk_forward *forward = (hk_forward *)hand, *second = NULL;
+    hk_port port = {0, {0}, 0, 0};
+    hk_next_hop hop = {0, {0}};
+    hk_fib_route route;
+    BOTH(hk_fib_open(&another, 16, 1, &port, 1, &hop, 1));
+    BOTH(hk_fib_share(fib, &second));
+    BOTH(hk_fib_add(fib, 0, 8, 1));
+    BOTH(hk_fib_remove(fib, 0, 8));
+    BOTH(hk_fib_clear(fib));
+    BOTH(hk_fib_set_hop(fib, 0, &hop));
+    BOTH(hk_fib_set_port(fib, 0, &port));
+    BOTH(hk_fib_publish(fib));
+    BOTH(hk_fib_pending(fib));
+    BOTH(hk_fib_get(fib, 0, 8));
+    BOTH(hk_fib_count(fib));
+    BOTH(hk_fib_walk(fib, 0, 0, &route));
+    BOTH(hk_forward_lookup(forward, 0));
+    BOTH(hk_forward_lookup_bulk(forward, numbers, numbers, 0));
+    IS(second == NULL && another == NULL, 1);
+    told(never, never, never);
+    IS(hk_fib_open(&another, 16, 1, &port, HK_MOST_PORTS + 1, &hop, 1), HK_E_PLAN);
+    IS(hk_fib_open(&another, 16, 1, &port, 1, &hop, HK_MOST_HOPS + 1), HK_E_PLAN), tried(0, 0, 0);
+    told(never, never, never), hk_fib_free(fib), tried(0, 0, 1);
+}
+
+/* No export is given a frame that is longer than on the wire, or more frames than there may be. */
+static void forwarders(void) {
+    hk_forward *forward = (hk_forward *)hand;
+    uint8_t bytes[COUNT];
+    hk_frame frames[2] = {{bytes, COUNT, COUNT}, {bytes, COUNT, COUNT - 1}};
+    BOTH(hk_forward_frame(forward, bytes, COUNT, COUNT));
+    BOTH(hk_forward_burst(forward, frames, numbers, 1));
+    BOTH(hk_forward_verdict(forward, bytes, COUNT, COUNT));
+    BOTH(hk_forward_class(forward, 0, bytes, COUNT));
+    told(never, never, never);
+    IS(hk_forward_frame(forward, bytes, COUNT, COUNT - 1), HK_E_COUNT);
+    IS(hk_forward_verdict(forward, bytes, COUNT, COUNT - 1), HK_E_COUNT);
+    IS(hk_forward_burst(forward, frames, numbers, 2), HK_E_COUNT);
+    IS(hk_forward_burst(forward, NULL, NULL, 0), HK_E_COUNT);
+    IS(hk_forward_burst(forward, frames, numbers, HK_FORWARD_MOST + 1), HK_E_COUNT), tried(0, 0, 0);
+    told(never, never, never), hk_forward_free(forward), tried(0, 0, 1);
+}
+
 int main(void) {
     hand = (hk_hand *)(void *)&box;
     both(put_bulk, true), both(put_burst, false);
@@ -268,5 +331,7 @@ int main(void) {
     one_try();
     pools();
     tables_and_windows();
+    tables_that_change();
+    forwarders();
     return hk_count_up("tries");
 }

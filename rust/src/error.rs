@@ -67,8 +67,8 @@ errors! {
     Shared = 12, "other handles share it";
     /// Out of memory.
     Memory = 13, "out of memory";
-    /// No such ring, pool, table or window can be made.
-    Plan = 14, "no such ring, pool, table or window can be made";
+    /// No such ring, pool, table, port or window can be made.
+    Plan = 14, "no such ring, pool, table, port or window can be made";
     /// The positions of the ring are used up.
     Worn = 15, "the positions of the ring are used up";
     /// Too many splits lie between this handle and the first one.

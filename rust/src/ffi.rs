@@ -21,6 +21,44 @@ pub struct Window {
 }
 
 #[repr(C)]
+pub struct Fib {
+    opaque: [u8; 0],
+}
+
+#[repr(C)]
+pub struct Forward {
+    opaque: [u8; 0],
+}
+
+#[repr(C)]
+pub struct Port {
+    pub address: u32,
+    pub mac: [u8; 6],
+    pub depth: u8,
+    pub zero: u8,
+}
+
+#[repr(C)]
+pub struct Hop {
+    pub port: u32,
+    pub to: [u8; 6],
+}
+
+#[repr(C)]
+pub struct FibRoute {
+    pub address: u32,
+    pub depth: u32,
+    pub hop: u32,
+}
+
+#[repr(C)]
+pub struct Frame {
+    pub bytes: *mut u8,
+    pub held: usize,
+    pub wire: usize,
+}
+
+#[repr(C)]
 pub struct Plan {
     pub size: u32,
     pub exact: u32,
@@ -60,6 +98,34 @@ extern "C" {
     pub fn hk_routes_lookup(routes: *mut Table, address: u32) -> i64;
     pub fn hk_routes_lookup_bulk(routes: *mut Table, addresses: *const u32, hops: *mut u32, n: usize) -> i64;
     pub fn hk_routes_free(routes: *mut Table);
+    pub fn hk_fib_open(
+        out: *mut *mut Fib,
+        bits: u32,
+        groups: u32,
+        ports: *const Port,
+        port_count: usize,
+        hops: *const Hop,
+        hop_count: usize,
+    ) -> i64;
+    pub fn hk_fib_share(fib: *mut Fib, out: *mut *mut Forward) -> i64;
+    pub fn hk_fib_add(fib: *mut Fib, address: u32, depth: u32, hop: u32) -> i64;
+    pub fn hk_fib_remove(fib: *mut Fib, address: u32, depth: u32) -> i64;
+    pub fn hk_fib_clear(fib: *mut Fib) -> i64;
+    pub fn hk_fib_set_hop(fib: *mut Fib, number: u32, hop: *const Hop) -> i64;
+    pub fn hk_fib_set_port(fib: *mut Fib, number: u32, port: *const Port) -> i64;
+    pub fn hk_fib_publish(fib: *mut Fib) -> i64;
+    pub fn hk_fib_pending(fib: *mut Fib) -> i64;
+    pub fn hk_fib_get(fib: *mut Fib, address: u32, depth: u32) -> i64;
+    pub fn hk_fib_count(fib: *mut Fib) -> i64;
+    pub fn hk_fib_walk(fib: *mut Fib, address: u32, depth: u32, route: *mut FibRoute) -> i64;
+    pub fn hk_fib_free(fib: *mut Fib);
+    pub fn hk_forward_lookup(forward: *mut Forward, address: u32) -> i64;
+    pub fn hk_forward_lookup_bulk(forward: *mut Forward, addresses: *const u32, hops: *mut u32, n: usize) -> i64;
+    pub fn hk_forward_frame(forward: *mut Forward, bytes: *mut u8, held: usize, wire: usize) -> i64;
+    pub fn hk_forward_burst(forward: *mut Forward, frames: *const Frame, verdicts: *mut u32, n: usize) -> i64;
+    pub fn hk_forward_verdict(forward: *mut Forward, bytes: *const u8, held: usize, wire: usize) -> i64;
+    pub fn hk_forward_class(forward: *mut Forward, port: usize, bytes: *const u8, held: usize) -> i64;
+    pub fn hk_forward_free(forward: *mut Forward);
     pub fn hk_reorder_open(out: *mut *mut Window, size: u32) -> i64;
     pub fn hk_reorder_insert(window: *mut Window, number: u64, word: u64) -> i64;
     pub fn hk_reorder_pop(window: *mut Window, word: *mut u64) -> i64;

@@ -1,4 +1,4 @@
-//! Rings, pools of numbers, routes and reorder windows of libhokhtura.
+//! Rings, pools of numbers, routes, forwarding of frames and reorder windows of libhokhtura.
 //!
 //! Each handle is used by one thread at a time: it is `Send` and not `Sync`, so the compiler enforces the rule of
 //! `hokhtura.h`. What threads share, a ring, a pool or a table, is reached through a handle of each thread's own.
@@ -21,6 +21,8 @@
 
 mod error;
 mod ffi;
+mod fib;
+mod forward;
 mod hand;
 mod pool;
 mod reorder;
@@ -29,6 +31,8 @@ mod routes;
 mod word;
 
 pub use error::Error;
+pub use fib::{Fib, Route};
+pub use forward::{Addressed, Forwarder, Frame, NextHop, Port, Reason, Verdict, FORWARD_MOST};
 pub use hand::Mode;
 pub use pool::{Pool, POOL_MOST};
 pub use reorder::{InTurn, Reorder};

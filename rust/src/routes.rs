@@ -15,6 +15,15 @@ pub enum FirstLevel {
     Bits24,
 }
 
+impl FirstLevel {
+    pub(crate) fn bits(self) -> u32 {
+        match self {
+            FirstLevel::Bits16 => 16,
+            FirstLevel::Bits24 => 24,
+        }
+    }
+}
+
 /// A table of routes to IPv4 prefixes, each with a next hop below 2^24.
 pub struct Routes(NonNull<ffi::Table>, PhantomData<*mut u8>);
 
@@ -41,12 +50,8 @@ impl Routes {
     /// # }
     /// ```
     pub fn new(first: FirstLevel, groups: u32) -> Result<Self, Error> {
-        let bits = match first {
-            FirstLevel::Bits16 => 16,
-            FirstLevel::Bits24 => 24,
-        };
         let mut at = null_mut();
-        answer(unsafe { ffi::hk_routes_open(&mut at, bits, groups) })?;
+        answer(unsafe { ffi::hk_routes_open(&mut at, first.bits(), groups) })?;
         Ok(Routes(NonNull::new(at).ok_or(Error::Null)?, PhantomData))
     }
 

@@ -2,7 +2,11 @@
  *
  *   capi alone                        one thread puts words and takes them again: ns an item
  *   capi alone NAME TURNS             only these turns, to count their instructions
- *   capi lookups                      lookups with 1,000 routes, one by one and in bursts of 32
+ *   capi lookups                      lookups with 1,000 routes, one by one and in bursts of 32, in a table and by a reader
+ *   capi publishes                    100 changes of 1,000 routes and their publish, beside three readers: us
+ *   capi memory twice|whole           what 60,000 routes take in a forwarding table, which has two copies, and in a table
+ *   capi forwards                     frames of 64 bytes by 1,000 routes, half of them routed, in bursts of 32 and alone, by
+ *                                     the names that yardsticks/ipv4.c prints
  *   capi threads MODE PAIRS N CALLS   PAIRS producers and as many consumers, each on a processor of its own, make CALLS
  *                                     calls of N words each: millions of items a second
  *
@@ -13,6 +17,7 @@
 #include <hokhtura.h>
 #include <pthread.h>
 #include <sched.h>
+#include <unistd.h>
 
 #define SLOTS 1024
 #define MOST 128
@@ -108,7 +113,50 @@ static void lookups(void)
 	hk_routes_free(table);
 }
 
-struct job { hk_hand *hand; size_t n; unsigned cpu; unsigned long calls; uint64_t sum; };
+static __attribute__((noinline)) uint64_t read_bulk(hk_forward *reader, const uint32_t *list, unsigned length)
+{
+	uint64_t sum = 0;
+	uint32_t hops[BURST];
+	for (unsigned i = 0; i + BURST <= length; i += BURST) {
+		if (hk_forward_lookup_bulk(reader, &list[i], hops, BURST) < 0) exit(1);
+		for (unsigned j = 0; j < BURST; j++)
+			if (hops[j] != HK_NO_HOP) sum += hops[j];
+	}
+	return sum;
+}
+
+static hk_fib *fib_of(const struct route *routes, unsigned n, const hk_port *ports, size_t port_count,
+	const hk_next_hop *hops, size_t hop_count)
+{
+	hk_fib *fib;
+	if (hk_fib_open(&fib, 24, 8192, ports, port_count, hops, hop_count) < 0) exit(1);
+	for (unsigned i = 0; i < n; i++) {
+		if (hk_fib_add(fib, routes[i].address, routes[i].depth, routes[i].hop) < 0) exit(1);
+		if (i % 1000 == 999 && hk_fib_publish(fib) < 0) exit(1);
+	}
+	return fib;
+}
+
+static hk_forward *reader_of(hk_fib *fib)
+{
+	hk_forward *reader;
+	if (hk_fib_share(fib, &reader) < 0) exit(1);
+	return reader;
+}
+
+/* The same addresses by a reader of a forwarding table. */
+static void reads(void)
+{
+	struct route *routes = make_routes(1000);
+	const uint32_t *hits = make_hits(routes, 1000, ADDRESSES), *anywhere = make_anywhere(ADDRESSES);
+	hk_forward *reader = reader_of(fib_of(routes, 1000, NULL, 0, NULL, 0));
+	double ns;
+	uint64_t sum;
+	TIMED(ns, ADDRESSES, sum = read_bulk(reader, hits, ADDRESSES); KEEP(sum););
+	report("reader-hits-bulk-1k", ns, "ns/lookup");
+	TIMED(ns, ADDRESSES, sum = read_bulk(reader, anywhere, ADDRESSES); KEEP(sum););
+	report("reader-anywhere-bulk-1k", ns, "ns/lookup");
+}
 
 static void pin(unsigned cpu)
 {
@@ -117,6 +165,169 @@ static void pin(unsigned cpu)
 	CPU_SET(cpu, &set);
 	pthread_setaffinity_np(pthread_self(), sizeof set, &set);
 }
+
+#define READERS 3
+#define CHANGES 100
+
+static volatile int is_over;
+
+struct read { hk_forward *reader; const uint32_t *list; unsigned cpu; };
+
+static void *read_on(void *given)
+{
+	struct read *read = given;
+	uint64_t sum = 0;
+	pin(read->cpu);
+	while (!is_over) sum += read_bulk(read->reader, read->list, ADDRESSES / 64);
+	KEEP(sum);
+	return NULL;
+}
+
+/* A call that is to be tried again, until it is done. */
+#define DONE(call) do { \
+	int64_t code_; \
+	while ((code_ = (call)) == HK_E_PENDING) __asm__ volatile("pause"); \
+	if (code_ < 0) exit(1); \
+} while (0)
+
+/* Changes the next hop of 25 routes twice, removes and adds 25 others, and publishes. */
+static void publish_100(hk_fib *fib, const struct route *routes, unsigned round)
+{
+	for (unsigned i = 0; i < CHANGES; i++) {
+		const struct route *route = &routes[(round * CHANGES / 2 + i / 2) % 1000];
+		if (i < CHANGES / 2) DONE(hk_fib_add(fib, route->address, route->depth, (route->hop + round + i) & 0xffffff));
+		else if (i % 2 == 0) DONE(hk_fib_remove(fib, route->address, route->depth));
+		else DONE(hk_fib_add(fib, route->address, route->depth, route->hop));
+	}
+	DONE(hk_fib_publish(fib));
+}
+
+static void publishes(void)
+{
+	struct route *routes = make_routes(1000);
+	hk_fib *fib = fib_of(routes, 1000, NULL, 0, NULL, 0);
+	struct read reads[READERS];
+	pthread_t ids[READERS];
+	double ns;
+	unsigned round = 0;
+	for (unsigned i = 0; i < READERS; i++) {
+		reads[i] = (struct read){ reader_of(fib), make_hits(routes, 1000, ADDRESSES), i };
+		pthread_create(&ids[i], NULL, read_on, &reads[i]);
+	}
+	pin(READERS);
+	TIMED(ns, 1, publish_100(fib, routes, round++););
+	report("publish-100", ns / 1000, "us");
+	is_over = 1;
+	for (unsigned i = 0; i < READERS; i++) pthread_join(ids[i], NULL);
+}
+
+static double resident(void)
+{
+	unsigned long all, here;
+	FILE *file = fopen("/proc/self/statm", "r");
+	if (!file || fscanf(file, "%lu %lu", &all, &here) != 2) exit(1);
+	fclose(file);
+	return here * (double)sysconf(_SC_PAGESIZE) / 1048576;
+}
+
+static void memory(int twice)
+{
+	struct route *routes = make_routes(60000);
+	double before = resident();
+	hk_routes *table = NULL;
+	hk_fib *fib = NULL;
+	if (twice) {
+		fib = fib_of(routes, 60000, NULL, 0, NULL, 0);
+		/* The second copy gets the changes of the publish. */
+		DONE(hk_fib_add(fib, routes[0].address, routes[0].depth, 1));
+	} else if (hk_routes_open(&table, 24, 8192) < 0) exit(1);
+	for (unsigned i = 0; !twice && i < 60000; i++)
+		if (hk_routes_add(table, routes[i].address, routes[i].depth, routes[i].hop) < 0) exit(1);
+	report("memory-60k", resident() - before, "MiB");
+	hk_fib_free(fib), hk_routes_free(table);
+}
+
+#define PACKETS 1024
+#define LIVES 240
+#define SIZE 64
+
+static uint8_t packets[PACKETS][2048];
+static hk_frame frames[PACKETS];
+
+static uint16_t checksum(const uint8_t *header)
+{
+	uint32_t sum = 0;
+	for (unsigned i = 0; i < 20; i += 2) sum += (uint32_t)header[i] << 8 | header[i + 1];
+	while (sum >> 16) sum = (sum & 0xffff) + (sum >> 16);
+	return (uint16_t)~sum;
+}
+
+/* Every other address is one that a route holds, and the others are above all routes. */
+static void refill(const struct route *routes)
+{
+	uint64_t state = 2;
+	for (unsigned i = 0; i < PACKETS; i++) {
+		uint64_t a = splitmix64(&state), b = splitmix64(&state);
+		const struct route *route = &routes[a % 1000];
+		uint32_t to = i % 2 == 0 ? route->address | ((uint32_t)b & ~mask_of(route->depth)) : 0xe0000000u | ((uint32_t)b & 0xffffff);
+		uint8_t *frame = packets[i] + 128, *header = frame + 14;
+		memset(frame, 0, SIZE);
+		memcpy(header - 2, (uint8_t[]){ 8, 0, 0x45, 0, 0, SIZE - 14, 0, 0, 0, 0, 255, 17, 0, 0, 10, 0, 0, 1 }, 18);
+		for (unsigned k = 0; k < 4; k++) header[16 + k] = (uint8_t)(to >> (24 - 8 * k));
+		uint16_t sum = checksum(header);
+		header[10] = (uint8_t)(sum >> 8), header[11] = (uint8_t)sum;
+		frames[i] = (hk_frame){ frame, SIZE, SIZE };
+	}
+}
+
+static __attribute__((noinline)) uint64_t forward_burst(hk_forward *forward, const hk_frame *burst, uint64_t sum)
+{
+	uint32_t verdicts[BURST];
+	if (hk_forward_burst(forward, burst, verdicts, BURST) < 0) exit(1);
+	for (unsigned i = 0; i < BURST; i++)
+		if (verdicts[i] < HK_DROP) sum += 1 + (verdicts[i] & 0xffff);
+	return sum;
+}
+
+static __attribute__((noinline)) uint64_t forward_alone(hk_forward *forward, const hk_frame *burst, uint64_t sum)
+{
+	for (unsigned i = 0; i < BURST; i++) {
+		int64_t verdict = hk_forward_frame(forward, burst[i].bytes, burst[i].held, burst[i].wire);
+		if (verdict < HK_DROP) sum += 1 + (verdict & 0xffff);
+	}
+	return sum;
+}
+
+/* Turns over all packets, which are filled anew before their time to live ends. */
+static void measure_forward(hk_forward *forward, const struct route *routes, const char *name,
+	uint64_t by(hk_forward *, const hk_frame *, uint64_t))
+{
+	uint64_t sum = 0, took = 0, done = 0;
+	do {
+		refill(routes);
+		uint64_t start = now_ns();
+		for (unsigned t = 0; t < LIVES; t++)
+			for (unsigned i = 0; i < PACKETS; i += BURST) sum = by(forward, &frames[i], sum);
+		took += now_ns() - start;
+		done += LIVES;
+	} while (took < bench_ns());
+	fprintf(stderr, "%s sum of a turn %llu\n", name, (unsigned long long)(sum / done));
+	report(name, (double)took / done / PACKETS, "ns/frame");
+}
+
+static void forwards(void)
+{
+	struct route *routes = make_routes(1000);
+	static hk_next_hop hops[1000];
+	hk_port ports[4] = { 0 };
+	for (unsigned i = 0; i < 1000; i++) hops[i] = (hk_next_hop){ i % 4, { 2, 1, 0, 0, (uint8_t)(i / 256), (uint8_t)i } };
+	for (unsigned i = 0; i < 4; i++) memcpy(ports[i].mac, (uint8_t[]){ 2, 0, 0, 0, 0, (uint8_t)i }, 6);
+	hk_forward *forward = reader_of(fib_of(routes, 1000, ports, 4, hops, 1000));
+	measure_forward(forward, routes, "forward-64", forward_burst);
+	measure_forward(forward, routes, "forward-64-alone", forward_alone);
+}
+
+struct job { hk_hand *hand; size_t n; unsigned cpu; unsigned long calls; uint64_t sum; };
 
 static inline void pause_a_moment(void) { __asm__ volatile("pause"); }
 
@@ -187,7 +398,10 @@ int main(int argc, char **argv)
 {
 	if (argc == 2 && !strcmp(argv[1], "alone")) alone(NULL, 0);
 	else if (argc == 4 && !strcmp(argv[1], "alone")) alone(argv[2], strtoul(argv[3], NULL, 10));
-	else if (argc == 2 && !strcmp(argv[1], "lookups")) lookups();
+	else if (argc == 2 && !strcmp(argv[1], "lookups")) lookups(), reads();
+	else if (argc == 2 && !strcmp(argv[1], "publishes")) publishes();
+	else if (argc == 3 && !strcmp(argv[1], "memory")) memory(!strcmp(argv[2], "twice"));
+	else if (argc == 2 && !strcmp(argv[1], "forwards")) forwards();
 	else if (argc == 6 && !strcmp(argv[1], "threads") && atoi(argv[3]) <= 4 && atoi(argv[4]) <= MOST)
 		threads(!strcmp(argv[2], "hts"), atoi(argv[3]), atoi(argv[4]), strtoul(argv[5], NULL, 10));
 	else return 2;

@@ -4,3 +4,13 @@ pub mod Leaving
 mod Rows
 pub mod Slots
 pub mod Values
+pub mod Asking
+pub mod Emptying
+pub mod Reserving
+mod RingRows
+pub mod Settled
+pub mod Attempts
+pub mod PoolCalls
+pub mod Deals
+pub mod PoolOpenings
+mod PoolRows

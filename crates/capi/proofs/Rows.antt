@@ -1,14 +1,20 @@
--- Worked cases of what C gets of routes and of reorder windows, and answers that are none
+-- Worked cases of what C gets of routes, of forwarders and of reorder windows, and answers that are none
 use Rattle.std.proofs.Common.{◌≡◌, ℕ, List, [], ◌∷◌, refl, sym, ◌∙◌, inl, inr, Option, None, Some, Ok, Err, arith}
 use Rattle.std.specs.FinMap as map
 use Rattle.lpm.specs.declared.fault.RouteFault.TheVariants.{BadDepth, BadHop, NoGroup, Memory, NoRoute}
-use Rattle.lpm.specs.Routes.{Routes}
+use Rattle.lpm.specs.Prefixes.{Members}
 use Rattle.reorder.specs.Waiting.{Waiting, after_next}
 use Rattle.reorder.specs.declared.fault.InsertFault.TheVariants.{Late, Early, Double}
+use Rattle.ipv4.specs.declared.ports.Hop.{Hop}
+use Rattle.live_routes.specs.Forwarding.{Forwarding}
+use Rattle.live_routes.specs.declared.fault.LiveFault.TheVariants as live
+use Rattle.forwarder.specs.declared.ports.Port.{Port}
+use Rattle.capi.specs.Fibs.{count_of, depth_of, live_fault_of}
+use Rattle.capi.specs.Forwards.{Forwards, IsBurst, Judges}
 use Rattle.capi.specs.Tables.{LooksUpAll, RefusesTable, fault_of, hop_found, hop_word}
 use Rattle.capi.specs.Windows.{Drains, Leave, RefusesWindow, window_fault}
-use Rattle.capi_rings.specs.declared.fault.Fault.{Fault}
-use Rattle.capi_rings.specs.declared.fault.Fault.TheVariants as fault
+use Rattle.capi.specs.declared.rings.fault.Fault.{Fault}
+use Rattle.capi.specs.declared.rings.fault.Fault.TheVariants as fault
 
 -- a hop is itself; none is a fault, and in a list the greatest number of 32 bits, which no hop is
 a_hop : (hop_found (Some 7) ≡ Ok 7) × (hop_word (Some 7) ≡ 7)
@@ -76,7 +82,7 @@ module _ (w : Waiting ℕ) where
     out_of_turn : map.get w.held w.next ≡ Some 6 → Leave (5 ∷ []) w u → ⊥
     out_of_turn there is = absurd (let e : ◌≡◌ {A = Option ℕ} (Some 6) (Some 5) = sym there ∙ is.0 in let z : ◌≡◌ {A = ℕ} 6 5 = cc in omega (arith, z))
 
-module _ (t : Routes) where
+module _ (t : Members) where
   -- a list of another length is refused, and nothing is written
   one_place_short : LooksUpAll (Err fault.Count) (1 ∷ 2 ∷ []) (9 ∷ []) (9 ∷ []) t
   one_place_short = (refl, λ e. absurd (let z : ◌≡◌ {A = ℕ} 2 1 = e in omega (arith, z)), refl)
@@ -86,3 +92,38 @@ module _ (t : Routes) where
 
   refuses_without_a_reason : LooksUpAll (Err fault.Count) (1 ∷ []) (9 ∷ []) (9 ∷ []) t → ⊥
   refuses_without_a_reason is = is.1 refl
+
+-- a burst has a frame at least
+no_frames : IsBurst [] [] → ⊥
+no_frames is = absurd (omega (arith, is.some))
+
+no_frames_but_a_place : IsBurst [] (7 ∷ []) → ⊥
+no_frames_but_a_place is = absurd (omega (arith, is.some))
+
+module _ (f : Forwarding Hop Port) where
+  -- a frame that is refused had more bytes than there were on the wire, and stays as it is
+  longer_than_on_the_wire : Forwards (Err fault.Count) 1 (7 ∷ 8 ∷ []) (7 ∷ 8 ∷ []) f
+  longer_than_on_the_wire = (refl, omega arith, refl)
+
+  refuses_a_whole_frame : Forwards (Err fault.Count) 2 (7 ∷ 8 ∷ []) (7 ∷ 8 ∷ []) f → ⊥
+  refuses_a_whole_frame is = absurd (omega (arith, is.1))
+
+  writes_and_refuses_a_frame : Forwards (Err fault.Count) 1 (7 ∷ 8 ∷ []) (7 ∷ 9 ∷ []) f → ⊥
+  writes_and_refuses_a_frame is = absurd (let e : ◌≡◌ {A = List ℕ} (7 ∷ 9 ∷ []) (7 ∷ 8 ∷ []) = is.2 in let z : ◌≡◌ {A = ℕ} 9 8 = cc in omega (arith, z))
+
+  judges_a_longer_frame : Judges (Ok 7) 1 (7 ∷ 8 ∷ []) f → ⊥
+  judges_a_longer_frame is = absurd (omega (arith, is.0))
+
+-- the faults of a forwarding table
+table_faults : (live_fault_of live.BadDepth ≡ fault.Depth) × (live_fault_of live.BadHop ≡ fault.Hop)
+    × (live_fault_of live.NoGroup ≡ fault.Groups) × (live_fault_of live.Memory ≡ fault.Memory)
+    × (live_fault_of live.NoRoute ≡ fault.NoRoute) × (live_fault_of live.BadPort ≡ fault.Count)
+    × (live_fault_of live.Pending ≡ fault.Pending)
+table_faults = (refl, refl, refl, refl, refl, refl, refl)
+
+-- a depth that is too large stays too large, and a count that doesn't fit is the greatest
+depths : (depth_of 32 ≡ 32) × (depth_of 255 ≡ 255) × (depth_of 256 ≡ 255)
+depths = (refl, refl, refl)
+
+counts : (count_of 7 ≡ 7) × (count_of 4294967295 ≡ 4294967295) × (count_of 4294967296 ≡ 4294967295)
+counts = (refl, refl, refl)

@@ -1,10 +1,10 @@
 -- What a call does to what a handle has, by what it does to a hand
 use Rattle.std.proofs.Common.{◌≡◌, Option, None, Some, Err, ap, subst, sym}
-use Rattle.capi_rings.specs.Codes.{Outcome}
+use Rattle.capi.specs.Codes.{Outcome}
 use Rattle.capi.specs.HandCalls.{AtHand, HasHand, HasNoHand}
 use Rattle.capi.specs.Closings.{ClosesAt, ClosesHand}
-use Rattle.capi_rings.specs.declared.fault.Fault.{Fault}
-use Rattle.capi_rings.specs.declared.member.Member.{Member}
+use Rattle.capi.specs.declared.rings.fault.Fault.{Fault}
+use Rattle.capi.specs.declared.rings.member.Member.{Member}
 use Rattle.capi.specs.declared.object.Object.{Object}
 use Rattle.capi.specs.declared.object.Object.TheVariants as object
 
@@ -16,6 +16,8 @@ no_hand (Some (object.Rest r)) new why does is same = (ap Err is, same)
 no_hand (Some (object.Pool p)) new why does is same = (ap Err is, same)
 no_hand (Some (object.Routes t)) new why does is same = (ap Err is, same)
 no_hand (Some (object.Reorder w)) new why does is same = (ap Err is, same)
+no_hand (Some (object.Forward f)) new why does is same = (ap Err is, same)
+no_hand (Some (object.Fib r)) new why does is same = (ap Err is, same)
 
 pub at_hand : (old new : Option Object) (m u : Member) (outcome : Outcome) (does : Member → Member → Type 0)
     → old ≡ Some (object.Hand m) → new ≡ Some (object.Hand u) → does m u → AtHand old new outcome does
@@ -30,6 +32,8 @@ closes_none (Some (object.Rest r)) new why is same = (ap Err is, same)
 closes_none (Some (object.Pool p)) new why is same = (ap Err is, same)
 closes_none (Some (object.Routes t)) new why is same = (ap Err is, same)
 closes_none (Some (object.Reorder w)) new why is same = (ap Err is, same)
+closes_none (Some (object.Forward f)) new why is same = (ap Err is, same)
+closes_none (Some (object.Fib r)) new why is same = (ap Err is, same)
 
 pub closes_hand : (old new : Option Object) (m : Member) (outcome : Outcome) → old ≡ Some (object.Hand m)
     → ClosesHand outcome m new → ClosesAt outcome old new

@@ -1,9 +1,9 @@
 -- What closing rings does to what a handle has
 use Rattle.std.specs.Prelude.{◌≡◌, Option, None, Some, Ok, Err}
-use Rattle.capi_rings.specs.Codes.{Outcome}
-use Rattle.capi_rings.specs.Rests.{Closes, RefusesClose}
-use Rattle.capi_rings.specs.RingCalls.{SameMember}
-use Rattle.capi_rings.specs.declared.member.Member.{Member}
+use Rattle.capi.specs.Codes.{Outcome}
+use Rattle.capi.specs.Rests.{Closes, RefusesClose}
+use Rattle.capi.specs.RingCalls.{SameMember}
+use Rattle.capi.specs.declared.rings.member.Member.{Member}
 use Rattle.capi.specs.Handles.{IsEmpty, IsOther}
 use Rattle.capi.specs.HandCalls.{HasHand, HasRest}
 use Rattle.capi.specs.declared.object.Object.{Object}
@@ -21,3 +21,5 @@ ClosesAt outcome (Some (object.Rest r)) new = IsOther outcome (object.Rest r) ne
 ClosesAt outcome (Some (object.Pool p)) new = IsOther outcome (object.Pool p) new
 ClosesAt outcome (Some (object.Routes t)) new = IsOther outcome (object.Routes t) new
 ClosesAt outcome (Some (object.Reorder w)) new = IsOther outcome (object.Reorder w) new
+ClosesAt outcome (Some (object.Forward f)) new = IsOther outcome (object.Forward f) new
+ClosesAt outcome (Some (object.Fib r)) new = IsOther outcome (object.Fib r) new

@@ -2,14 +2,14 @@
 use Rattle.std.specs.Prelude.{◌≡◌, ℕ, ◌-◌, ◌^◌, ◌⊎◌, List, Option, None, Ok, Err, min}
 use Rattle.fabric.specs.declared.hand.in_place.OpenSpan.{OpenSpan}
 use Rattle.fabric.specs.declared.hand.in_place.OpenSpan.TheVariants.{Idle, Put, Take}
-use Rattle.capi_rings.specs.Codes.{Outcome}
+use Rattle.capi.specs.Codes.{Outcome}
 use Rattle.capi.specs.HandCalls.{HasHand, HasNoHand}
-use Rattle.capi_rings.specs.Openings.{IsNewHand, RefusesRings}
-use Rattle.capi_rings.specs.RingCalls.{LikeMember, RefusesSplit, Splits}
-use Rattle.capi_rings.specs.declared.fault.Fault.TheVariants as fault
-use Rattle.capi_rings.specs.declared.member.Member.{Member}
+use Rattle.capi.specs.Openings.{IsNewHand, RefusesRings}
+use Rattle.capi.specs.RingCalls.{LikeMember, RefusesSplit, Splits}
+use Rattle.capi.specs.declared.rings.fault.Fault.TheVariants as fault
+use Rattle.capi.specs.declared.rings.member.Member.{Member}
 use Rattle.capi.specs.declared.object.Object.{Object}
-use Rattle.capi_rings.specs.declared.opening.Asked.{Asked}
+use Rattle.capi.specs.declared.rings.opening.Asked.{Asked}
 
 -- a hand on new rings is in the handle, which was empty
 abbrev pub OpensHand : Outcome → List Asked → Option Object → Option Object → Type 0

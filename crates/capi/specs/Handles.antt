@@ -4,9 +4,9 @@ use Rattle.std.specs.declared.alloc.Global.{Global}
 use Rattle.std.specs.declared.boxed.Box.{Box}
 use Rattle.lpm.specs.Routes.{Routes}
 use Rattle.reorder.specs.Waiting.{Waiting}
-use Rattle.capi_rings.specs.Codes.{Outcome}
-use Rattle.capi_rings.specs.declared.fault.Fault.{Fault}
-use Rattle.capi_rings.specs.declared.fault.Fault.TheVariants as fault
+use Rattle.capi.specs.Codes.{Outcome}
+use Rattle.capi.specs.declared.rings.fault.Fault.{Fault}
+use Rattle.capi.specs.declared.rings.fault.Fault.TheVariants as fault
 use Rattle.capi.specs.declared.object.Object.{Object}
 use Rattle.capi.specs.declared.object.Object.TheVariants as object
 
@@ -40,6 +40,8 @@ HasTable (Some (object.Reorder w)) holds = ⊥
 HasTable (Some (object.Hand m)) holds = ⊥
 HasTable (Some (object.Rest r)) holds = ⊥
 HasTable (Some (object.Pool p)) holds = ⊥
+HasTable (Some (object.Forward f)) holds = ⊥
+HasTable (Some (object.Fib r)) holds = ⊥
 
 abbrev pub HasWindow : Option Object → (Waiting ℕ → Type 0) → Type 0
 HasWindow None holds = ⊥
@@ -48,6 +50,8 @@ HasWindow (Some (object.Hand m)) holds = ⊥
 HasWindow (Some (object.Rest r)) holds = ⊥
 HasWindow (Some (object.Pool p)) holds = ⊥
 HasWindow (Some (object.Reorder w)) holds = holds w
+HasWindow (Some (object.Forward f)) holds = ⊥
+HasWindow (Some (object.Fib r)) holds = ⊥
 
 -- a call on routes: what it does to the table
 abbrev pub AtRoutes : Option Object → Option Object → Outcome → (Routes → Routes → Type 0) → Type 0
@@ -57,6 +61,8 @@ AtRoutes (Some (object.Reorder w)) new outcome does = IsOther outcome (object.Re
 AtRoutes (Some (object.Hand m)) new outcome does = IsOther outcome (object.Hand m) new
 AtRoutes (Some (object.Rest r)) new outcome does = IsOther outcome (object.Rest r) new
 AtRoutes (Some (object.Pool p)) new outcome does = IsOther outcome (object.Pool p) new
+AtRoutes (Some (object.Forward f)) new outcome does = IsOther outcome (object.Forward f) new
+AtRoutes (Some (object.Fib r)) new outcome does = IsOther outcome (object.Fib r) new
 
 -- a call on a reorder window
 abbrev pub AtWindow : Option Object → Option Object → Outcome → (Waiting ℕ → Waiting ℕ → Type 0) → Type 0
@@ -66,3 +72,5 @@ AtWindow (Some (object.Routes t)) new outcome does = IsOther outcome (object.Rou
 AtWindow (Some (object.Hand m)) new outcome does = IsOther outcome (object.Hand m) new
 AtWindow (Some (object.Rest r)) new outcome does = IsOther outcome (object.Rest r) new
 AtWindow (Some (object.Pool p)) new outcome does = IsOther outcome (object.Pool p) new
+AtWindow (Some (object.Forward f)) new outcome does = IsOther outcome (object.Forward f) new
+AtWindow (Some (object.Fib r)) new outcome does = IsOther outcome (object.Fib r) new

@@ -1,3 +1,5 @@
+pub mod Forwards
+pub mod Fibs
 pub mod HandCalls
 pub mod HandExports
 pub mod Handles
@@ -6,3 +8,18 @@ pub mod PoolHandles
 pub mod Closings
 pub mod Tables
 pub mod Windows
+pub mod Codes
+pub mod Members
+pub mod Spans
+pub mod Calls
+pub mod Finishes
+pub mod RingCalls
+pub mod Plans
+pub mod Openings
+pub mod Rests
+pub mod PoolMembers
+pub mod Tries
+pub mod PoolCalls
+pub mod Splits
+pub mod Same
+pub mod PoolOpenings

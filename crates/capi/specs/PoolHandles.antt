@@ -1,10 +1,10 @@
 -- What calls on pools of numbers do to handles
 use Rattle.std.specs.Prelude.{◌≡◌, ℕ, ◌⊎◌, Option, None, Some, Ok, Err}
-use Rattle.capi_rings.specs.Codes.{Outcome}
-use Rattle.capi_rings.specs.declared.fault.Fault.{Fault}
-use Rattle.capi_rings.specs.declared.fault.Fault.TheVariants as fault
-use Rattle.capi_pools.specs.Openings.{IsNewPool, IsSecond, LikePool, RefusesHalf, RefusesPool}
-use Rattle.capi_pools.specs.declared.member.PoolMember.{PoolMember}
+use Rattle.capi.specs.Codes.{Outcome}
+use Rattle.capi.specs.declared.rings.fault.Fault.{Fault}
+use Rattle.capi.specs.declared.rings.fault.Fault.TheVariants as fault
+use Rattle.capi.specs.PoolOpenings.{IsNewPool, IsSecond, LikePool, RefusesHalf, RefusesPool}
+use Rattle.capi.specs.declared.pools.member.PoolMember.{PoolMember}
 use Rattle.capi.specs.Handles.{IsEmpty, IsOther}
 use Rattle.capi.specs.declared.object.Object.{Object}
 use Rattle.capi.specs.declared.object.Object.TheVariants as object
@@ -17,6 +17,8 @@ HasPool (Some (object.Hand m)) holds = ⊥
 HasPool (Some (object.Rest r)) holds = ⊥
 HasPool (Some (object.Routes t)) holds = ⊥
 HasPool (Some (object.Reorder w)) holds = ⊥
+HasPool (Some (object.Forward f)) holds = ⊥
+HasPool (Some (object.Fib r)) holds = ⊥
 
 -- a call of a pool
 abbrev pub AtPool : Option Object → Option Object → Outcome → (PoolMember → PoolMember → Type 0) → Type 0
@@ -26,6 +28,8 @@ AtPool (Some (object.Hand m)) new outcome does = IsOther outcome (object.Hand m)
 AtPool (Some (object.Rest r)) new outcome does = IsOther outcome (object.Rest r) new
 AtPool (Some (object.Routes t)) new outcome does = IsOther outcome (object.Routes t) new
 AtPool (Some (object.Reorder w)) new outcome does = IsOther outcome (object.Reorder w) new
+AtPool (Some (object.Forward f)) new outcome does = IsOther outcome (object.Forward f) new
+AtPool (Some (object.Fib r)) new outcome does = IsOther outcome (object.Fib r) new
 
 -- why there is no pool
 abbrev pub HasNoPool : Option Object → Fault → Type 0
@@ -35,6 +39,8 @@ HasNoPool (Some (object.Hand m)) why = why ≡ fault.Kind
 HasNoPool (Some (object.Rest r)) why = why ≡ fault.Kind
 HasNoPool (Some (object.Routes t)) why = why ≡ fault.Kind
 HasNoPool (Some (object.Reorder w)) why = why ≡ fault.Kind
+HasNoPool (Some (object.Forward f)) why = why ≡ fault.Kind
+HasNoPool (Some (object.Fib r)) why = why ≡ fault.Kind
 
 -- a pool is in the handle, which was empty
 abbrev pub OpensPool : Outcome → ℕ → ℕ → ℕ → Option Object → Option Object → Type 0

@@ -3,16 +3,16 @@ use Rattle.std.specs.Prelude.{◌≡◌, ℕ, ◌<◌, ◌≤◌, ◌≢◌, ◌
 use Rattle.lpm.specs.declared.fault.RouteFault.{RouteFault}
 use Rattle.lpm.specs.declared.fault.RouteFault.TheVariants.{BadDepth, BadHop, NoGroup, Memory, NoRoute}
 use Rattle.lpm.specs.Match.{lookup_in}
-use Rattle.lpm.specs.Prefixes.{IsDepth}
+use Rattle.lpm.specs.Prefixes.{IsDepth, Members}
 use Rattle.std.specs.declared.sync.Arc.{Arc}
 use Rattle.std.specs.declared.alloc.Global.{Global}
 use Rattle.lpm.specs.Routes.{Accepts, HasMembers, HasRoute, IsNew, LacksRoute, NeedsTooMany, Routes, with_route, without_route}
-use Rattle.capi_rings.specs.Codes.{Outcome}
+use Rattle.capi.specs.Codes.{Outcome}
 use Rattle.capi.specs.Handles.{HasTable}
 use Rattle.capi.specs.declared.object.Object.{Object}
 use Rattle.capi.specs.declared.object.Object.TheVariants as object
-use Rattle.capi_rings.specs.declared.fault.Fault.{Fault}
-use Rattle.capi_rings.specs.declared.fault.Fault.TheVariants as fault
+use Rattle.capi.specs.declared.rings.fault.Fault.{Fault}
+use Rattle.capi.specs.declared.rings.fault.Fault.TheVariants as fault
 
 -- a table that can't be: its first level has neither 2^16 nor 2^24 entries, or there was no memory
 abbrev pub RefusesTable : ℕ → Fault → Type 0
@@ -32,6 +32,8 @@ HasNoTable (Some (object.Hand m)) why = why ≡ fault.Kind
 HasNoTable (Some (object.Rest r)) why = why ≡ fault.Kind
 HasNoTable (Some (object.Pool p)) why = why ≡ fault.Kind
 HasNoTable (Some (object.Reorder w)) why = why ≡ fault.Kind
+HasNoTable (Some (object.Forward f)) why = why ≡ fault.Kind
+HasNoTable (Some (object.Fib r)) why = why ≡ fault.Kind
 
 -- the table of a handle, or why there is none for a second handle
 abbrev pub FindsTable : Result (Arc Routes Global) Fault → Option Object → Type 0
@@ -94,12 +96,12 @@ hop_word None = 2 ^ 32 - 1
 hop_word (Some hop) = hop
 
 -- these numbers for a list of addresses
-abbrev pub hop_words : Routes → List ℕ → List ℕ
-hop_words t addresses = map (λ address. hop_word (lookup_in t.members address)) addresses
+abbrev pub hop_words : Members → List ℕ → List ℕ
+hop_words routes addresses = map (λ address. hop_word (lookup_in routes address)) addresses
 
 -- each place of `hops` has what a lookup of the address at that place returns, or the counts differ and nothing changed
-abbrev pub LooksUpAll : Outcome → List ℕ → List ℕ → List ℕ → Routes → Type 0
-LooksUpAll (Ok count) addresses hops words t =
-    (count ≡ 0) × (words ≡ hop_words t addresses)
-LooksUpAll (Err why) addresses hops words t =
+abbrev pub LooksUpAll : Outcome → List ℕ → List ℕ → List ℕ → Members → Type 0
+LooksUpAll (Ok count) addresses hops words routes =
+    (count ≡ 0) × (words ≡ hop_words routes addresses)
+LooksUpAll (Err why) addresses hops words routes =
     (why ≡ fault.Count) × (length addresses ≢ length hops) × (words ≡ hops)

@@ -4,11 +4,11 @@ use Rattle.std.specs.FinMap as map
 use Rattle.reorder.specs.declared.fault.InsertFault.{InsertFault}
 use Rattle.reorder.specs.declared.fault.InsertFault.TheVariants.{Late, Early, Double}
 use Rattle.reorder.specs.Waiting.{IsFree, Waiting, after_next, empty_window, end_of, with_number}
-use Rattle.capi_rings.specs.Codes.{Outcome}
+use Rattle.capi.specs.Codes.{Outcome}
 use Rattle.capi.specs.Handles.{HasWindow}
 use Rattle.capi.specs.declared.object.Object.{Object}
-use Rattle.capi_rings.specs.declared.fault.Fault.{Fault}
-use Rattle.capi_rings.specs.declared.fault.Fault.TheVariants as fault
+use Rattle.capi.specs.declared.rings.fault.Fault.{Fault}
+use Rattle.capi.specs.declared.rings.fault.Fault.TheVariants as fault
 
 -- the fault for one of the window's own
 abbrev pub window_fault : InsertFault → Fault

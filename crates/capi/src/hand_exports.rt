@@ -1,16 +1,16 @@
 //! The exports that open, split and close hands.
 ghost use Rattle.std.specs.Prelude.{◌≡◌, IfErr, None};
-ghost use Rattle.capi_rings.specs.Codes.{Answers};
+ghost use Rattle.capi.specs.Codes.{Answers};
 ghost use Rattle.capi.specs.HandCalls.{AtRest};
 ghost use Rattle.capi.specs.HandExports.{OpensHand, SplitsAt, SplitsHand};
-ghost use Rattle.capi_rings.specs.Rests.{DrainsRest};
+ghost use Rattle.capi.specs.Rests.{DrainsRest};
 ghost use Rattle.capi.specs.Closings.{ClosesAt};
 
 use crate::hand_slots::take_hand;
 use crate::handle::Handle;
 use crate::keeping::{borrow, give, is_used};
 use crate::object::Object;
-use capi_rings::{Asked, Fault, MOST, Word64, answer, close, drain, open, split};
+use crate::rings::{Asked, Fault, MOST, Word64, answer, close, drain, open, split};
 use std::alloc::Global;
 
 /// Puts a hand on new rings into an empty handle.

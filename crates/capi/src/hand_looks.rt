@@ -1,13 +1,13 @@
 //! The exports that show what a hand has open and what its last call left.
 ghost use Rattle.std.specs.Prelude.{◌≡◌, Ok};
-ghost use Rattle.capi_rings.specs.Codes.{Answers};
+ghost use Rattle.capi.specs.Codes.{Answers};
 ghost use Rattle.capi.specs.HandCalls.{AtHand};
 ghost use Rattle.capi.specs.HandExports.{TellsLeft, span_kind};
 
 use crate::handle::Handle;
 use crate::keeping::borrow;
 use crate::object::Object;
-use capi_rings::{Fault, answer};
+use crate::rings::{Fault, answer};
 use fabric::OpenSpan;
 use std::alloc::Global;
 

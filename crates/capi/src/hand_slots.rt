@@ -1,14 +1,14 @@
 //! Calls on rings by what a handle has: a hand, or a fault.
 ghost use Rattle.std.specs.Prelude.{◌≡◌, IfErr, IfOk, None, Some};
 ghost use Rattle.geom.specs.declared.plan.Side.TheVariants.{Put, Take};
-ghost use Rattle.capi_rings.specs.Calls.{PeeksPut, PeeksTake, Puts, Takes, how_of};
-ghost use Rattle.capi_rings.specs.Finishes.{FinishesPut, FinishesTake};
+ghost use Rattle.capi.specs.Calls.{PeeksPut, PeeksTake, Puts, Takes, how_of};
+ghost use Rattle.capi.specs.Finishes.{FinishesPut, FinishesTake};
 ghost use Rattle.capi.specs.HandCalls.{AtHand, HasNoHand};
-ghost use Rattle.capi_rings.specs.RingCalls.{Looks, OnHts, OnPutting, OnRings, OnTaking, SameMember, member_view, room_side};
+ghost use Rattle.capi.specs.RingCalls.{Looks, OnHts, OnPutting, OnRings, OnTaking, SameMember, member_view, room_side};
 ghost use Rattle.capi.specs.declared.object.Object.TheVariants as object;
 
 use crate::object::Object;
-use capi_rings::{
+use crate::rings::{
     Fault, Member, Word64, finish_put_of, finish_take_of, how, look, peek_put_of, peek_take_of,
     put_words, take_words,
 };

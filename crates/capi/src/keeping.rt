@@ -1,11 +1,11 @@
 //! Taking an object out of a handle for a call, and putting it back.
 ghost use Rattle.std.specs.Prelude.{◌≡◌, MatchOption, None, Some, false};
-ghost use Rattle.capi_rings.specs.Codes.{Answers};
+ghost use Rattle.capi.specs.Codes.{Answers};
 ghost use Rattle.capi.specs.Handles.{Frees, GivesOut, TakesOut};
 
 use crate::handle::Handle;
 use crate::object::Object;
-use capi_rings::{Fault, answer};
+use crate::rings::{Fault, answer};
 use std::alloc::Global;
 
 /// Takes the box out of a handle, which then is null.

@@ -1,6 +1,9 @@
 //! The kinds of objects.
-use capi_pools::PoolMember;
-use capi_rings::{Member, Rest};
+use crate::pools::PoolMember;
+use crate::rings::{Member, Rest};
+use forwarder::Port;
+use ipv4::Hop;
+use live_routes::{RouteReader, RouteWriter};
 use lpm::Table;
 use reorder::Window;
 use std::sync::Arc;
@@ -18,4 +21,8 @@ pub enum Object {
     Reorder(Window<u64>),
     /// A way to a pool of numbers.
     Pool(PoolMember),
+    /// The writer of what a router forwards by: routes, next hops and ports.
+    Fib(RouteWriter<Hop, Port>),
+    /// A reader of that, for one thread: it looks addresses up and forwards frames.
+    Forward(RouteReader<Hop, Port>),
 }

@@ -1,16 +1,16 @@
 //! Pools of numbers, as C calls them: each call takes what its handle has and gives it back.
 ghost use Rattle.std.specs.Prelude.{◌≡◌, ◌+◌, ⊤, IfErr, Ok, length};
 ghost use Rattle.word_pool.specs.Words.{cache_of, view_of};
-ghost use Rattle.capi_rings.specs.Codes.{Answers};
-ghost use Rattle.capi_pools.specs.Calls.{Flushes, Gets, PassesOn, Puts, TakesOver, TellsOwner};
-ghost use Rattle.capi_pools.specs.Same.{OnPoolRing, SamePool};
+ghost use Rattle.capi.specs.Codes.{Answers};
+ghost use Rattle.capi.specs.PoolCalls.{Flushes, Gets, PassesOn, Puts, TakesOver, TellsOwner};
+ghost use Rattle.capi.specs.Same.{OnPoolRing, SamePool};
 ghost use Rattle.capi.specs.PoolHandles.{AtPool};
 
 use crate::handle::Handle;
 use crate::keeping::borrow;
 use crate::pool_slots::{cached, flush, get, owns, put, receive, send};
-use capi_pools::Number;
-use capi_rings::{Fault, answer};
+use crate::pools::Number;
+use crate::rings::{Fault, answer};
 use std::alloc::Global;
 
 #[inline(always)]

@@ -1,14 +1,14 @@
 //! The exports that open and split pools.
 ghost use Rattle.std.specs.Prelude.{◌≡◌, IfErr, IfOk, None, Some};
-ghost use Rattle.capi_rings.specs.Codes.{Answers};
+ghost use Rattle.capi.specs.Codes.{Answers};
 ghost use Rattle.capi.specs.PoolHandles.{HasNoPool, OpensPool, SplitsPool, SplitsPoolAt};
 ghost use Rattle.capi.specs.declared.object.Object.TheVariants as object;
 
 use crate::handle::Handle;
 use crate::keeping::{borrow, give, is_used};
 use crate::object::Object;
-use capi_pools::{PoolMember, open_pool, split_pool};
-use capi_rings::{Fault, answer};
+use crate::pools::{PoolMember, open_pool, split_pool};
+use crate::rings::{Fault, answer};
 use std::alloc::Global;
 
 /// Puts a new pool into a null handle.

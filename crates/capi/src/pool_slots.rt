@@ -1,13 +1,13 @@
 //! Calls on pools by what a handle has: a pool, whose cache is changed in place, or a fault.
 ghost use Rattle.std.specs.Prelude.{◌≡◌, ◌+◌, ⊤, IfErr, Ok, length};
 ghost use Rattle.word_pool.specs.Words.{cache_of, view_of};
-ghost use Rattle.capi_pools.specs.Calls.{Flushes, Gets, PassesOn, Puts, TakesOver, TellsOwner};
-ghost use Rattle.capi_pools.specs.Same.{OnPoolRing, SamePool};
+ghost use Rattle.capi.specs.PoolCalls.{Flushes, Gets, PassesOn, Puts, TakesOver, TellsOwner};
+ghost use Rattle.capi.specs.Same.{OnPoolRing, SamePool};
 ghost use Rattle.capi.specs.PoolHandles.{AtPool};
 
 use crate::object::Object;
-use capi_pools::{Number, flush_numbers, get_numbers, pass_on, put_numbers, take_over};
-use capi_rings::Fault;
+use crate::pools::{Number, flush_numbers, get_numbers, pass_on, put_numbers, take_over};
+use crate::rings::Fault;
 
 /// Gets numbers.
 #[inline(always)]

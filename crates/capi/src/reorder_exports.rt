@@ -1,7 +1,7 @@
 //! The exports for reorder windows. Each call takes the window out of its handle and puts it back.
 ghost use Rattle.std.specs.Prelude.{◌≡◌, IfErr, Ok};
 ghost use Rattle.reorder.specs.Waiting.{slid_to};
-ghost use Rattle.capi_rings.specs.Codes.{Answers};
+ghost use Rattle.capi.specs.Codes.{Answers};
 ghost use Rattle.capi.specs.Handles.{AtWindow};
 ghost use Rattle.capi.specs.Windows.{Drains, Inserts, OpensWindow};
 
@@ -9,7 +9,7 @@ use crate::handle::Handle;
 use crate::keeping::{borrow, give, is_used};
 use crate::object::Object;
 use crate::reorder_windows::{MOST, drain, insert, made, next, slide};
-use capi_rings::{Fault, answer};
+use crate::rings::{Fault, answer};
 use std::alloc::Global;
 
 /// A new window in an empty handle.

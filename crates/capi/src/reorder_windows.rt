@@ -5,7 +5,7 @@ ghost use Rattle.capi.specs.Handles.{AtWindow};
 ghost use Rattle.capi.specs.Windows.{Drains, Inserts, RefusesWindow, window_fault};
 
 use crate::object::Object;
-use capi_rings::Fault;
+use crate::rings::Fault;
 use reorder::{InsertFault, MAX_SIZE, Window};
 use std::alloc::Global;
 

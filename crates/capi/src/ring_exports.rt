@@ -1,14 +1,14 @@
 //! The exports for puts, takes and looks at rings.
 ghost use Rattle.std.specs.Prelude.{◌≡◌};
-ghost use Rattle.capi_rings.specs.Calls.{Puts, Takes, how_of};
-ghost use Rattle.capi_rings.specs.Codes.{Answers};
+ghost use Rattle.capi.specs.Calls.{Puts, Takes, how_of};
+ghost use Rattle.capi.specs.Codes.{Answers};
 ghost use Rattle.capi.specs.HandCalls.{AtHand};
-ghost use Rattle.capi_rings.specs.RingCalls.{Looks, OnRings, SameMember, member_view, room_side};
+ghost use Rattle.capi.specs.RingCalls.{Looks, OnRings, SameMember, member_view, room_side};
 
 use crate::hand_slots::{put, room, take};
 use crate::handle::Handle;
 use crate::keeping::borrow;
-use capi_rings::{Fault, Word64, answer};
+use crate::rings::{Fault, Word64, answer};
 use std::alloc::Global;
 
 fn put_at(

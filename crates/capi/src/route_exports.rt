@@ -1,15 +1,15 @@
 //! The exports for routes. Each call takes the table out of its handle and puts it back.
 ghost use Rattle.std.specs.Prelude.{◌≡◌, IfErr};
 ghost use Rattle.lpm.specs.Match.{lookup_in};
-ghost use Rattle.capi_rings.specs.Codes.{Answers};
+ghost use Rattle.capi.specs.Codes.{Answers};
 ghost use Rattle.capi.specs.Handles.{AtRoutes};
 ghost use Rattle.capi.specs.Tables.{Adds, LooksUpAll, OpensTable, Removes, Shares, hop_found};
 
 use crate::handle::Handle;
 use crate::keeping::{borrow, give, is_used};
 use crate::object::Object;
+use crate::rings::{Fault, answer};
 use crate::route_tables::{add, look_up, look_up_all, made, remove, shared};
-use capi_rings::{Fault, answer};
 use std::alloc::Global;
 
 /// A new table in an empty handle.
@@ -84,7 +84,7 @@ fn look_up_all_at(
     hops: &mut [u32],
 ) -> Result<u32, Fault>
     ensures all { AtRoutes h.old.value h.new.value result
-        (λ t u. (u ≡ t) × LooksUpAll result addresses.now hops.old hops.new t) }
+        (λ t u. (u ≡ t) × LooksUpAll result addresses.now hops.old hops.new t.members) }
     ensures refused { IfErr result (λ _. hops.new ≡ hops.old) }
 {
     let Some(slot) = borrow(alloc, h) else {
@@ -154,7 +154,7 @@ pub extern "C" fn hkx_routes_lookup_bulk(
     hops: &mut [u32],
 ) -> i64
     ensures { Answers result (λ outcome. AtRoutes h.old.value h.new.value outcome
-        (λ t u. (u ≡ t) × LooksUpAll outcome addresses.now hops.old hops.new t)
+        (λ t u. (u ≡ t) × LooksUpAll outcome addresses.now hops.old hops.new t.members)
         × IfErr outcome (λ _. hops.new ≡ hops.old)) }
 {
     answer(look_up_all_at(alloc, h, addresses, hops))

@@ -7,7 +7,7 @@ ghost use Rattle.capi.specs.Tables.{Adds, FindsTable, LooksUpAll, RefusesTable, 
 ghost use Rattle.capi.specs.Tables.{hop_word, hop_words};
 
 use crate::object::Object;
-use capi_rings::Fault;
+use crate::rings::Fault;
 use lpm::{NextHop, RouteFault, Table};
 use std::alloc::Global;
 use std::sync::Arc;
@@ -19,7 +19,7 @@ const NO_HOP: u32 = 0xffff_ffff;
 const BLOCK: usize = 32;
 
 /// The fault for one of the table's own.
-fn fault(why: RouteFault) -> Fault
+pub(crate) fn fault(why: RouteFault) -> Fault
     ensures { result ≡ fault_of why }
 {
     match why {
@@ -153,11 +153,11 @@ fn word_of(found: NextHop) -> u32
 fn write_block(table: &Table, addresses: &[u32], hops: &mut [u32], at: usize) -> usize
     requires long { length addresses.now ≡ length hops.old }
     requires below { at < length addresses.now }
-    requires before { take at hops.old ≡ take at (hop_words table.now addresses.now) }
+    requires before { take at hops.old ≡ take at (hop_words table.now.members addresses.now) }
     ensures long { length hops.new ≡ length hops.old }
     ensures further { at < result }
     ensures fits { result ≤ length addresses.now }
-    ensures written { take result hops.new ≡ take result (hop_words table.now addresses.now) }
+    ensures written { take result hops.new ≡ take result (hop_words table.now.members addresses.now) }
 {
     let count = (addresses.len() - at).min(BLOCK);
     let mut places = [NextHop::none(); BLOCK];
@@ -172,12 +172,23 @@ fn write_block(table: &Table, addresses: &[u32], hops: &mut [u32], at: usize) ->
 /// The next hops for addresses, at the same places.
 fn write_hops(table: &Table, addresses: &[u32], hops: &mut [u32])
     requires { length addresses.now ≡ length hops.old }
-    ensures { hops.new ≡ hop_words table.now addresses.now }
+    ensures { hops.new ≡ hop_words table.now.members addresses.now }
 {
     let mut at = 0;
     while at < addresses.len() {
         at = write_block(table, addresses, hops, at);
     }
+}
+
+/// The next hops for addresses, at the same places. Errors: `Count` if there are not as many places.
+pub(crate) fn look_up_in(table: &Table, addresses: &[u32], hops: &mut [u32]) -> Result<u32, Fault>
+    ensures { LooksUpAll result addresses.now hops.old hops.new table.now.members }
+{
+    if addresses.len() != hops.len() {
+        return Err(Fault::Count);
+    }
+    write_hops(table, addresses, hops);
+    Ok(0)
 }
 
 /// The next hops for addresses. Errors: `Count` if there are not as many places.
@@ -187,17 +198,11 @@ pub(crate) fn look_up_all(
     hops: &mut [u32],
 ) -> Result<u32, Fault>
     ensures all { AtRoutes slot.now slot.now result
-        (λ t u. (u ≡ t) × LooksUpAll result addresses.now hops.old hops.new t) }
+        (λ t u. (u ≡ t) × LooksUpAll result addresses.now hops.old hops.new t.members) }
     ensures refused { IfErr result (λ _. hops.new ≡ hops.old) }
 {
     match slot {
-        Some(Object::Routes(table)) => {
-            if addresses.len() != hops.len() {
-                return Err(Fault::Count);
-            }
-            write_hops(table, addresses, hops);
-            Ok(0)
-        }
+        Some(Object::Routes(table)) => look_up_in(table, addresses, hops),
         Some(_) => Err(Fault::Kind),
         None => Err(Fault::Empty),
     }

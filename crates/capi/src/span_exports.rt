@@ -1,16 +1,16 @@
 //! The exports for peeks at rings and for finishing open spans.
 ghost use Rattle.std.specs.Prelude.{◌≡◌};
 ghost use Rattle.geom.specs.declared.plan.Side.TheVariants.{Put, Take};
-ghost use Rattle.capi_rings.specs.Calls.{PeeksPut, PeeksTake, how_of};
-ghost use Rattle.capi_rings.specs.Codes.{Answers};
-ghost use Rattle.capi_rings.specs.Finishes.{FinishesPut, FinishesTake};
+ghost use Rattle.capi.specs.Calls.{PeeksPut, PeeksTake, how_of};
+ghost use Rattle.capi.specs.Codes.{Answers};
+ghost use Rattle.capi.specs.Finishes.{FinishesPut, FinishesTake};
 ghost use Rattle.capi.specs.HandCalls.{AtHand};
-ghost use Rattle.capi_rings.specs.RingCalls.{OnHts, OnPutting, OnTaking, SameMember, member_view};
+ghost use Rattle.capi.specs.RingCalls.{OnHts, OnPutting, OnTaking, SameMember, member_view};
 
 use crate::hand_slots::{finish_put, finish_take, peek_put, peek_take};
 use crate::handle::Handle;
 use crate::keeping::borrow;
-use capi_rings::{Fault, Word64, answer};
+use crate::rings::{Fault, Word64, answer};
 use std::alloc::Global;
 
 fn peek_put_at(

@@ -16,7 +16,7 @@ loop-i-preserved c =
     record {
       inside = search rules;
       long = search rules;
-      done = subst (λ n. take n (set c.loop-i.hops (at + i) c.word_of.result) ≡ take n (hop_words c.args.table.now xs)) next
+      done = subst (λ n. take n (set c.loop-i.hops (at + i) c.word_of.result) ≡ take n (hop_words c.args.table.now.members xs)) next
           (filled_more (λ address. hop_word (lookup_in c.args.table.now.members address)) xs c.loop-i.hops (at + i) c.word_of.result
           below room v.done (c.word_of.ensures ∙ ap hop_word (c.index-found-i.is ∙ found_at (lookup_in c.args.table.now.members)
           c.index-found-i.result xs at (at + c.min-count.result - at) i c.lookup_bulk.new.hops c.lookup_bulk.ensures.value

@@ -6,7 +6,7 @@ abbrev pub invariant-loop-at : goal.invariant-loop-at
 invariant-loop-at l = record {
   inside : l.at ≤ length l.addresses;
   long : length l.hops ≡ length l.addresses;
-  done : take l.at l.hops ≡ take l.at (hop_words l.fn.table l.addresses);
+  done : take l.at l.hops ≡ take l.at (hop_words l.fn.table.members l.addresses);
 }
 
 abbrev pub decreases-loop-at : goal.decreases-loop-at

@@ -1,0 +1,209 @@
+-- Puts and takes of numbers that are tried again, and what a handle has after them
+use Rattle.std.proofs.Common.{◌≡◌, ◌≤◌, ◌++◌, ◌∷◌, ◌∙◌, ℕ, List, [], Option, Some, None, Result, Ok, Err, length, refl, sym, ap, subst, arith, true, false}
+use Rattle.std.specs.Option.{is_some}
+use Rattle.geom.specs.declared.plan.How.{How}
+use Rattle.geom.specs.declared.plan.RingPlan.{RingPlan}
+use Rattle.geom.specs.declared.plan.Side.{Side}
+use Rattle.geom.specs.declared.plan.Side.TheVariants.{Put, Take}
+use Rattle.ringcore_laws.specs.FreeRings.{AreSingle}
+use Rattle.ringcore_laws.specs.Sound.{holds, occurrences_in}
+use Rattle.burst.specs.declared.tagged.Tagged.{Ghosts}
+use Rattle.fabric.specs.declared.stored.Stored.{Ghosts as StoredGhosts}
+use Rattle.fabric_laws.specs.declared.view.View.{View}
+use Rattle.fabric_laws.specs.Kinds.{IsHeldOnce}
+use Rattle.fabric.specs.declared.hand.StartFault.{StartFault}
+use Rattle.fabric.specs.declared.hand.cache_hand.CacheHand.{CacheHand}
+use Rattle.fabric.specs.CacheHands.{IsCacheHandOf}
+use Rattle.fabric.specs.Hands.{view}
+use Rattle.fabric.specs.Settles.{AreOwnBuffers}
+use Rattle.fabric.specs.Views.{IsKept}
+use Rattle.fabric.proofs.Told.{refused_kept}
+use Rattle.ringapi.specs.declared.answers.Moved.{Moved}
+use Rattle.ringapi.specs.declared.answers.Refusal.{Refusal}
+use Rattle.ringapi.specs.declared.answers.Refusal.TheVariants.{Start, NotYours}
+use Rattle.ringapi.specs.Views.{RefusedStarts, by_bulk}
+use Rattle.word_pool.specs.declared.local_words.LocalWords.{LocalWords}
+use Rattle.pool_laws.specs.Beside.{Receives, Sends, unsent_of}
+use Rattle.pool_laws.specs.Hands.{IsIn, IsSameIn, view_in}
+use Rattle.word_pool.specs.Words.{HasSameHand, cache_of, hand_of, view_of}
+use Rattle.pool_laws.proofs.Asking.{took, took_holds}
+use Rattle.ringapi.proofs.Counts.{count_both}
+use Rattle.ringapi.proofs.Singles.{single_both}
+use Rattle.capi.specs.PoolMembers.{NumberRings, SuitsCache, numbers_of}
+use Rattle.capi.specs.Tries.{Filled, Received, Sent}
+use Rattle.capi.specs.declared.pools.member.Number.{Number}
+
+module _ {T : Type 0} where
+  pub view_kept : (v w : View T) → w ≡ v → IsKept v w
+  view_kept v w is = record {
+    party = ap (λ (u : View T). u.party) is;
+    parts = ap (λ (u : View T). u.parts) is;
+    plans = ap (λ (u : View T). u.plans) is;
+    pool = ap (λ (u : View T). u.pool) is;
+  }
+
+  pub then_kept : (v u w : View T) → IsKept v u → IsKept u w → IsKept v w
+  then_kept v u w first then = record {
+    party = then.party ∙ first.party;
+    parts = then.parts ∙ first.parts;
+    plans = then.plans ∙ first.plans;
+    pool = then.pool ∙ first.pool;
+  }
+
+-- starts that were refused changed nothing of the hand
+starts_keep : {T : Type 0} (tags : T → List ℕ) (most : ℕ) (how : How) (n ring : ℕ) (side : Side) (plan : RingPlan) (v : View T)
+    (starts : List (View T × StartFault)) (w : View T) → RefusedStarts tags most how n ring side plan v starts w → IsKept v w
+starts_keep tags most how n ring side plan v [] w is = view_kept v w is
+starts_keep tags most how n ring side plan v (start ∷ before) w is =
+    then_kept v start.0 w (starts_keep tags most how n ring side plan v before start.0 is.2)
+    (refused_kept tags most how n ring side plan start.0 w start.1 is.0)
+
+-- each number carries one buffer
+pub all_single : (items : List Number) → AreSingle numbers_of items
+all_single [] = refl
+all_single (x ∷ items) = all_single items
+
+module _ {G : Ghosts Number} {H : StoredGhosts (Option Number) Number} where
+  -- a put that was refused changed nothing of the hand
+  pub unsent_keeps : (ring : ℕ) (plan : RingPlan) (k o : Option (CacheHand Number (Option Number) G H)) (cache items rest : List Number)
+      (why : Refusal) → Sends numbers_of by_bulk 1024 ring plan k o cache items (Err why) rest → IsKept (view_in k) (view_in o)
+  unsent_keeps ring plan k o cache items rest (Start fault) is =
+      let tells = is.1.2 in
+      let before = starts_keep numbers_of 1024 by_bulk (length items) ring Put plan (view_in k) is.1.0 tells.2 tells.3 in
+      let last = refused_kept numbers_of 1024 by_bulk (length items) ring Put plan tells.2 (view is.0) fault tells.4 in
+      then_kept (view_in k) (view is.0) (view_in o) (then_kept (view_in k) tells.2 (view is.0) before last) (view_kept (view is.0) (view_in o) is.2)
+  unsent_keeps ring plan k o cache items rest NotYours is = view_kept (view_in k) (view_in o) is.2
+
+  pub unreceived_keeps : (ring n : ℕ) (plan : RingPlan) (k o : Option (CacheHand Number (Option Number) G H)) (shown : List Number)
+      (why : StartFault) → Receives numbers_of by_bulk 1024 ring plan k o n (Err why) shown
+      → (shown ≡ []) × IsKept (view_in k) (view_in o)
+  unreceived_keeps ring n plan k o shown why is =
+      let tells = is.1.2 in
+      let before = starts_keep numbers_of 1024 by_bulk n ring Take plan (view_in k) is.1.0 tells.1 tells.2 in
+      let last = refused_kept numbers_of 1024 by_bulk n ring Take plan tells.1 (view is.0) why tells.3 in (
+        tells.0,
+        then_kept (view_in k) (view is.0) (view_in o) (then_kept (view_in k) tells.1 (view is.0) before last)
+            (view_kept (view is.0) (view_in o) is.2),
+      )
+
+  -- a hand that is there has each buffer once at most
+  pub held_once : (o : Option (CacheHand Number (Option Number) G H)) → is_some o ≡ true
+      → IsHeldOnce G.numbers (view_in o).pool (view_in o).party
+  held_once None here = absurd (let z : false ≡ true = here in cc)
+  held_once (Some k) here = k.well
+
+  -- what a take took is the hand's own, beside what is cached
+  pub received_own : (ring n : ℕ) (plan : RingPlan) (k o : Option (CacheHand Number (Option Number) G H)) (moved : Moved)
+      (items cache : List Number) → IsHeldOnce numbers_of (view_in k).pool (view_in k).party
+      → ((b : ℕ) → occurrences_in numbers_of b cache ≤ holds numbers_of b (view_in k).party)
+      → Receives numbers_of by_bulk 1024 ring plan k o n (Ok moved) items
+      → (length items ≡ n) × AreOwnBuffers numbers_of (view_in o) (items ++ cache)
+  received_own ring n plan k o moved items cache once fits is =
+      let takes = took numbers_of 1024 ring plan (view_in k) n is.0 moved items is.1 in
+      let more = took_holds numbers_of 1024 ring plan (view_in k) n is.0 items (view_in k).pool once takes in (
+        takes.0,
+        (
+          λ b. omega (
+            arith,
+            fits b,
+            more b,
+            count_both numbers_of b items cache,
+            ap (λ (v : View Number). holds numbers_of b v.party) is.2,
+          ),
+          single_both numbers_of items cache (all_single items) (all_single cache),
+        ),
+      )
+
+  module _ (f : NumberRings) (ring : ℕ) (l k m : LocalWords Number 1024 (Option Number) G H) where
+    -- the same of a try after others
+    pub sent_later : (cache items : List Number) (answer : Result Moved Refusal) → IsKept (view_of l) (view_of k)
+        → cache_of k ≡ cache → Sent f ring (cache_of k) items k m answer → Sent f ring cache items l m answer
+    sent_later cache items answer kept same is =
+        subst (λ (xs : List Number). Sent f ring xs items l m answer) same (record {
+          seen = is.seen;
+          kept = then_kept (view_of l) (view_of k) (view_in is.seen) kept is.kept;
+          reply = is.reply;
+        })
+
+    pub received_later : (n : ℕ) (answer : Result Moved StartFault) (shown : List Number) → IsKept (view_of l) (view_of k)
+        → Received f ring n k m answer shown → Received f ring n l m answer shown
+    received_later n answer shown kept is = record {
+      seen = is.seen;
+      kept = then_kept (view_of l) (view_of k) (view_in is.seen) kept is.kept;
+      reply = is.reply;
+    }
+
+    pub filled_later : (n : ℕ) (after : List Number) (moved : Moved) → IsKept (view_of l) (view_of k)
+        → Filled f ring n after k m moved → Filled f ring n after l m moved
+    filled_later n after moved kept is = record {
+      long = is.long;
+      reply = received_later n (Ok moved) after kept is.reply;
+      own = is.own;
+    }
+
+  -- the same of a cache whose hand is the same still
+  receives_same : (ring n : ℕ) (plan : RingPlan) (k o p : Option (CacheHand Number (Option Number) G H))
+      (answer : Result Moved StartFault) (shown : List Number) → view_in p ≡ view_in o
+      → Receives numbers_of by_bulk 1024 ring plan k o n answer shown → Receives numbers_of by_bulk 1024 ring plan k p n answer shown
+  receives_same ring n plan k o p (Ok moved) shown same is = (is.0, is.1, same ∙ is.2)
+  receives_same ring n plan k o p (Err why) shown same is = (is.0, is.1, same ∙ is.2)
+
+  sends_same : (ring : ℕ) (plan : RingPlan) (k o p : Option (CacheHand Number (Option Number) G H)) (cache items rest : List Number)
+      (answer : Result Moved Refusal) → view_in p ≡ view_in o → Sends numbers_of by_bulk 1024 ring plan k o cache items answer rest
+      → Sends numbers_of by_bulk 1024 ring plan k p cache items answer rest
+  sends_same ring plan k o p cache items rest (Ok moved) same is = (is.0, is.1, same ∙ is.2)
+  sends_same ring plan k o p cache items rest (Err (Start why)) same is = (is.0, is.1, same ∙ is.2)
+  sends_same ring plan k o p cache items rest (Err NotYours) same is = (is.0, is.1, same ∙ is.2)
+
+  pub sent_same : (f : NumberRings) (ring : ℕ) (l k m : LocalWords Number 1024 (Option Number) G H) (cache items : List Number)
+      (answer : Result Moved Refusal) → view_of m ≡ view_of k → Sent f ring cache items l k answer → Sent f ring cache items l m answer
+  sent_same f ring l k m cache items answer same is = record {
+    seen = is.seen;
+    kept = is.kept;
+    reply = λ plan there. sends_same ring plan is.seen (hand_of k) (hand_of m) cache items (unsent_of answer items) answer same
+        (is.reply plan there);
+  }
+
+  pub received_same : (f : NumberRings) (ring n : ℕ) (l k m : LocalWords Number 1024 (Option Number) G H)
+      (answer : Result Moved StartFault) (shown : List Number) → view_of m ≡ view_of k → Received f ring n l k answer shown
+      → Received f ring n l m answer shown
+  received_same f ring n l k m answer shown same is = record {
+    seen = is.seen;
+    kept = is.kept;
+    reply = λ plan there. receives_same ring n plan is.seen (hand_of k) (hand_of m) answer shown same (is.reply plan there);
+  }
+
+  -- the same hand has the same view
+  same_view_in : (o p : Option (CacheHand Number (Option Number) G H)) → IsSameIn o p → view_in p ≡ view_in o
+  same_view_in None p is = absurd is
+  same_view_in (Some k) None is = absurd is
+  same_view_in (Some k) (Some m) is = ap (λ s. s.me.0) is
+
+  pub same_view : (l m : LocalWords Number 1024 (Option Number) G H) → HasSameHand l m → view_of m ≡ view_of l
+  same_view l m is = same_view_in l.hand m.hand is
+
+  same_in : (f : NumberRings) (o p : Option (CacheHand Number (Option Number) G H)) → IsSameIn o p → IsIn f o → IsIn f p
+  same_in f None p is mine = absurd is
+  same_in f (Some k) None is mine = absurd is
+  same_in f (Some k) (Some m) is mine = subst (λ s. (s.table_id ≡ f.table.shared.table_id) × (s.me.0.plans ≡ f.plan.rings.items)
+      × (s.me.0.pool ≡ f.plan.buffers)) (sym is) mine
+
+  pub same_local : (f : NumberRings) (l m : LocalWords Number 1024 (Option Number) G H) → HasSameHand l m → IsIn f l.hand → IsIn f m.hand
+  same_local f l m is mine = same_in f l.hand m.hand is mine
+
+  in_from : (f : NumberRings) (o : Option (CacheHand Number (Option Number) G H)) → is_some o ≡ true
+      → ((k : CacheHand Number (Option Number) G H) → o ≡ Some k → IsCacheHandOf f k) → IsIn f o
+  in_from f None here suits = absurd (let z : false ≡ true = here in cc)
+  in_from f (Some k) here suits = suits k refl
+
+  -- a cache that suits the rings is of these rings
+  pub suits_local : (f : NumberRings) (l : LocalWords Number 1024 (Option Number) G H) → SuitsCache f l → IsIn f l.hand
+  suits_local f l suits = in_from f l.hand l.here suits
+
+  pub local_suits : (f : NumberRings) (l : LocalWords Number 1024 (Option Number) G H) → IsIn f l.hand → SuitsCache f l
+  local_suits f l mine k is = subst (λ o. IsIn f o) is mine
+
+-- for puts and takes that are tried again
+pub ruleset sent_again = (sent_later, then_kept, view_kept)
+
+pub ruleset received_again = (received_later, filled_later, then_kept, view_kept)

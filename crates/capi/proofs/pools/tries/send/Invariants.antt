@@ -1,0 +1,16 @@
+use Rattle.std.proofs.Common.{◌<◌}
+use Rattle.fabric.specs.Views.{IsKept}
+use Rattle.word_pool.specs.Words.{IsLocalOf, SameCache, SameRing, view_of}
+use Rattle.capi.proofs.pools.tries.send.Given as goal
+
+abbrev pub invariant-loop-tries : goal.invariant-loop-tries
+invariant-loop-tries l = record {
+  local : IsLocalOf l.f l.local;
+  ring : SameRing l.fn.local l.local;
+  cache : SameCache l.fn.local l.local;
+  kept : IsKept (view_of l.fn.local) (view_of l.local);
+  some : 0 < l.tries.left;
+}
+
+abbrev pub decreases-loop-tries : goal.decreases-loop-tries
+decreases-loop-tries l = l.tries.left

@@ -1,0 +1,16 @@
+use Rattle.std.proofs.Common.{[], refl}
+use Rattle.geom.specs.declared.plan.Side.TheVariants.{Put}
+use Rattle.fabric.specs.Held.{span_at}
+use Rattle.fabric.specs.InPlace.{placed_view}
+use Rattle.capi.proofs.Reserving.{reserved_of}
+use Rattle.capi.proofs.rings.starting.start_put.Goals as goal
+
+pub returns-in-Ok-clause-started : goal.returns-in-Ok-clause-started
+returns-in-Ok-clause-started c =
+    let r = c.in-Ok.reserved in
+    let s = c.in-Ok.ensures.started in (
+      s.0,
+      reserved_of c.args.f.now c.args.how c.args.n c.args.ring Put (placed_view c.args.hand.now) (span_at Put r) r.range.left []
+          (placed_view c.try_start_put.new.self) c.requires.ring s.1 refl s.2 (λ plan there. (c.in-Ok.ensures.asked plan there).0)
+          c.in-Ok.ensures.opened,
+    )

@@ -1,0 +1,70 @@
+-- What bulk puts and takes of numbers do that are tried a limited number of times
+use Rattle.std.specs.Prelude.{◌≡◌, ◌++◌, ℕ, ⊤, List, length, Option, Result, Ok}
+use Rattle.burst.specs.declared.tagged.Tagged.{Ghosts}
+use Rattle.fabric.specs.declared.stored.Stored.{Ghosts as StoredGhosts}
+use Rattle.fabric.specs.declared.hand.StartFault.{StartFault}
+use Rattle.fabric.specs.declared.hand.StartFault.TheVariants as start
+use Rattle.fabric.specs.declared.hand.cache_hand.CacheHand.{CacheHand}
+use Rattle.fabric.specs.Hands.{OnRing}
+use Rattle.fabric.specs.Settles.{AreOwnBuffers}
+use Rattle.fabric.specs.Views.{IsKept}
+use Rattle.ringapi.specs.declared.answers.Moved.{Moved}
+use Rattle.ringapi.specs.declared.answers.Refusal.{Refusal}
+use Rattle.ringapi.specs.declared.answers.Refusal.TheVariants.{Start, NotYours}
+use Rattle.ringapi.specs.Views.{by_bulk}
+use Rattle.word_pool.specs.declared.local_words.LocalWords.{LocalWords}
+use Rattle.pool_laws.specs.Beside.{Receives, Sends, unsent_of}
+use Rattle.pool_laws.specs.Hands.{view_in}
+use Rattle.word_pool.specs.Words.{SameCache, SameRing, cache_of, hand_of, view_of}
+use Rattle.capi.specs.PoolMembers.{NumberRings, numbers_of}
+use Rattle.capi.specs.Spans.{start_fault}
+use Rattle.capi.specs.declared.rings.fault.Fault.{Fault}
+use Rattle.capi.specs.declared.rings.fault.Fault.TheVariants as fault
+use Rattle.capi.specs.declared.pools.member.Number.{Number}
+
+-- the fault for a refused put
+abbrev pub refusal_fault : Refusal → Fault
+refusal_fault (Start why) = start_fault why
+refusal_fault NotYours = fault.NotYours
+
+-- another thread came first, so that a further try may succeed
+abbrev pub WasLost : StartFault → Type 0
+WasLost (start.Busy word) = ⊤
+WasLost (start.Contended word) = ⊤
+WasLost (start.NoRoom left) = ⊥
+WasLost start.Worn = ⊥
+WasLost start.BadCount = ⊥
+
+abbrev pub WasLostPut : Refusal → Type 0
+WasLostPut (Start why) = WasLost why
+WasLostPut NotYours = ⊥
+
+module _ {G : Ghosts Number} {H : StoredGhosts (Option Number) Number} where
+  -- the handle has the numbers and the cache that it had
+  pub record IsSame (l m : LocalWords Number 1024 (Option Number) G H) : Type 0 where
+    pub ring : SameRing l m
+    pub cache : SameCache l m
+    pub kept : IsKept (view_of l) (view_of m)
+
+  -- The last of some tries put these numbers on a ring, or was refused, and the tries before it changed nothing. They
+  -- are not in the cache
+  pub record Sent (f : NumberRings) (ring : ℕ) (cache items : List Number)
+      (l m : LocalWords Number 1024 (Option Number) G H) (answer : Result Moved Refusal) : Type 0 where
+    pub seen : Option (CacheHand Number (Option Number) G H)
+    pub kept : IsKept (view_of l) (view_in seen)
+    pub reply : OnRing f ring (λ plan. Sends numbers_of by_bulk 1024 ring plan seen (hand_of m) cache items answer
+        (unsent_of answer items))
+
+  -- The last of some tries took n numbers from a ring, these, or was refused, and the tries before it changed nothing
+  pub record Received (f : NumberRings) (ring n : ℕ) (l m : LocalWords Number 1024 (Option Number) G H)
+      (answer : Result Moved StartFault) (shown : List Number) : Type 0 where
+    pub seen : Option (CacheHand Number (Option Number) G H)
+    pub kept : IsKept (view_of l) (view_in seen)
+    pub reply : OnRing f ring (λ plan. Receives numbers_of by_bulk 1024 ring plan seen (hand_of m) n answer shown)
+
+  -- numbers of a ring filled an array of n places, and are the handle's own
+  pub record Filled (f : NumberRings) (ring n : ℕ) (after : List Number)
+      (l m : LocalWords Number 1024 (Option Number) G H) (moved : Moved) : Type 0 where
+    pub long : length after ≡ n
+    pub reply : Received f ring n l m (Ok moved) after
+    pub own : AreOwnBuffers numbers_of (view_of m) (after ++ cache_of m)

@@ -1,0 +1,179 @@
+//! Calls on a reader of a forwarding table. Each is answered by what was published last, and neither waits nor takes
+//! memory.
+ghost use Rattle.std.specs.Prelude.{◌≡◌, ◌↔◌, IfErr, IsTrue};
+ghost use Rattle.lpm.specs.Match.{lookup_in};
+ghost use Rattle.capi.specs.Forwards.{AtForward, Forwards, ForwardsAll, IsBurst, Judges, TellsAddressed};
+ghost use Rattle.capi.specs.Tables.{LooksUpAll, hop_found};
+
+use crate::object::Object;
+use crate::rings::Fault;
+use crate::route_tables::look_up_in;
+use forwarder::{Frame, MOST, Port, addressed_at, fits};
+use ipv4::Hop;
+use live_routes::Fib;
+
+/// The next hop for an address.
+#[inline]
+pub(crate) fn look_up(slot: &mut Option<Object>, address: u32) -> Result<u32, Fault>
+    ensures { AtForward slot.old slot.new result (λ r. result ≡ hop_found (lookup_in r.members address)) }
+{
+    match slot {
+        Some(Object::Forward(reader)) => match reader.lookup(address) {
+            Some(hop) => Ok(hop),
+            None => Err(Fault::NoRoute),
+        },
+        Some(_) => Err(Fault::Kind),
+        None => Err(Fault::Empty),
+    }
+}
+
+/// The next hops for addresses, all by the same publish. Errors: `Count` if there are not as many places.
+pub(crate) fn look_up_all(
+    slot: &mut Option<Object>,
+    addresses: &[u32],
+    hops: &mut [u32],
+) -> Result<u32, Fault>
+    ensures all { AtForward slot.old slot.new result
+        (λ r. LooksUpAll result addresses.now hops.old hops.new r.members) }
+    ensures refused { IfErr result (λ _. hops.new ≡ hops.old) }
+{
+    match slot {
+        Some(Object::Forward(reader)) => {
+            reader.enter();
+            let outcome = look_up_in(reader.fib().table(), addresses, hops);
+            reader.leave();
+            outcome
+        }
+        Some(_) => Err(Fault::Kind),
+        None => Err(Fault::Empty),
+    }
+}
+
+#[inline]
+fn forward_in(fib: &Fib<Hop, Port>, frame: &mut [u8], wire: usize) -> Result<u32, Fault>
+    ensures { Forwards result wire frame.old frame.new fib.now }
+{
+    if frame.len() > wire {
+        return Err(Fault::Count);
+    }
+    Ok(forwarder::forward(fib, frame, wire))
+}
+
+/// Forwards a frame.
+#[inline]
+pub(crate) fn forward(
+    slot: &mut Option<Object>,
+    frame: &mut [u8],
+    wire: usize,
+) -> Result<u32, Fault>
+    ensures forwarded { AtForward slot.old slot.new result (Forwards result wire frame.old frame.new) }
+    ensures refused { IfErr result (λ _. frame.new ≡ frame.old) }
+{
+    match slot {
+        Some(Object::Forward(reader)) => {
+            reader.enter();
+            let outcome = forward_in(reader.fib(), frame, wire);
+            reader.leave();
+            outcome
+        }
+        Some(_) => Err(Fault::Kind),
+        None => Err(Fault::Empty),
+    }
+}
+
+#[inline]
+fn verdict_in(fib: &Fib<Hop, Port>, frame: &[u8], wire: usize) -> Result<u32, Fault>
+    ensures { Judges result wire frame.now fib.now }
+{
+    if frame.len() > wire {
+        return Err(Fault::Count);
+    }
+    Ok(forwarder::verdict(fib, frame, wire))
+}
+
+/// The verdict on a frame.
+#[inline]
+pub(crate) fn verdict(slot: &mut Option<Object>, frame: &[u8], wire: usize) -> Result<u32, Fault>
+    ensures { AtForward slot.old slot.new result (Judges result wire frame.now) }
+{
+    match slot {
+        Some(Object::Forward(reader)) => {
+            reader.enter();
+            let outcome = verdict_in(reader.fib(), frame, wire);
+            reader.leave();
+            outcome
+        }
+        Some(_) => Err(Fault::Kind),
+        None => Err(Fault::Empty),
+    }
+}
+
+/// Whether frames and places are a burst.
+fn is_burst(frames: &[Frame<'_>], verdicts: &[u32]) -> bool
+    ensures { IsTrue result ↔ IsBurst frames.now verdicts.now }
+{
+    if frames.is_empty() || frames.len() > MOST || frames.len() != verdicts.len() {
+        return false;
+    }
+    frames.iter().all(|frame| fits(frame))
+}
+
+fn burst_in(
+    fib: &Fib<Hop, Port>,
+    frames: &mut [Frame<'_>],
+    verdicts: &mut [u32],
+) -> Result<u32, Fault>
+    ensures { ForwardsAll result frames.old frames.new verdicts.old verdicts.new fib.now }
+{
+    if !is_burst(frames, verdicts) {
+        return Err(Fault::Count);
+    }
+    Ok(forwarder::forward_burst(fib, frames, verdicts) as u32)
+}
+
+/// Forwards a burst, all frames by the same publish.
+pub(crate) fn forward_burst(
+    slot: &mut Option<Object>,
+    frames: &mut [Frame<'_>],
+    verdicts: &mut [u32],
+) -> Result<u32, Fault>
+    ensures forwarded { AtForward slot.old slot.new result
+        (ForwardsAll result frames.old frames.new verdicts.old verdicts.new) }
+    ensures refused { IfErr result (λ _. (frames.new ≡ frames.old) × (verdicts.new ≡ verdicts.old)) }
+{
+    match slot {
+        Some(Object::Forward(reader)) => {
+            reader.enter();
+            let outcome = burst_in(reader.fib(), frames, verdicts);
+            reader.leave();
+            outcome
+        }
+        Some(_) => Err(Fault::Kind),
+        None => Err(Fault::Empty),
+    }
+}
+
+fn addressed_in(fib: &Fib<Hop, Port>, port: usize, frame: &[u8]) -> Result<u32, Fault>
+    ensures { TellsAddressed result port frame.now fib.now }
+{
+    match addressed_at(fib, port, frame) {
+        Some(told) => Ok(told.bits()),
+        None => Err(Fault::Count),
+    }
+}
+
+/// What a frame is addressed to.
+pub(crate) fn addressed(slot: &mut Option<Object>, port: usize, frame: &[u8]) -> Result<u32, Fault>
+    ensures { AtForward slot.old slot.new result (TellsAddressed result port frame.now) }
+{
+    match slot {
+        Some(Object::Forward(reader)) => {
+            reader.enter();
+            let outcome = addressed_in(reader.fib(), port, frame);
+            reader.leave();
+            outcome
+        }
+        Some(_) => Err(Fault::Kind),
+        None => Err(Fault::Empty),
+    }
+}

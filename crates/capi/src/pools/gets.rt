@@ -1,0 +1,126 @@
+//! Gets of numbers: from the cache, and if it has too few, with one request to the free ring.
+ghost use Rattle.std.specs.Prelude.{◌≡◌, ◌+◌, ◌-◌, ◌<◌, ◌≤◌, ◌++◌, [], length, Err, IfErr, IfOk};
+ghost use Rattle.fabric.specs.Hands.{rings_of};
+ghost use Rattle.fabric.specs.Settles.{AreOwnBuffers};
+ghost use Rattle.pool_laws.specs.Caches.{cached_after_get, taken_by_get};
+ghost use Rattle.word_pool.specs.Words.{HasSameHand, IsLocalOf, SameRing, cache_of, cache_size, view_of};
+ghost use Rattle.capi.specs.PoolCalls.{Gets, HasDrawn};
+ghost use Rattle.capi.specs.PoolMembers.{ArePoolRings, numbers_of};
+ghost use Rattle.capi.specs.Tries.{IsSame, Received};
+
+use crate::pools::member::{MOST_NUMBERS, Number};
+use crate::pools::tries::{Tries, receive};
+use crate::rings::{Fault, fault_of};
+use burst::Slot;
+use fabric::{Fabric, StartFault};
+use word_pool::LocalWords;
+
+/// Deals what the cache has and what the free ring gave: the array is filled, and the rest is cached.
+fn deal(local: &mut LocalWords<Number, 1024, Slot<Number>>, taken: &[Number], into: &mut [Number])
+    requires short { length (cache_of local.old) < length into.old }
+    requires enough { length into.old - length (cache_of local.old) ≤ length taken.now }
+    requires rest { length taken.now ≤ length into.old - length (cache_of local.old) + cache_size local.old }
+    requires own { AreOwnBuffers numbers_of (view_of local.old) (taken.now ++ cache_of local.old) }
+    ensures same { SameRing local.old local.new × HasSameHand local.old local.new }
+    ensures given { into.new ≡ taken_by_get (length into.old) (cache_of local.old) taken.now }
+    ensures cached { cache_of local.new ≡ cached_after_get (length into.old) (cache_of local.old) taken.now }
+    ensures own { AreOwnBuffers numbers_of (view_of local.new) (into.new ++ cache_of local.new) }
+{
+    let (front, rest) = into.split_at_mut(local.len());
+    match local.get_cached_into_slice(front) {
+        Ok(()) => (),
+        Err(_) => unreachable!(),
+    }
+    let missing = rest.len();
+    rest.copy_from_slice(&taken[..missing]);
+    match local.put_cached_from_slice(&taken[missing..]) {
+        Ok(()) => (),
+        Err(_) => unreachable!(),
+    }
+}
+
+/// Gets numbers, with `asked` of them from the free ring.
+#[inline(never)]
+fn draw(
+    f: &Fabric<Number, 1024, Slot<Number>>,
+    local: &mut LocalWords<Number, 1024, Slot<Number>>,
+    asked: usize,
+    into: &mut [Number],
+) -> Result<(), StartFault>
+    requires local { IsLocalOf f.now local.old }
+    requires rings { ArePoolRings (rings_of f.now) }
+    requires there { 0 < length (rings_of f.now) }
+    requires short { length (cache_of local.old) < length into.old }
+    requires enough { length into.old - length (cache_of local.old) ≤ asked }
+    requires most { asked ≤ length into.old - length (cache_of local.old) + cache_size local.old }
+    requires fits { asked ≤ 1024 }
+    ensures local { IsLocalOf f.now local.new }
+    ensures got { IfOk result (λ _. HasDrawn f.now local.old local.new (length into.old) asked into.new) }
+    ensures back { IfErr result (λ _. (into.new ≡ into.old) × IsSame local.old local.new) }
+    ensures refused { IfErr result (λ why. Received f.now 0 asked local.old local.new (Err why) []) }
+{
+    let mut places = [Number { value: 0 }; 1024];
+    let taken = &mut places[..asked];
+    match receive(f, local, 0, taken, &mut Tries::new()) {
+        Ok(_) => {
+            deal(local, taken, into);
+            Ok(())
+        }
+        Err(why) => Err(why),
+    }
+}
+
+/// Gets numbers if the cache has too few: with a whole cache more, or if the free ring has fewer, without.
+#[inline(never)]
+fn get_more(
+    f: &Fabric<Number, 1024, Slot<Number>>,
+    local: &mut LocalWords<Number, 1024, Slot<Number>>,
+    into: &mut [Number],
+) -> Result<u32, Fault>
+    requires local { IsLocalOf f.now local.old }
+    requires rings { ArePoolRings (rings_of f.now) }
+    requires there { 0 < length (rings_of f.now) }
+    requires short { length (cache_of local.old) < length into.old }
+    requires few { length into.old ≤ 512 }
+    ensures local { IsLocalOf f.now local.new }
+    ensures exact { Gets f.now local.old local.new into.old into.new result }
+{
+    let n = into.len();
+    let missing = n - local.len();
+    let more = missing + local.size();
+    match draw(f, local, more, into) {
+        Ok(()) => return Ok(n as u32),
+        Err(StartFault::NoRoom(_)) => (),
+        Err(why) => return Err(fault_of(why)),
+    }
+    match draw(f, local, missing, into) {
+        Ok(()) => Ok(n as u32),
+        Err(why) => Err(fault_of(why)),
+    }
+}
+
+/// Fills an array with numbers, or leaves it as it is.
+#[inline(always)]
+pub fn get_numbers(
+    f: &Fabric<Number, 1024, Slot<Number>>,
+    local: &mut LocalWords<Number, 1024, Slot<Number>>,
+    into: &mut [Number],
+) -> Result<u32, Fault>
+    requires local { IsLocalOf f.now local.old }
+    requires rings { ArePoolRings (rings_of f.now) }
+    requires there { 0 < length (rings_of f.now) }
+    ensures local { IsLocalOf f.now local.new }
+    ensures exact { Gets f.now local.old local.new into.old into.new result }
+{
+    let n = into.len();
+    if n == 0 || n > MOST_NUMBERS {
+        return Err(Fault::Count);
+    }
+    if local.len() < n {
+        return get_more(f, local, into);
+    }
+    match local.get_cached_into_slice(into) {
+        Ok(()) => Ok(n as u32),
+        Err(_) => unreachable!(),
+    }
+}

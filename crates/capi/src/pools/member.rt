@@ -1,0 +1,60 @@
+//! One thread's way to a pool of numbers: a cache in front of the free ring, and the rings that pass numbers on.
+ghost use Rattle.std.specs.Prelude.{◌≡◌, ◌+◌, length};
+ghost use Rattle.fabric.specs.Hands.{IsHandOf, rings_of};
+ghost use Rattle.word_pool.specs.Words.{ring_of};
+ghost use Rattle.capi.specs.PoolMembers.{ArePoolRings, SuitsCache};
+
+use arrayvec::ArrayVec;
+use burst::{Slot, Tagged, Word};
+use fabric::{Fabric, Hand};
+use std::sync::Arc;
+use word_pool::LocalWords;
+
+/// The most numbers of one call. A get asks the free ring for these and a whole cache, 1,024 at most.
+pub(crate) const MOST_NUMBERS: usize = 512;
+
+/// A number of a pool. The thread that has it owns what it stands for.
+#[repr(C)]
+#[derive(Drop, Clone, Copy, Debug)]
+pub struct Number {
+    pub value: u32,
+}
+
+impl Tagged for Number {
+    ghost use Rattle.std.specs.Prelude.{[], ◌∷◌};
+
+    ghost numbers = { λ n. n.value ∷ [] };
+
+    #[inline]
+    fn tags(&self, out: &mut ArrayVec<u32, 64>) {
+        out.push(self.value);
+    }
+
+    #[inline]
+    fn single_tag(&self) -> Option<u32> {
+        Some(self.value)
+    }
+}
+
+impl Word for Number {
+    #[inline]
+    fn blank() -> Number {
+        Number { value: 0 }
+    }
+}
+
+/// A cache with its rings, so that no call brings together a cache and rings of another pool. Ring 0 is the free ring.
+#[derive(Drop)]
+pub struct PoolMember {
+    pub fabric: Arc<Fabric<Number, 1024, Slot<Number>>>,
+    pub local: LocalWords<Number, 1024, Slot<Number>>,
+    /// A hand without numbers: the hands of further handles are split off it, so that a split leaves the cache alone.
+    pub reserve: Hand<Number, Slot<Number>>,
+    /// How many rings pass numbers on: those after the free ring.
+    pub rings: usize,
+    pub ghost plans: { ArePoolRings (rings_of fabric.value) },
+    pub ghost many: { length (rings_of fabric.value) ≡ rings + 1 },
+    pub ghost first: { ring_of local ≡ 0 },
+    pub ghost suits: { SuitsCache fabric.value local },
+    pub ghost spare: { IsHandOf fabric.value reserve },
+}

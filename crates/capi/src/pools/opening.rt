@@ -1,0 +1,195 @@
+//! New pools: all numbers are put on the free ring.
+ghost use Rattle.std.specs.Prelude.{◌≡◌, ◌+◌, ◌<◌, ◌≤◌, [], IfErr, IfOk, false, length, true};
+ghost use Rattle.geom.specs.Extent.{IsExtent};
+ghost use Rattle.fabric.specs.Hands.{IsHandOf, pool_of, rings_of, view};
+ghost use Rattle.fabric.specs.Making.{MayStand};
+ghost use Rattle.capi.specs.PoolOpenings.{ArePut, HasPut, IsNewPool, IsPoolSize, NoPoolSize, RefusesPool};
+ghost use Rattle.capi.specs.PoolMembers.{ArePoolRings, all_numbers};
+ghost use Rattle.capi.specs.declared.rings.fault.Fault.TheVariants as fault;
+
+use crate::pools::member::{Number, PoolMember};
+use crate::rings::Fault;
+use burst::Slot;
+use fabric::{Fabric, Hand, OpenFault, Opened};
+use geom::{Geometry, Mode, RingPlan};
+use ringapi::{PutAnswer, try_put_bulk_slice};
+use std::alloc::Global;
+use std::sync::Arc;
+use word_pool::LocalWords;
+
+/// The most numbers of one put on the free ring.
+const BULK: usize = 1024;
+
+/// The most puts that a pool is filled by: of 65,536 numbers.
+const BULKS: usize = 64;
+
+/// The size of each ring: it takes all numbers.
+fn extent(n: u32) -> Geometry
+    requires some { 0 < n }
+    requires few { n ≤ 65536 }
+    ensures capacity { result.capacity ≡ n }
+    ensures extent { IsExtent result }
+{
+    match Geometry::exact(u64::from(n)) {
+        Ok(geometry) => geometry,
+        Err(_) => unreachable!(),
+    }
+}
+
+/// The rings of a pool: each takes all numbers, and its sides are head/tail-sync. The first is the free ring.
+fn plans(alloc: Global, n: u32, rings: usize) -> Result<Vec<RingPlan>, Fault>
+    requires some { 0 < n }
+    requires few { n ≤ 65536 }
+    requires rings { rings ≤ 63 }
+    ensures made { IfOk result (λ made. ArePoolRings made.items × MayStand made.items n 1024) }
+    ensures many { IfOk result (λ made. length made.items ≡ rings + 1) }
+    ensures refused { IfErr result (λ why. why ≡ fault.Memory) }
+{
+    let geometry = extent(n);
+    let other = RingPlan::same_mode(geometry, Mode::Hts, false);
+    let Ok(mut made) = Vec::from_elem(alloc, other, rings + 1) else {
+        return Err(Fault::Memory);
+    };
+    made[0] = RingPlan::same_mode(geometry, Mode::Hts, true);
+    Ok(made)
+}
+
+/// The numbers below n.
+fn numbers(alloc: Global, n: u32) -> Result<Vec<Number>, Fault>
+    ensures made { IfOk result (λ made. made.items ≡ all_numbers n) }
+    ensures refused { IfErr result (λ why. why ≡ fault.Memory) }
+{
+    let Ok(mut made) = Vec::with_capacity(alloc, n as usize) else {
+        return Err(Fault::Memory);
+    };
+    for value in 0..n {
+        if made.push(Number { value }).is_err() {
+            return Err(Fault::Memory);
+        }
+    }
+    Ok(made)
+}
+
+/// Puts numbers on the free ring. No other hand is there yet, so that nothing stands in the way.
+fn put_some(
+    f: &Fabric<Number, 1024, Slot<Number>>,
+    hand: Hand<Number, Slot<Number>>,
+    items: &[Number],
+) -> Result<Hand<Number, Slot<Number>>, Fault>
+    requires hand { IsHandOf f.now hand }
+    requires rings { ArePoolRings (rings_of f.now) }
+    requires there { 0 < length (rings_of f.now) }
+    ensures hand { IfOk result (λ h. IsHandOf f.now h) }
+    ensures put { IfOk result (λ h. HasPut items.now (view hand).party.settled (view h).party.settled) }
+    ensures refused { IfErr result (λ why. why ≡ fault.Memory) }
+{
+    match try_put_bulk_slice(f, hand, 0, items) {
+        PutAnswer::Done(hand, _) => Ok(hand),
+        _ => Err(Fault::Memory),
+    }
+}
+
+/// Puts all numbers on the free ring, in order.
+fn fill(
+    f: &Fabric<Number, 1024, Slot<Number>>,
+    hand: Hand<Number, Slot<Number>>,
+    items: &[Number],
+) -> Result<Hand<Number, Slot<Number>>, Fault>
+    requires hand { IsHandOf f.now hand }
+    requires rings { ArePoolRings (rings_of f.now) }
+    requires there { 0 < length (rings_of f.now) }
+    requires new { (view hand).party.settled ≡ [] }
+    requires few { length items.now ≤ 65536 }
+    ensures hand { IfOk result (λ h. IsHandOf f.now h) }
+    ensures put { IfOk result (λ h. ArePut (view h).party.settled items.now) }
+    ensures refused { IfErr result (λ why. why ≡ fault.Memory) }
+{
+    let mut hand = hand;
+    for i in 0..BULKS {
+        let from = BULK * i;
+        if from >= items.len() {
+            return Ok(hand);
+        }
+        let to = (from + BULK).min(items.len());
+        match put_some(f, hand, &items[from..to]) {
+            Ok(back) => hand = back,
+            Err(why) => return Err(why),
+        }
+    }
+    Ok(hand)
+}
+
+/// The first handle of a pool: all numbers are put on the free ring, and a hand is split off for later splits.
+fn stocked(
+    alloc: Global,
+    fabric: Fabric<Number, 1024, Slot<Number>>,
+    hand: Hand<Number, Slot<Number>>,
+    items: &[Number],
+    size: usize,
+    rings: usize,
+) -> Result<PoolMember, Fault>
+    requires hand { IsHandOf fabric hand }
+    requires rings { ArePoolRings (rings_of fabric) }
+    requires many { length (rings_of fabric) ≡ rings + 1 }
+    requires new { (view hand).party.settled ≡ [] }
+    requires all { items.now ≡ all_numbers (pool_of fabric) }
+    requires few { pool_of fabric ≤ 65536 }
+    requires small { size ≤ 512 }
+    ensures made { IfOk result (λ p. IsNewPool (pool_of fabric) size rings p) }
+    ensures refused { IfErr result (λ why. why ≡ fault.Memory) }
+{
+    let hand = fill(&fabric, hand, items)?;
+    let Ok(fabric) = Arc::new(alloc, fabric) else {
+        return Err(Fault::Memory);
+    };
+    let Ok((first, reserve)) = hand.split(alloc, &fabric) else {
+        return Err(Fault::Memory);
+    };
+    match LocalWords::new(alloc, first, 0, size) {
+        Ok(local) => Ok(PoolMember {
+            fabric,
+            local,
+            reserve,
+            rings,
+        }),
+        Err(_) => Err(Fault::Memory),
+    }
+}
+
+/// Whether there can be such a pool.
+fn may_be(n: u32, size: u32, rings: u32) -> bool
+    ensures may { result ≡ true → IsPoolSize n size rings }
+    ensures not { result ≡ false → NoPoolSize n size rings }
+{
+    if n == 0 || n > 65536 {
+        return false;
+    }
+    size <= 512 && rings <= 63
+}
+
+/// A pool of n numbers, none of them cached, with this size of cache and as many rings to pass numbers on. Errors:
+/// `Plan`; `Memory`.
+pub fn open_pool(alloc: Global, n: u32, size: u32, rings: u32) -> Result<PoolMember, Fault>
+    ensures made { IfOk result (λ p. IsNewPool n size rings p) }
+    ensures refused { IfErr result (λ why. RefusesPool n size rings why) }
+{
+    if !may_be(n, size, rings) {
+        return Err(Fault::Plan);
+    }
+    let plans = plans(alloc, n, rings as usize)?;
+    let numbers = numbers(alloc, n)?;
+    match Fabric::of_words(alloc, plans, n, numbers) {
+        Ok(opened) => {
+            let Opened {
+                fabric,
+                hand,
+                items,
+            } = opened;
+            stocked(alloc, fabric, hand, &items, size as usize, rings as usize)
+        }
+        Err(OpenFault::Memory(_)) => Err(Fault::Memory),
+        // The rings can be, and each number is there once.
+        Err(OpenFault::BadPlan(_)) => unreachable!(),
+        Err(OpenFault::BadTags(_)) => unreachable!(),
+    }
+}

@@ -1,0 +1,190 @@
+//! Bulk puts and takes of numbers on rings with head/tail-sync sides, tried a limited number of times.
+ghost use Rattle.std.specs.Prelude.{◌≡◌, ◌<◌, ◌+◌, [], length, Err, IfErr, IfOk, IsTrue, false};
+ghost use Rattle.fabric.specs.Hands.{OnRing, rings_of};
+ghost use Rattle.fabric.specs.Views.{IsKept};
+ghost use Rattle.pool_laws.specs.Beside.{IsPutByHts, IsTakenByHts};
+ghost use Rattle.word_pool.specs.Words.{IsLocalOf, SameCache, SameRing, cache_of, view_of};
+ghost use Rattle.capi.specs.Tries.{Filled, Received, Sent, WasLost, WasLostPut, refusal_fault};
+
+use crate::pools::member::Number;
+use crate::rings::{Fault, fault_of};
+use burst::Slot;
+use fabric::{Fabric, StartFault};
+use ringapi::{Moved, Refusal};
+use word_pool::LocalWords;
+
+/// How often a call tries a ring at most if other threads come first.
+const TRIES: u32 = 1024;
+
+/// How many tries a call has left. Each try uses one up, and a call gives up because of other threads only if none is
+/// left.
+#[derive(Drop)]
+pub(crate) struct Tries {
+    left: u32,
+}
+
+impl Tries {
+    /// The tries of a call.
+    #[inline]
+    pub(crate) fn new() -> Tries
+        ensures { result.left ≡ 1024 }
+    {
+        Tries { left: TRIES }
+    }
+}
+
+/// The fault for a refused put.
+pub(crate) fn refused(why: Refusal) -> Fault
+    ensures { result ≡ refusal_fault why }
+{
+    match why {
+        Refusal::Start(why) => fault_of(why),
+        Refusal::NotYours => Fault::NotYours,
+    }
+}
+
+/// Whether another thread came first.
+#[inline]
+fn is_lost(why: StartFault) -> bool
+    ensures lost { IsTrue result → WasLost why }
+    ensures other { result ≡ false → WasLost why → ⊥ }
+{
+    match why {
+        StartFault::Busy(_) | StartFault::Contended(_) => true,
+        _ => false,
+    }
+}
+
+/// Whether another thread came first at a put.
+#[inline]
+fn is_lost_put(why: Refusal) -> bool
+    ensures lost { IsTrue result → WasLostPut why }
+    ensures other { result ≡ false → WasLostPut why → ⊥ }
+{
+    match why {
+        Refusal::Start(why) => is_lost(why),
+        Refusal::NotYours => false,
+    }
+}
+
+/// One try to put all numbers on a ring.
+#[inline]
+fn try_send(
+    f: &Fabric<Number, 1024, Slot<Number>>,
+    local: &mut LocalWords<Number, 1024, Slot<Number>>,
+    ring: usize,
+    items: &[Number],
+    tries: &mut Tries,
+) -> Result<Moved, Refusal>
+    requires local { IsLocalOf f.now local.old }
+    requires ring { ring < length (rings_of f.now) }
+    requires hts { OnRing f.now ring IsPutByHts }
+    requires tries { 0 < tries.old.left }
+    ensures tries { tries.new.left + 1 ≡ tries.old.left }
+    ensures local { IsLocalOf f.now local.new }
+    ensures same { SameRing local.old local.new × SameCache local.old local.new }
+    ensures sent { Sent f.now ring (cache_of local.old) items.now local.old local.new result }
+    ensures kept { IfErr result (λ _. IsKept (view_of local.old) (view_of local.new)) }
+{
+    tries.left -= 1;
+    match local.try_send_bulk_from_slice(f, ring, items) {
+        Ok(moved) => Ok(moved),
+        Err(why) => Err(why),
+    }
+}
+
+/// Puts all numbers on a ring, or none.
+#[tactic(auto, using(crate::proofs::Attempts::sent_again))]
+pub(crate) fn send(
+    f: &Fabric<Number, 1024, Slot<Number>>,
+    local: &mut LocalWords<Number, 1024, Slot<Number>>,
+    ring: usize,
+    items: &[Number],
+    tries: &mut Tries,
+) -> Result<Moved, Refusal>
+    requires local { IsLocalOf f.now local.old }
+    requires ring { ring < length (rings_of f.now) }
+    requires hts { OnRing f.now ring IsPutByHts }
+    requires tries { tries.old.left ≡ 1024 }
+    ensures tried { IfErr result (λ why. WasLostPut why → tries.new.left ≡ 0) }
+    ensures local { IsLocalOf f.now local.new }
+    ensures same { SameRing local.old local.new × SameCache local.old local.new }
+    ensures sent { Sent f.now ring (cache_of local.old) items.now local.old local.new result }
+    ensures kept { IfErr result (λ _. IsKept (view_of local.old) (view_of local.new)) }
+{
+    while tries.left > 1 {
+        match try_send(f, local, ring, items, tries) {
+            Ok(moved) => return Ok(moved),
+            Err(why) => {
+                if !is_lost_put(why) {
+                    return Err(why);
+                }
+                std::hint::spin_loop();
+            }
+        }
+    }
+    try_send(f, local, ring, items, tries)
+}
+
+/// One try to fill an array from a ring.
+#[inline]
+fn try_receive(
+    f: &Fabric<Number, 1024, Slot<Number>>,
+    local: &mut LocalWords<Number, 1024, Slot<Number>>,
+    ring: usize,
+    into: &mut [Number],
+    tries: &mut Tries,
+) -> Result<Moved, StartFault>
+    requires local { IsLocalOf f.now local.old }
+    requires ring { ring < length (rings_of f.now) }
+    requires hts { OnRing f.now ring IsTakenByHts }
+    requires tries { 0 < tries.old.left }
+    ensures tries { tries.new.left + 1 ≡ tries.old.left }
+    ensures local { IsLocalOf f.now local.new }
+    ensures same { SameRing local.old local.new × SameCache local.old local.new }
+    ensures filled { IfOk result (λ moved. Filled f.now ring (length into.old) into.new local.old local.new moved) }
+    ensures refused { IfErr result (λ why. Received f.now ring (length into.old) local.old local.new (Err why) []) }
+    ensures kept { IfErr result (λ _. IsKept (view_of local.old) (view_of local.new)) }
+    ensures back { IfErr result (λ _. into.new ≡ into.old) }
+{
+    tries.left -= 1;
+    match local.try_receive_bulk_into_slice(f, ring, into) {
+        Ok(moved) => Ok(moved),
+        Err(why) => Err(why),
+    }
+}
+
+/// Fills an array from a ring, or leaves it as it is.
+#[tactic(auto, using(crate::proofs::Attempts::received_again))]
+pub(crate) fn receive(
+    f: &Fabric<Number, 1024, Slot<Number>>,
+    local: &mut LocalWords<Number, 1024, Slot<Number>>,
+    ring: usize,
+    into: &mut [Number],
+    tries: &mut Tries,
+) -> Result<Moved, StartFault>
+    requires local { IsLocalOf f.now local.old }
+    requires ring { ring < length (rings_of f.now) }
+    requires hts { OnRing f.now ring IsTakenByHts }
+    requires tries { tries.old.left ≡ 1024 }
+    ensures tried { IfErr result (λ why. WasLost why → tries.new.left ≡ 0) }
+    ensures local { IsLocalOf f.now local.new }
+    ensures same { SameRing local.old local.new × SameCache local.old local.new }
+    ensures filled { IfOk result (λ moved. Filled f.now ring (length into.old) into.new local.old local.new moved) }
+    ensures refused { IfErr result (λ why. Received f.now ring (length into.old) local.old local.new (Err why) []) }
+    ensures kept { IfErr result (λ _. IsKept (view_of local.old) (view_of local.new)) }
+    ensures back { IfErr result (λ _. into.new ≡ into.old) }
+{
+    while tries.left > 1 {
+        match try_receive(f, local, ring, into, tries) {
+            Ok(moved) => return Ok(moved),
+            Err(why) => {
+                if !is_lost(why) {
+                    return Err(why);
+                }
+                std::hint::spin_loop();
+            }
+        }
+    }
+    try_receive(f, local, ring, into, tries)
+}

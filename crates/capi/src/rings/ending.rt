@@ -1,0 +1,82 @@
+//! Closing rings, and taking what is left on them.
+ghost use Rattle.std.specs.Prelude.{◌≡◌, ◌<◌, ◌≤◌, IfErr, IfOk, length};
+ghost use Rattle.fabric.specs.Closed.{ring_count};
+ghost use Rattle.capi.specs.Rests.{Closes, DrainsRest, Empties, RefusesClose};
+ghost use Rattle.capi.specs.RingCalls.{SameMember};
+
+use crate::rings::closing::Rest;
+use crate::rings::fault::Fault;
+use crate::rings::member::{MOST, Member};
+use crate::rings::word64::Word64;
+use fabric::OpenSpan;
+use std::sync::Arc;
+
+/// Closes the rings of a member that has no open span, and that no other shares. Errors: `Open`; `Shared`; the member
+/// comes back.
+pub fn close(member: Member) -> Result<Rest, (Member, Fault)>
+    ensures closed { IfOk result (λ r. Closes member r) }
+    ensures refused { IfErr result (λ e. SameMember member e.0 × RefusesClose member e.1) }
+{
+    let Member {
+        fabric,
+        hand,
+        shown,
+        left,
+    } = member;
+    match hand.span() {
+        OpenSpan::Idle => (),
+        _ => {
+            let member = Member {
+                fabric,
+                hand,
+                shown,
+                left,
+            };
+            return Err((member, Fault::Open));
+        }
+    }
+    let rings = fabric.rings();
+    match Arc::try_unwrap(fabric) {
+        Ok(whole) => Ok(Rest {
+            closed: whole.close(hand.into_hand()),
+            rings,
+        }),
+        Err(fabric) => {
+            let member = Member {
+                fabric,
+                hand,
+                shown,
+                left,
+            };
+            Err((member, Fault::Shared))
+        }
+    }
+}
+
+/// Takes the words that are left on a ring, the oldest first, as many as there are places.
+fn empty(rest: &mut Rest, ring: usize, words: &mut [Word64]) -> u32
+    requires few { length words.old ≤ MOST }
+    requires ring { ring < ring_count rest.old.closed }
+    ensures { Empties ring words.old words.new result rest.old rest.new }
+{
+    for i in 0..words.len() {
+        match rest.closed.next(ring) {
+            Some(word) => words[i] = word,
+            None => return i as u32,
+        }
+    }
+    words.len() as u32
+}
+
+/// The same with the tests. Errors: `Ring`; `Count`.
+pub fn drain(rest: &mut Rest, ring: usize, words: &mut [Word64]) -> Result<u32, Fault>
+    ensures { DrainsRest result MOST ring words.old words.new rest.old rest.new }
+{
+    if ring >= rest.rings {
+        return Err(Fault::Ring);
+    }
+    if words.len() > MOST {
+        return Err(Fault::Count);
+    }
+    Ok(empty(rest, ring, words))
+}

@@ -1,0 +1,63 @@
+//! New rings with their first member.
+ghost use Rattle.std.specs.Prelude.{◌≡◌, ◌⊎◌, [], IfErr, IfOk};
+ghost use Rattle.fabric_laws.specs.Changes.{newborn};
+ghost use Rattle.fabric_laws.specs.Rule.{all_parts};
+ghost use Rattle.fabric.specs.Hands.{IsHandOf, rings_of, view};
+ghost use Rattle.fabric.specs.Making.{MayStand};
+ghost use Rattle.capi.specs.Openings.{IsNewHand, RefusesRings};
+ghost use Rattle.capi.specs.declared.rings.fault.Fault.TheVariants as fault;
+
+use crate::rings::fault::Fault;
+use crate::rings::member::Member;
+use crate::rings::opening::{Asked, plans};
+use crate::rings::word64::Word64;
+use burst::Slot;
+use fabric::{Fabric, HandInPlace, OpenFault, Opened};
+use geom::RingPlan;
+use std::alloc::Global;
+use std::sync::Arc;
+
+/// A fabric with these rings, all empty. Errors: `Plan`; `Memory`.
+fn fabric_of(
+    alloc: Global,
+    plans: Vec<RingPlan>,
+) -> Result<Opened<Word64, 1024, Slot<Word64>>, Fault>
+    ensures made { IfOk result (λ o. (rings_of o.fabric ≡ plans.items) × IsHandOf o.fabric o.hand
+        × (view o.hand ≡ newborn plans.items 0 all_parts [])) }
+    ensures refused { IfErr result
+        (λ why. ((why ≡ fault.Plan) × (MayStand plans.items 0 1024 → ⊥)) ⊎ (why ≡ fault.Memory)) }
+{
+    match Fabric::of_words(alloc, plans, 0, Vec::new(alloc)) {
+        Ok(opened) => Ok(opened),
+        Err(OpenFault::BadPlan(_)) => Err(Fault::Plan),
+        Err(OpenFault::Memory(_)) => Err(Fault::Memory),
+        // There are no buffers, so their numbers are never at fault.
+        Err(OpenFault::BadTags(_)) => Err(Fault::Memory),
+    }
+}
+
+/// Rings as C asked for them, all empty. Errors: `Plan`; `Memory`.
+pub fn open(alloc: Global, asked: &[Asked]) -> Result<Member, Fault>
+    ensures made { IfOk result (λ m. IsNewHand asked.now m) }
+    ensures refused { IfErr result (λ why. RefusesRings asked.now why) }
+{
+    if asked.len() > 64 {
+        return Err(Fault::Plan);
+    }
+    let plans = plans(alloc, asked)?;
+    let Ok(shown) = Box::new(alloc, [Word64 { bits: 0 }; 1024]) else {
+        return Err(Fault::Memory);
+    };
+    match fabric_of(alloc, plans) {
+        Ok(opened) => match Arc::new(alloc, opened.fabric) {
+            Ok(fabric) => Ok(Member {
+                fabric,
+                hand: HandInPlace::of(opened.hand),
+                shown,
+                left: 0,
+            }),
+            Err(_) => Err(Fault::Memory),
+        },
+        Err(why) => Err(why),
+    }
+}

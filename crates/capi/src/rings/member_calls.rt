@@ -1,0 +1,98 @@
+//! Looks at rings by a member, and splitting a member in two.
+ghost use Rattle.std.specs.Prelude.{◌≡◌, ◌<◌, IfErr, IfOk, length};
+ghost use Rattle.fabric.specs.Hands.{rings_of};
+ghost use Rattle.fabric.specs.InPlace.{IsPlacedOf, placed_view};
+ghost use Rattle.fabric.specs.declared.hand.in_place.OpenSpan.TheVariants as open_span;
+ghost use Rattle.capi.specs.RingCalls.{LikeMember, Looks, OnRings, RefusesSplit, SameMember};
+ghost use Rattle.capi.specs.RingCalls.{Splits, member_view, room_side};
+
+use crate::rings::fault::Fault;
+use crate::rings::member::{Member, Rings, WordHand};
+use crate::rings::word64::Word64;
+use fabric::{HandInPlace, OpenSpan, SplitFault};
+use geom::Side;
+use std::alloc::Global;
+use std::sync::Arc;
+
+/// One look at a side: how many words are queued, or how many more there is room for. Errors: `Again`.
+fn look_at(f: &Rings, hand: &mut WordHand, ring: usize, side: Side) -> Result<u32, Fault>
+    requires of { IsPlacedOf f.now hand.old }
+    requires idle { hand.old.span ≡ open_span.Idle }
+    requires ring { ring < length (rings_of f.now) }
+    ensures of { IsPlacedOf f.now hand.new }
+    ensures idle { hand.new.span ≡ open_span.Idle }
+    ensures found { Looks f.now ring side (placed_view hand.old) (placed_view hand.new) result }
+{
+    match hand.room(f, ring, side) {
+        Ok(room) => Ok(room.min(0xffff_ffff) as u32),
+        Err(_word) => Err(Fault::Again),
+    }
+}
+
+/// The side of a ring where words are queued, or where there is room.
+fn side_of(queued: bool) -> Side
+    ensures { result ≡ room_side queued }
+{
+    if queued { Side::Take } else { Side::Put }
+}
+
+/// How many words are queued, or how many more there is room for. Errors: `Ring`, `Open`, `Again`.
+pub fn look(member: &mut Member, ring: usize, queued: bool) -> Result<u32, Fault>
+    ensures { OnRings ring member.old result (SameMember member.old member.new)
+        (λ v. (member.new.fabric ≡ member.old.fabric)
+        × Looks member.old.fabric.value ring (room_side queued) v (member_view member.new) result) }
+{
+    if ring >= member.fabric.rings() {
+        return Err(Fault::Ring);
+    }
+    match member.hand.span() {
+        OpenSpan::Idle => look_at(&member.fabric, &mut member.hand, ring, side_of(queued)),
+        _ => Err(Fault::Open),
+    }
+}
+
+/// A second member on the same rings, for another thread. Errors: `Open`, `Memory`, `Parts`.
+pub fn split(alloc: Global, member: Member) -> (Member, Result<Member, Fault>)
+    ensures split { IfOk result.1 (λ other. Splits member result.0 other) }
+    ensures refused { IfErr result.1 (λ why. LikeMember member result.0 × RefusesSplit member why) }
+{
+    match member.hand.span() {
+        OpenSpan::Idle => (),
+        _ => return (member, Err(Fault::Open)),
+    }
+    let Ok(second) = Box::new(alloc, [Word64 { bits: 0 }; 1024]) else {
+        return (member, Err(Fault::Memory));
+    };
+    let Ok(rings) = Arc::try_clone(&member.fabric) else {
+        return (member, Err(Fault::Memory));
+    };
+    let Member {
+        fabric,
+        hand,
+        shown,
+        left,
+    } = member;
+    let (hand, other) = match hand.into_hand().split(alloc, &fabric) {
+        Ok((hand, other)) => (hand, Ok(other)),
+        Err((hand, SplitFault::Memory)) => (hand, Err(Fault::Memory)),
+        Err((hand, SplitFault::TooMany)) => (hand, Err(Fault::Parts)),
+    };
+    let member = Member {
+        fabric,
+        hand: HandInPlace::of(hand),
+        shown,
+        left,
+    };
+    match other {
+        Ok(other) => (
+            member,
+            Ok(Member {
+                fabric: rings,
+                hand: HandInPlace::of(other),
+                shown: second,
+                left: 0,
+            }),
+        ),
+        Err(why) => (member, Err(why)),
+    }
+}

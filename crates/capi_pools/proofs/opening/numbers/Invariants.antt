@@ -1,6 +1,0 @@
-use Rattle.std.proofs.Common.{◌≡◌}
-use Rattle.capi_pools.specs.Members.{all_numbers}
-use Rattle.capi_pools.proofs.opening.numbers.Given as goal
-
-abbrev pub invariant-loop-value : goal.invariant-loop-value
-invariant-loop-value l = l.made.items ≡ all_numbers l.value

@@ -1,9 +1,0 @@
-pub mod Codes
-pub mod Members
-pub mod Spans
-pub mod Calls
-pub mod Finishes
-pub mod RingCalls
-pub mod Plans
-pub mod Openings
-pub mod Rests
