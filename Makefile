@@ -3,15 +3,16 @@
 CONFIG ?= examples/router.toml
 IN ?= examples/traffic.pcap
 OUT ?= out/traffic
-WORKERS ?= 2
+WORKERS ?= auto
 PREFIX ?= /usr/local
 NAME ?= run
 TRIED ?= out/pktkit
+LIBRARY ?= out/c/libhokhtura.a
 
 BIN = $(DESTDIR)$(PREFIX)/bin
 SHARE = $(DESTDIR)$(PREFIX)/share
 
-.PHONY: help run try compare test build lib install uninstall install-lib uninstall-lib bench
+.PHONY: help run try compare test build lib router install uninstall install-lib uninstall-lib bench
 
 # The first of all targets is what `make` alone does.
 help:
@@ -20,6 +21,7 @@ help:
 	@echo 'make compare    the same by one thread, and that each port has the same bytes; after make run: 1 to 2 minutes'
 	@echo 'make build      proves pktkit and what it stands on, and builds it: 35 to 75 minutes, then what has changed'
 	@echo 'make lib        proves the C library and what it stands on, and leaves it in out/c: 20 to 50 minutes'
+	@echo 'make router     builds the router of docs/ROUTER.md over the C library, which is made if it is not there'
 	@echo 'make install    make build and lib; program, library, man page, completions go below PREFIX ($(PREFIX)): seconds'
 	@echo 'make install-lib  the library alone: its header, its archives and hokhtura.pc'
 	@echo 'make uninstall  removes these again: at once'
@@ -29,8 +31,9 @@ help:
 	@echo 'Minutes are of one processor; several work side by side where there are several. What can be set, as in'
 	@echo 'make run WORKERS=0: CONFIG IN OUT WORKERS of run and compare, PREFIX DESTDIR of install, NAME of bench'
 
-# Runs pktkit's main job on the examples by so many workers, built without proofs: the report is printed, the captures
-# of the ports are OUT.0.pcap, OUT.1.pcap and so on. What the build says is shown where the run fails.
+# Runs pktkit's main job on the examples, built without proofs, by so many workers, or as suits the processors: the
+# report is printed, the captures of the ports are OUT.0.pcap, OUT.1.pcap and so on. What the build says is shown where
+# the run fails.
 run: WORDS = run --workers $(WORKERS) --config $(abspath $(CONFIG)) --in $(abspath $(IN)) --out $(abspath $(OUT))
 run: LOG = $(abspath $(OUT)).log
 run:
@@ -69,14 +72,22 @@ test:
 # source was proved with. A toolchain of another logic proves it anew, and may not accept each proof.
 build: LOGIC = $(lastword $(shell rt version))
 build:
-	@grep -qF '$(LOGIC)' crates/command_line/src/help.rt || \
-	  echo "make build: this toolchain's logic is $(LOGIC), and crates/command_line/src/help.rt names another one" >&2
+	@grep -qF '$(LOGIC)' crates/cli/src/command_line/help.rt || \
+	  echo "make build: this toolchain's logic is $(LOGIC), and crates/cli/src/command_line/help.rt names another one" >&2
 	cd crates/pktkit && rt run < /dev/null > /dev/null
 
 # Proves the crate capi and what it stands on, and leaves the C library over it in out/c: libhokhtura.a, libhokhtura.so.
 lib:
 	cd crates/capi && rt lib > /dev/null
 	@$(MAKE) --no-print-directory -C c OUT=$(CURDIR)/out/c
+
+# The router of docs/ROUTER.md. LIBRARY=FILE links another archive.
+router: $(LIBRARY)
+	@mkdir -p out
+	$(CC) -std=c11 -Wall -Wextra -Wpedantic -O2 -g $(CFLAGS) -Ic examples/router/router.c $(LIBRARY) -pthread -o out/router
+
+out/c/libhokhtura.a:
+	@$(MAKE) --no-print-directory lib
 
 # The library below PREFIX, with hokhtura.h and hokhtura.pc.
 install-lib: lib

@@ -27,7 +27,7 @@ _pktkit() {
                 compopt -o filenames 2>/dev/null
                 mapfile -t COMPREPLY < <(compgen -f -X '!*.pcap' -- "$word"; compgen -d -- "$word")
                 ;;
-            --workers) words='0 1 2 3 4 5 6 7 8 9 10 11 12 13 14 15 16' ;;
+            --workers) words='auto 0 1 2 3 4 5 6 7 8 9 10 11 12 13 14 15 16' ;;
             *) words='--config --in --out --workers --progress -h --help' ;;
             esac
             ;;

@@ -14,7 +14,9 @@ complete -c pktkit -n "not __fish_seen_subcommand_from help" -s h -l help -d 'Pr
 complete -c pktkit -n "__fish_seen_subcommand_from help" -a "$commands"
 complete -c pktkit -n "__fish_seen_subcommand_from ring steps" -F
 complete -c pktkit -n "__fish_seen_subcommand_from run" -l config -r -F -d 'The settings, a TOML document'
-complete -c pktkit -n "__fish_seen_subcommand_from run" -l in -r -F -d 'The capture, a classic pcap file'
+complete -c pktkit -n "__fish_seen_subcommand_from run" -l in -r -F \
+    -d 'The capture, a classic pcap file, or - for standard input'
 complete -c pktkit -n "__fish_seen_subcommand_from run" -l out -r -F -d 'Port 0 is written to PREFIX.0.pcap, and so on'
-complete -c pktkit -n "__fish_seen_subcommand_from run" -l workers -x -k -a '(seq 0 16)' -d 'How many threads judge packets'
+complete -c pktkit -n "__fish_seen_subcommand_from run" -l workers -x -k -a 'auto (seq 0 16)' \
+    -d 'How many threads judge packets'
 complete -c pktkit -n "__fish_seen_subcommand_from run" -l progress -d 'Shows the progress in a line on standard error'

@@ -1,1 +1,4 @@
+mod Choosing
+mod Keeping
 mod Printing
+mod Rows

@@ -5,13 +5,13 @@ ghost use Rattle.std.specs.Prelude.{◌≡◌, ◌≤◌, IfOk, IfSome, IsOk, No
 ghost use Rattle.std.specs.Io.KnownBytes.{Appends};
 ghost use Rattle.cli.specs.Printed.{PrintsRingReplies, PrintsStepsReplies};
 
+use crate::command_line::requests::{INPUT, Request, RunFiles, read_words};
 use crate::fault::Fault;
 use crate::one_line::OneLine;
 use crate::progress::Progress;
 use crate::run_answer::run_files;
 use clap::Error;
 use command_file::TextFault;
-use command_line::{Request, RunFiles, read_words};
 use ring_file::ring_text;
 use std::fs;
 use std::io::{IsTerminal, Read, Write};
@@ -21,18 +21,17 @@ use std::thread::Threads;
 use std::time::Clock;
 use steps_file::steps_text;
 
-/// The name for standard input when no file is named.
-const INPUT: &str = "-";
-
 /// Runs the program and returns its exit status: 0 on success, or if help or the version was requested, 1 after a
-/// fault, which is printed in one line on `err`, and 2 if the command line is refused. If `out` fails, that is the only
-/// fault printed; if `err` fails, the status is the same. While a run reads its capture, a line on `err` shows its
-/// progress, if `--progress` requests it, or if `err` is a terminal and the run takes longer than two seconds; it is
-/// erased before the fault, if there is one, is printed.
+/// fault, which is printed in one line on `err`, and 2 if the command line is refused. If a run's input is a capture in
+/// another format and `err` is a terminal, a hint follows in a second line. If `out` fails, that is the only fault
+/// printed; if `err` fails, the status is the same. While a run reads its capture, a line on `err` shows its progress,
+/// if `--progress` requests it, or if `err` is a terminal and the run takes longer than two seconds; it is erased
+/// before the fault, if there is one, is printed. `input` is read if there are no words, and by a run whose capture is
+/// `-`.
 pub fn program<
     R: Files + AllocGlobal + Clock + Sync,
     T: Threads + Wait + Clock + Sync,
-    I: Read + Drop,
+    I: Read + Send + Drop,
     O: Write,
     E: Write + IsTerminal + Send,
 >(rt: &R, threads: &T, words: &[String], input: I, out: &mut O, err: &mut E) -> u8
@@ -43,12 +42,12 @@ where
     let done = match read_words(rt.alloc(), words) {
         Ok(Request::Ring(file)) => answer_ring(rt, file, input, out),
         Ok(Request::Steps(file)) => answer_steps(rt, file, input, out),
-        Ok(Request::Run(files)) => answer_run(rt, threads, &files, out, err),
+        Ok(Request::Run(files)) => answer_run(rt, threads, &files, input, out, err),
         Err(refusal) => return refuse(&refusal, out, err),
     };
     match done {
         Ok(()) => 0,
-        Err(fault) => tell(fault, err),
+        Err(fault) => explain(fault, err),
     }
 }
 
@@ -59,7 +58,22 @@ pub fn report_out_of_memory<E: Write>(err: &mut E) -> u8
     tell(Fault::Memory, err)
 }
 
-/// Prints a fault, as far as `err` accepts it.
+/// Prints a fault, and at a terminal its hint, if it has one. What isn't a terminal gets the fault's line alone, since
+/// a script may read it.
+fn explain<E: Write + IsTerminal>(fault: Fault<'_>, err: &mut E) -> u8
+    ensures { result ≡ 1 }
+{
+    let hint = fault.hint();
+    let status = tell(fault, err);
+    if let Some(hint) = hint {
+        if err.is_terminal() {
+            let _ = writeln!(err, "hint: {hint}");
+        }
+    }
+    status
+}
+
+/// Prints a fault in one line, as far as `err` accepts it.
 fn tell<E: Write>(fault: Fault<'_>, err: &mut E) -> u8
     ensures { result ≡ 1 }
 {
@@ -133,15 +147,23 @@ fn answer_run<
     'a,
     R: Files + AllocGlobal + Clock + Sync,
     T: Threads + Wait + Clock + Sync,
+    I: Read + Send + Drop,
     O: Write,
     E: Write + IsTerminal + Send,
->(rt: &R, threads: &T, files: &RunFiles<'a>, out: &mut O, err: &mut E) -> Result<(), Fault<'a>>
+>(
+    rt: &R,
+    threads: &T,
+    files: &RunFiles<'a>,
+    input: I,
+    out: &mut O,
+    err: &mut E,
+) -> Result<(), Fault<'a>>
 where
     R::File: Send,
 {
     let at_terminal = err.is_terminal();
     let mut progress = Progress::new(rt, err, files.progress, at_terminal);
-    let report = run_files(rt, threads, files, &mut progress);
+    let report = run_files(rt, threads, files, input, &mut progress);
     progress.erase();
     print(report?.as_slice(), out)
 }
@@ -162,10 +184,7 @@ fn read<'a, R: Files + AllocGlobal, I: Read + Drop>(
             input.read_to_end(&mut bytes).map(|_| bytes)
         }
     };
-    match bytes {
-        Ok(bytes) => Ok(bytes),
-        Err(error) => Err(Fault::of_file(&error, Fault::File(OneLine(name)))),
-    }
+    bytes.map_err(|error| Fault::of_file(&error, Fault::File(OneLine(name))))
 }
 
 /// Writes replies, if there are any.

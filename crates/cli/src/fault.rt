@@ -1,6 +1,8 @@
-//! Why a run of the program ended early: one line on the error stream, after `pktkit: `.
+//! Why a run of the program ended early: one line on the error stream, after `pktkit: `. If the input of a run is a
+//! capture in another format, a second line at a terminal says which, and what converts it.
 
 use crate::one_line::OneLine;
+use crate::other_format::{FirstBytes, OtherFormat};
 use command_file::TextFault;
 use pcapio::CapFault;
 use settings::SettingsFault;
@@ -24,9 +26,9 @@ pub enum Fault<'a> {
     /// A document isn't valid settings.
     #[error("settings {0}")]
     Settings(SettingsFault),
-    /// The input of a run isn't a valid capture.
+    /// The input of a run isn't a valid capture; it may be one in another format.
     #[error("capture {0}")]
-    Capture(CapFault),
+    Capture(CapFault, Option<OtherFormat>),
     /// The input of a run can't be read.
     #[error("read")]
     Read,
@@ -74,9 +76,28 @@ impl<'a> Fault<'a> {
             RunFault::Thread => Fault::Thread,
             RunFault::Read => Fault::Read,
             RunFault::Write(port) => Fault::Write(port),
-            RunFault::Capture(fault) => Fault::Capture(fault),
+            RunFault::Capture(fault) => Fault::Capture(fault, None),
             RunFault::Window => Fault::Window,
             RunFault::Worn => Fault::Worn,
+        }
+    }
+
+    /// The same for a run over a capture with these first bytes. If they aren't those of classic pcap, they say whether
+    /// it is in another format.
+    pub(crate) fn of_input(fault: RunFault, first: &FirstBytes) -> Fault<'a> {
+        match fault {
+            RunFault::Capture(CapFault::NotPcap) => {
+                Fault::Capture(CapFault::NotPcap, first.format())
+            }
+            fault => Fault::of_run(fault),
+        }
+    }
+
+    /// What else is said of it at a terminal, in a second line.
+    pub fn hint(&self) -> Option<OtherFormat> {
+        match self {
+            Fault::Capture(_, format) => *format,
+            _ => None,
         }
     }
 }

@@ -3,6 +3,7 @@
 
 mod record_count;
 
+use crate::other_format::FirstBytes;
 use crate::progress::record_count::RecordCount;
 use std::io::{self, Read, Write};
 use std::time::{Clock, Instant};
@@ -96,11 +97,12 @@ impl<'a, C: Clock, E: Write> Progress<'a, C, E> {
     }
 }
 
-/// The file of a capture, whose reads the progress line counts.
+/// The file of a capture, whose reads the progress line counts, and whose first bytes are kept.
 #[derive(Drop)]
 pub(crate) struct Watched<'p, 'a, D, C, E> {
     pub(crate) device: D,
     pub(crate) progress: &'p mut Progress<'a, C, E>,
+    pub(crate) first: &'p mut FirstBytes,
 }
 
 impl<D: Read, C: Clock, E: Write> Read for Watched<'_, '_, D, C, E> {
@@ -110,6 +112,7 @@ impl<D: Read, C: Clock, E: Write> Read for Watched<'_, '_, D, C, E> {
     fn read(&mut self, buf: &mut [u8]) -> io::Result<usize> {
         let count = self.device.read(buf)?;
         self.progress.read(&buf[..count]);
+        self.first.pass(&buf[..count]);
         Ok(count)
     }
 }

@@ -1,21 +1,23 @@
 //! The run over a capture: its files are opened in order, the capture is forwarded by one thread or by several, and the
 //! report is made.
 
-ghost use Rattle.std.specs.Prelude.{◌≡◌, ◌++◌, IfOk, codes, decimal, vec_len};
+ghost use Rattle.std.specs.Prelude.{◌≡◌, ◌≤◌, ◌++◌, IfOk, codes, decimal, vec_len};
 ghost use Rattle.counters.specs.Report.{report_of};
 
+use crate::command_line::requests::{INPUT, RunFiles};
 use crate::fault::Fault;
 use crate::one_line::OneLine;
+use crate::other_format::FirstBytes;
 use crate::progress::{Progress, Watched};
 use crate::same_file::{FileId, check_ports, note};
-use command_line::{MAX_WORKERS, RunFiles};
+use either::Either;
 use itoa::Buffer;
 use pcapio::Counted;
 use settings::Settings;
-use stages::{Open, Summary, run_one, run_threads};
+use stages::{Open, RunFault, Summary, run_one, run_threads};
 use std::alloc::{AllocError, Global};
 use std::fs::{self, OpenFile};
-use std::io::Write;
+use std::io::{Read, Write};
 use std::rt::Files;
 use std::sync::Wait;
 use std::thread::Threads;
@@ -23,51 +25,76 @@ use std::time::Clock;
 
 /// The report of a run over these files. The settings are read first, then the capture is opened, then the files of the
 /// ports are created or emptied, and then the run begins: a fault leaves the files that come later untouched. A port's
-/// file that is one of the other files is a fault before any file is created or emptied. `progress` counts what is read
-/// of the capture.
+/// file that is one of the other files is a fault before any file is created or emptied. The capture `-` is what
+/// `input` has. `progress` counts what is read of the capture.
 pub(crate) fn run_files<
     'a,
     R: Files + AllocGlobal + Clock + Sync,
     T: Threads + Wait + Clock + Sync,
+    I: Read + Send + Drop,
     E: Write + Send,
 >(
     rt: &R,
     threads: &T,
     files: &RunFiles<'a>,
+    input: I,
     progress: &mut Progress<'_, R, E>,
 ) -> Result<Vec<u8>, Fault<'a>>
 where
     R::File: Send,
 {
     let settings = read_settings(rt, files.config)?;
-    let input = match fs::open(rt, files.input) {
-        Ok(device) => Counted::new(Watched { device, progress }),
-        Err(error) => return Err(Fault::of_file(&error, Fault::File(OneLine(files.input)))),
-    };
+    let device = open_capture(rt, files.input, input)?;
+    let mut first = FirstBytes::new();
+    let input = Counted::new(Watched {
+        device,
+        progress,
+        first: &mut first,
+    });
     check_ports(rt, files, settings.ports.sources.len())?;
     let ports = create_ports(rt, files.out, settings.ports.sources.len())?;
-    let summary = if files.workers == 0 {
-        let (_input, _ports, summary) = run_one(rt.alloc(), input, ports, &settings);
-        summary
-    } else {
-        let workers = files.workers.min(MAX_WORKERS);
-        let (_input, _ports, summary) = run_threads(
-            threads,
-            rt.alloc(),
-            &Open,
-            workers,
-            input,
-            ports,
-            &settings,
-        );
-        summary
-    };
+    let workers = files.workers.count(threads);
+    let summary = forward(threads, rt.alloc(), workers, input, ports, &settings);
     match summary {
-        Ok(summary) => {
-            let report = report(rt.alloc(), &summary)?;
-            Ok(report)
-        }
-        Err(fault) => Err(Fault::of_run(fault)),
+        Ok(summary) => Ok(report(rt.alloc(), &summary)?),
+        Err(fault) => Err(Fault::of_input(fault, &first)),
+    }
+}
+
+/// The run over a capture, by one thread or by several. Its devices are closed.
+fn forward<T: Threads + Wait + Clock + Sync, I: Read + Send + Drop, W: Write + Drop>(
+    threads: &T,
+    alloc: Global,
+    workers: usize,
+    input: Counted<I>,
+    ports: Vec<Counted<W>>,
+    settings: &Settings,
+) -> Result<Summary, RunFault>
+    requires at_most { workers ≤ 16 }
+    requires ports { vec_len ports ≡ vec_len settings.now.ports.sources }
+{
+    if workers == 0 {
+        let (_input, _ports, summary) = run_one(alloc, input, ports, settings);
+        return summary;
+    }
+    let (_input, _ports, summary) = run_threads(
+        threads, alloc, &Open, workers, input, ports, settings,
+    );
+    summary
+}
+
+/// The capture of this name, or the input, if the name is `-`.
+fn open_capture<'a, R: Files + AllocGlobal, I: Drop>(
+    rt: &R,
+    name: &'a str,
+    input: I,
+) -> Result<Either<R::File, I>, Fault<'a>> {
+    if name == INPUT {
+        return Ok(Either::Right(input));
+    }
+    match fs::open(rt, name) {
+        Ok(file) => Ok(Either::Left(file)),
+        Err(error) => Err(Fault::of_file(&error, Fault::File(OneLine(name)))),
     }
 }
 

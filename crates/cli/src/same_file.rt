@@ -1,10 +1,10 @@
 //! Finds names of a run that refer to the same file. Creating a port's file empties it, so it must not be a file that
 //! the run reads, nor the file of another port.
 
+use crate::command_line::requests::{INPUT, RunFiles};
 use crate::fault::Fault;
 use crate::one_line::OneLine;
 use crate::run_answer::port_name;
-use command_line::RunFiles;
 use std::fs::{self, Metadata};
 use std::io::{self, ErrorKind};
 use std::os::unix::fs::MetadataExt;
@@ -31,6 +31,9 @@ impl FileId {
     }
 }
 
+/// Another name for the file that standard input is, if it is a file.
+const INPUT_FILE: &str = "/dev/stdin";
+
 /// Refuses a run in which a port's file is the settings, the capture, or the file of another port. Links are followed.
 /// Nothing is created or emptied. A file that doesn't exist yet can't be one of the others.
 pub fn check_ports<'a, R: Files + AllocGlobal>(
@@ -40,7 +43,12 @@ pub fn check_ports<'a, R: Files + AllocGlobal>(
 ) -> Result<(), Fault<'a>> {
     let mut taken = Vec::new(rt.alloc());
     note(&mut taken, fs::metadata(rt, files.config))?;
-    note(&mut taken, fs::metadata(rt, files.input))?;
+    let input = if files.input == INPUT {
+        INPUT_FILE
+    } else {
+        files.input
+    };
+    note(&mut taken, fs::metadata(rt, input))?;
     for port in 0..count {
         let name = port_name(rt.alloc(), files.out, port)?;
         if note(&mut taken, fs::metadata(rt, name.as_str()))? {

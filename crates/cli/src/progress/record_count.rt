@@ -2,25 +2,27 @@
 //! forwards and reports is counted by its reader.
 ghost use Rattle.std.specs.Prelude.{◌≤◌, length};
 
-/// The length of the header of a capture file, in bytes.
-const FILE_HEADER: usize = 24;
+use pcapio::{ByteOrder, FILE_HEADER, HEAD, head_in, header_in};
 
-/// The length of the header of a record, in bytes.
-const RECORD_HEADER: usize = 16;
-
-/// The first bytes of a capture file with little-endian numbers: of the magic for microseconds, and of that for
-/// nanoseconds.
-const LITTLE: [u8; 2] = [0xd4, 0x4d];
+/// What comes next in a capture, after the bytes that are to be skipped.
+#[derive(Clone, Copy)]
+enum Awaited {
+    /// The header of the file.
+    File,
+    /// The header of a record, whose numbers have this byte order.
+    Record(ByteOrder),
+    /// Nothing that is counted: the file is no capture, or a record's header isn't valid, and the run ends there.
+    Nothing,
+}
 
 /// How many records have begun, and where the next header is.
 #[derive(Drop)]
 pub(crate) struct RecordCount {
     records: u64,
+    awaited: Awaited,
     /// The bytes of the current header that have come by.
     header: [u8; FILE_HEADER],
     filled: usize,
-    /// Whether numbers are little-endian, once the file's header has come by.
-    little: Option<bool>,
     /// How many bytes of the current record are still to come.
     to_skip: u64,
 }
@@ -30,9 +32,9 @@ impl RecordCount {
     pub(crate) fn new() -> RecordCount {
         RecordCount {
             records: 0,
+            awaited: Awaited::File,
             header: [0; FILE_HEADER],
             filled: 0,
-            little: None,
             to_skip: 0,
         }
     }
@@ -62,11 +64,12 @@ impl RecordCount {
         &bytes[count as usize..]
     }
 
-    /// Passes what belongs to the current header, and returns the rest.
+    /// Passes what belongs to the current header, and returns the rest; passes all if no header is to come.
     fn fill<'b>(&mut self, bytes: &'b [u8]) -> &'b [u8] {
-        let length = match self.little {
-            None => FILE_HEADER,
-            Some(_) => RECORD_HEADER,
+        let length = match self.awaited {
+            Awaited::File => FILE_HEADER,
+            Awaited::Record(_) => HEAD,
+            Awaited::Nothing => return &bytes[bytes.len()..],
         };
         let taken = self.take(bytes, length);
         if self.filled >= length {
@@ -93,16 +96,20 @@ impl RecordCount {
 
     /// A header is complete: that of the file at first, then that of a record.
     fn begin(&mut self) {
-        let Some(little) = self.little else {
-            self.little = Some(LITTLE.contains(&self.header[0]));
-            return;
+        self.awaited = match self.awaited {
+            Awaited::File => match header_in(&self.header) {
+                Ok((order, _)) => Awaited::Record(order),
+                Err(_) => Awaited::Nothing,
+            },
+            Awaited::Record(order) => match head_in(order, &self.header) {
+                Some(head) => {
+                    self.records = self.records.saturating_add(1);
+                    self.to_skip = u64::from(head.captured);
+                    Awaited::Record(order)
+                }
+                None => Awaited::Nothing,
+            },
+            Awaited::Nothing => Awaited::Nothing,
         };
-        let [_, _, _, _, _, _, _, _, a, b, c, d, ..] = self.header;
-        let captured = match little {
-            true => u32::from_le_bytes([a, b, c, d]),
-            false => u32::from_be_bytes([a, b, c, d]),
-        };
-        self.records = self.records.saturating_add(1);
-        self.to_skip = u64::from(captured);
     }
 }

@@ -70,14 +70,15 @@ Exit status:
 pub const RUN: &str = "\
 Examples:
   pktkit run --config examples/router.toml --in examples/traffic.pcap --out traffic
-  pktkit run --config examples/router.toml --in examples/traffic.pcap --out traffic --workers 0
+  pktkit run --config examples/router.toml --in examples/traffic.pcap --out traffic --workers auto
+  zcat big.pcap.gz | pktkit run --config examples/router.toml --in - --out big --progress
 
 Workers:
-  N workers are N + 2 threads, each of which wants a processor of its own.
-  On four processors 1 or 2 workers take a little less time than 0, with the settings of examples/fast.toml.
-  On two processors 0 is the fastest.
+  N workers are N + 2 threads, each of which wants a processor of its own; with 0 there is one thread.
+  auto takes 2 if the process may use four processors or more, 1 with three, otherwise 0.
+  The bytes at the ports and the report are the same for every number.
 
 Exit status:
   0  the report is on standard output and the files of the ports are complete, or help was requested
-  1  a fault, printed in one line on standard error; there is no report
+  1  a fault, printed in one line on standard error, at a terminal maybe with a hint below; there is no report
   2  this command line is refused, and no file was touched";

@@ -2,7 +2,7 @@ use Rattle.std.proofs.Common.{rules}
 use Rattle.std.specs.Vec.Iter.{into_iter_items}
 use Rattle.std.proofs.lemmas.Iterator.{items_from_collect}
 use Rattle.std.proofs.lemmas.Iterator.Adapters.{YieldsList-from_skip, YieldsList-from_vec}
-use Rattle.command_line.proofs.requests.skip_program_name.Goals as goal
+use Rattle.cli.proofs.command_line.requests.skip_program_name.Goals as goal
 
 pub returns : goal.returns
 returns c =
