@@ -457,6 +457,13 @@ int64_t hk_fib_publish(hk_fib *fib) {
     return hkx_fib_publish(&cell);
 }
 
+/* The removal of a route with depth 0 settles first, and is then refused, if it isn't pending. */
+int64_t hk_fib_settle(hk_fib *fib) {
+    struct hk_cell cell = {fib};
+    int64_t code = hkx_fib_remove(&cell, 0, 0);
+    return code == HK_E_DEPTH ? HK_OK : code;
+}
+
 int64_t hk_fib_pending(hk_fib *fib) {
     struct hk_cell cell = {fib};
     return hkx_fib_pending(&cell);

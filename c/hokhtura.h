@@ -308,9 +308,14 @@ HK_API HK_CHECKED int64_t hk_fib_set_hop(hk_fib *fib, uint32_t number, const hk_
 /* [memory] Draws up another port for a number below the count that the table was opened with. HK_E_NULL, HK_E_KIND,
  * HK_E_PLAN: a depth above 32; HK_E_PENDING, HK_E_COUNT: there is no such number; HK_E_MEMORY. */
 HK_API HK_CHECKED int64_t hk_fib_set_port(hk_fib *fib, uint32_t number, const hk_port *port);
-/* [memory] Publishes all that is drawn up at once: readers see it from their next call on. HK_E_NULL, HK_E_KIND,
- * HK_E_PENDING, HK_E_MEMORY. */
+/* [memory] Publishes all that is drawn up at once. A reader that is in no call sees it from its next call on. One that
+ * is in a call goes on with what was published before, also in later calls, until the writer's next call shows it: call
+ * hk_fib_settle until it returns HK_OK. HK_E_NULL, HK_E_KIND, HK_E_PENDING, HK_E_MEMORY. */
 HK_API HK_CHECKED int64_t hk_fib_publish(hk_fib *fib);
+/* [memory] Shows what was published last to the readers that were in a call then, and repeats its changes in the second
+ * copy. Each call that draws up a change does so first. HK_OK: each reader sees it from its next call on, and changes can
+ * be made. HK_E_NULL, HK_E_KIND; HK_E_PENDING: a reader is still in such a call, or memory was refused; call again. */
+HK_API HK_CHECKED int64_t hk_fib_settle(hk_fib *fib);
 /* How many changes readers don't see yet. HK_E_NULL, HK_E_KIND. */
 HK_API HK_CHECKED int64_t hk_fib_pending(hk_fib *fib);
 /* The number of the next hop of exactly this route, with what is drawn up. HK_E_NULL, HK_E_KIND, HK_E_DEPTH,

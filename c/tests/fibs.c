@@ -179,6 +179,10 @@ static void beside_readers(void) {
         IS(pthread_create(&readers[i], NULL, look_up, reader), 0);
     }
     for (uint32_t i = 2; i <= publishes && !hk_failed; i++) publish_all(fib, i);
+    /* Readers that were in a call see the last one once it is settled. */
+    int64_t code;
+    do again(code = hk_fib_settle(fib));
+    while (code == HK_E_PENDING);
     is_done = 1;
     for (int i = 0; i < READERS; i++) {
         void *wrong;

@@ -86,6 +86,7 @@ static void open_fib(struct all *all) {
     draw_up(all, hk_fib_set_hop(all->fib, 2, &hops[0]), hk_fib_pending(all->fib), hk_fib_count(all->fib));
     draw_up(all, hk_fib_set_port(all->fib, 1, &ports[0]), hk_fib_pending(all->fib), hk_fib_count(all->fib));
     publish(all);
+    IS(hk_fib_settle(all->fib), HK_OK);
     tell(hk_fib_share(all->fib, &all->share));
     draw_up(all, hk_fib_clear(all->fib), hk_fib_pending(all->fib), hk_fib_count(all->fib));
     add(all, 0x0a000000, 24, 0), add(all, 0x0c000000, 25, 5);

@@ -290,6 +290,7 @@ static void tables_that_change(void) {
     BOTH(hk_fib_set_hop(fib, 0, &hop));
     BOTH(hk_fib_set_port(fib, 0, &port));
     BOTH(hk_fib_publish(fib));
+    BOTH(hk_fib_settle(fib));
     BOTH(hk_fib_pending(fib));
     BOTH(hk_fib_get(fib, 0, 8));
     BOTH(hk_fib_count(fib));

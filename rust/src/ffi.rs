@@ -114,6 +114,7 @@ extern "C" {
     pub fn hk_fib_set_hop(fib: *mut Fib, number: u32, hop: *const Hop) -> i64;
     pub fn hk_fib_set_port(fib: *mut Fib, number: u32, port: *const Port) -> i64;
     pub fn hk_fib_publish(fib: *mut Fib) -> i64;
+    pub fn hk_fib_settle(fib: *mut Fib) -> i64;
     pub fn hk_fib_pending(fib: *mut Fib) -> i64;
     pub fn hk_fib_get(fib: *mut Fib, address: u32, depth: u32) -> i64;
     pub fn hk_fib_count(fib: *mut Fib) -> i64;

@@ -117,13 +117,24 @@ impl Fib {
         answer(unsafe { ffi::hk_fib_set_port(self.0.as_ptr(), number, &port.plan()) }).map(drop)
     }
 
-    /// Publishes all that is drawn up at once. Readers see it from their next call on.
+    /// Publishes all that is drawn up at once. A reader that is in no call sees it from its next call on; one that is in
+    /// a call, once [`settle`](Fib::settle) or a change has returned `Ok`.
     ///
     /// # Errors
     ///
     /// `Pending`, `Memory`.
     pub fn publish(&mut self) -> Result<(), Error> {
         answer(unsafe { ffi::hk_fib_publish(self.0.as_ptr()) }).map(drop)
+    }
+
+    /// Shows what was published last to the readers that were in a call then. Once it returns `Ok`, each reader sees it
+    /// from its next call on.
+    ///
+    /// # Errors
+    ///
+    /// `Pending`: a reader is still in such a call, or memory was refused. Call again.
+    pub fn settle(&mut self) -> Result<(), Error> {
+        answer(unsafe { ffi::hk_fib_settle(self.0.as_ptr()) }).map(drop)
     }
 
     /// How many changes readers don't see yet.

@@ -90,6 +90,7 @@ fn changes_are_seen_once_they_are_published() -> Result<(), Error> {
     assert_eq!(forwarder.verdict(&frame(64), 34), Ok(SENT));
     assert_eq!((forwarder.lookup(inside), forwarder.lookup(outside)), (Some(1), None));
     fib.publish()?;
+    fib.settle()?;
     assert_eq!(forwarder.verdict(&frame(64), 34), Ok(Verdict::Send { port: 0, tagged: false }));
     let mut hops = [0; 2];
     assert_eq!(forwarder.lookup_bulk(&[inside.into(), outside.into()], &mut hops), Ok(()));

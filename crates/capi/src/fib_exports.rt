@@ -245,7 +245,8 @@ pub extern "C" fn hkx_fib_set_port(alloc: Global, h: &mut Handle, number: u32, p
     answer(set_port_at(alloc, h, number, port))
 }
 
-/// Publishes all that is drawn up at once. Readers see it from their next call on.
+/// Publishes all that is drawn up at once. Readers that are in no call see it from their next call on, and the others
+/// once a further call of the writer isn't pending.
 #[unsafe(no_mangle)]
 pub extern "C" fn hkx_fib_publish(alloc: Global, h: &mut Handle) -> i64
     ensures { Answers result (λ outcome. AtFib h.old.value h.new.value outcome (Publishes outcome)) }
