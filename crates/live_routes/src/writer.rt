@@ -133,9 +133,9 @@ impl<H: Copy, P: Copy> RouteWriter<H, P> {
     }
 
     /// Publishes what is drawn up. `settle`, which is tried here once, shows it to the readers that are in no call, and
-    /// to the others later: each takes it at its next call. It also gets the copy before it back for the writer. Errors: 7
-    /// `Pending` where the publish before isn't settled, 4 `Memory`. An error changes nothing that callers see but
-    /// `settled`.
+    /// to the others later: each takes it at its next call. It also gets the copy before it back for the writer.
+    /// Errors: 7 `Pending` where the publish before isn't settled, 4 `Memory`. An error changes nothing that callers
+    /// see but `settled`.
     pub fn publish(&mut self) -> Result<(), LiveFault>
         ensures ok { OnOk result ((self.new.seen ≡ followed self.old.seen self.old.drawn)
             × (self.new.drawn ≡ self.old.drawn) × (self.new.pending ≡ 0)) }
