@@ -1,5 +1,5 @@
 """Makes the rows of c/tests/forwards.c: frames, and what has to become of them by the public rules alone, as
-forwarding.py has them; what a frame is addressed to is told by Python's ipaddress. Nothing here is taken from what the
+forwarding.py has them; Python's ipaddress says what a frame is addressed to. Nothing here is taken from what the
 library does."""
 import ipaddress
 import os
