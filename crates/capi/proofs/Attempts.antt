@@ -22,10 +22,11 @@ use Rattle.ringapi.specs.declared.answers.Moved.{Moved}
 use Rattle.ringapi.specs.declared.answers.Refusal.{Refusal}
 use Rattle.ringapi.specs.declared.answers.Refusal.TheVariants.{Start, NotYours}
 use Rattle.ringapi.specs.Views.{RefusedStarts, by_bulk}
-use Rattle.word_pool.specs.declared.local_words.LocalWords.{LocalWords}
+use Rattle.pool.specs.declared.local.Local.{Local}
+use Rattle.pool.specs.declared.store.Store.{Ghosts as StoreGhosts}
 use Rattle.pool_laws.specs.Beside.{Receives, Sends, unsent_of}
 use Rattle.pool_laws.specs.Hands.{IsIn, IsSameIn, view_in}
-use Rattle.word_pool.specs.Words.{HasSameHand, cache_of, hand_of, view_of}
+use Rattle.pool.specs.Locals.{HasSameHand, cache_of, hand_of, view_of}
 use Rattle.pool_laws.proofs.Asking.{took, took_holds}
 use Rattle.ringapi.proofs.Counts.{count_both}
 use Rattle.ringapi.proofs.Singles.{single_both}
@@ -114,7 +115,7 @@ module _ {G : Ghosts Number} {H : StoredGhosts (Option Number) Number} where
         ),
       )
 
-  module _ (f : NumberRings) (ring : ℕ) (l k m : LocalWords Number 1024 (Option Number) G H) where
+  module _ {C : Type 0} {K : StoreGhosts C Number} (f : NumberRings) (ring : ℕ) (l k m : Local Number 1024 (Option Number) C G H K) where
     -- the same of a try after others
     pub sent_later : (cache items : List Number) (answer : Result Moved Refusal) → IsKept (view_of l) (view_of k)
         → cache_of k ≡ cache → Sent f ring (cache_of k) items k m answer → Sent f ring cache items l m answer
@@ -155,7 +156,7 @@ module _ {G : Ghosts Number} {H : StoredGhosts (Option Number) Number} where
   sends_same ring plan k o p cache items rest (Err (Start why)) same is = (is.0, is.1, same ∙ is.2)
   sends_same ring plan k o p cache items rest (Err NotYours) same is = (is.0, is.1, same ∙ is.2)
 
-  pub sent_same : (f : NumberRings) (ring : ℕ) (l k m : LocalWords Number 1024 (Option Number) G H) (cache items : List Number)
+  pub sent_same : {C : Type 0} {K : StoreGhosts C Number} (f : NumberRings) (ring : ℕ) (l k m : Local Number 1024 (Option Number) C G H K) (cache items : List Number)
       (answer : Result Moved Refusal) → view_of m ≡ view_of k → Sent f ring cache items l k answer → Sent f ring cache items l m answer
   sent_same f ring l k m cache items answer same is = record {
     seen = is.seen;
@@ -164,7 +165,7 @@ module _ {G : Ghosts Number} {H : StoredGhosts (Option Number) Number} where
         (is.reply plan there);
   }
 
-  pub received_same : (f : NumberRings) (ring n : ℕ) (l k m : LocalWords Number 1024 (Option Number) G H)
+  pub received_same : {C : Type 0} {K : StoreGhosts C Number} (f : NumberRings) (ring n : ℕ) (l k m : Local Number 1024 (Option Number) C G H K)
       (answer : Result Moved StartFault) (shown : List Number) → view_of m ≡ view_of k → Received f ring n l k answer shown
       → Received f ring n l m answer shown
   received_same f ring n l k m answer shown same is = record {
@@ -179,7 +180,7 @@ module _ {G : Ghosts Number} {H : StoredGhosts (Option Number) Number} where
   same_view_in (Some k) None is = absurd is
   same_view_in (Some k) (Some m) is = ap (λ s. s.me.0) is
 
-  pub same_view : (l m : LocalWords Number 1024 (Option Number) G H) → HasSameHand l m → view_of m ≡ view_of l
+  pub same_view : {C : Type 0} {K : StoreGhosts C Number} (l m : Local Number 1024 (Option Number) C G H K) → HasSameHand l m → view_of m ≡ view_of l
   same_view l m is = same_view_in l.hand m.hand is
 
   same_in : (f : NumberRings) (o p : Option (CacheHand Number (Option Number) G H)) → IsSameIn o p → IsIn f o → IsIn f p
@@ -188,7 +189,7 @@ module _ {G : Ghosts Number} {H : StoredGhosts (Option Number) Number} where
   same_in f (Some k) (Some m) is mine = subst (λ s. (s.table_id ≡ f.table.shared.table_id) × (s.me.0.plans ≡ f.plan.rings.items)
       × (s.me.0.pool ≡ f.plan.buffers)) (sym is) mine
 
-  pub same_local : (f : NumberRings) (l m : LocalWords Number 1024 (Option Number) G H) → HasSameHand l m → IsIn f l.hand → IsIn f m.hand
+  pub same_local : {C : Type 0} {K : StoreGhosts C Number} (f : NumberRings) (l m : Local Number 1024 (Option Number) C G H K) → HasSameHand l m → IsIn f l.hand → IsIn f m.hand
   same_local f l m is mine = same_in f l.hand m.hand is mine
 
   in_from : (f : NumberRings) (o : Option (CacheHand Number (Option Number) G H)) → is_some o ≡ true
@@ -197,10 +198,10 @@ module _ {G : Ghosts Number} {H : StoredGhosts (Option Number) Number} where
   in_from f (Some k) here suits = suits k refl
 
   -- a cache that suits the rings is of these rings
-  pub suits_local : (f : NumberRings) (l : LocalWords Number 1024 (Option Number) G H) → SuitsCache f l → IsIn f l.hand
+  pub suits_local : {C : Type 0} {K : StoreGhosts C Number} (f : NumberRings) (l : Local Number 1024 (Option Number) C G H K) → SuitsCache f l → IsIn f l.hand
   suits_local f l suits = in_from f l.hand l.here suits
 
-  pub local_suits : (f : NumberRings) (l : LocalWords Number 1024 (Option Number) G H) → IsIn f l.hand → SuitsCache f l
+  pub local_suits : {C : Type 0} {K : StoreGhosts C Number} (f : NumberRings) (l : Local Number 1024 (Option Number) C G H K) → IsIn f l.hand → SuitsCache f l
   local_suits f l mine k is = subst (λ o. IsIn f o) is mine
 
 -- for puts and takes that are tried again

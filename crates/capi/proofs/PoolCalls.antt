@@ -6,9 +6,10 @@ use Rattle.fabric.specs.declared.hand.StartFault.{StartFault}
 use Rattle.fabric.specs.declared.hand.StartFault.TheVariants.{Busy, Contended, NoRoom, Worn, BadCount}
 use Rattle.fabric.specs.Settles.{AreOwnBuffers}
 use Rattle.ringapi.specs.declared.answers.Moved.{Moved}
-use Rattle.word_pool.specs.declared.local_words.LocalWords.{LocalWords}
+use Rattle.pool.specs.declared.local.Local.{Local}
+use Rattle.pool.specs.declared.store.Store.{Ghosts as StoreGhosts}
 use Rattle.pool_laws.specs.Caches.{cached_after_get, taken_by_get}
-use Rattle.word_pool.specs.Words.{HasSameHand, SameCache, SameRing, cache_of, view_of}
+use Rattle.pool.specs.Locals.{HasSameHand, SameCache, SameRing, cache_of, view_of}
 use Rattle.capi.specs.PoolCalls.{HasDrawn, HasGot, IsLastAsked, RefusesGet}
 use Rattle.capi.specs.PoolMembers.{NumberRings, numbers_of}
 use Rattle.capi.specs.Tries.{Filled, IsSame, Received}
@@ -16,8 +17,8 @@ use Rattle.capi.specs.Spans.{start_fault}
 use Rattle.capi.specs.declared.pools.member.Number.{Number}
 use Rattle.capi.proofs.Attempts.{received_later, received_same, same_view, then_kept}
 
-module _ {G : Ghosts Number} {H : StoredGhosts (Option Number) Number} (f : NumberRings)
-    (l k m : LocalWords Number 1024 (Option Number) G H) where
+module _ {G : Ghosts Number} {H : StoredGhosts (Option Number) Number} {C : Type 0} {K : StoreGhosts C Number} (f : NumberRings)
+    (l k m : Local Number 1024 (Option Number) C G H K) where
   -- numbers that the free ring gave were dealt out
   pub drawn : (n long asked : ℕ) (moved : Moved) (taken got : List Number) → long ≡ asked → Filled f 0 long taken l k moved
       → SameRing l k × SameCache l k → SameRing k m × HasSameHand k m → got ≡ taken_by_get n (cache_of k) taken

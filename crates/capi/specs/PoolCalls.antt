@@ -9,9 +9,10 @@ use Rattle.fabric.specs.declared.hand.StartFault.TheVariants.{Busy, Contended, N
 use Rattle.fabric.specs.Settles.{AreNotOwnBuffers, AreOwnBuffers}
 use Rattle.ringapi.specs.declared.answers.Moved.{Moved}
 use Rattle.ringapi.specs.declared.answers.Refusal.{Refusal}
-use Rattle.word_pool.specs.declared.local_words.LocalWords.{LocalWords}
+use Rattle.pool.specs.declared.local.Local.{Local}
+use Rattle.pool.specs.declared.store.Store.{Ghosts as StoreGhosts}
 use Rattle.pool_laws.specs.Caches.{cached_after_get, taken_by_get, threshold}
-use Rattle.word_pool.specs.Words.{SameCache, SameRing, cache_of, cache_size, view_of}
+use Rattle.pool.specs.Locals.{SameCache, SameRing, cache_of, cache_size, view_of}
 use Rattle.capi.specs.Codes.{Outcome}
 use Rattle.capi.specs.PoolMembers.{NumberRings, numbers_of}
 use Rattle.capi.specs.Tries.{IsSame, Received, Sent, refusal_fault}
@@ -28,8 +29,8 @@ IsBadCount n why = (why ≡ fault.Count) × ((n ≡ 0) ⊎ (512 < n))
 abbrev pub IsGoodCount : ℕ → Type 0
 IsGoodCount n = (0 < n) × (n ≤ 512)
 
-module _ {G : Ghosts Number} {H : StoredGhosts (Option Number) Number}
-    (l : LocalWords Number 1024 (Option Number) G H) where
+module _ {G : Ghosts Number} {H : StoredGhosts (Option Number) Number} {C : Type 0} {K : StoreGhosts C Number}
+    (l : Local Number 1024 (Option Number) C G H K) where
   -- what a get of n numbers asks of the free ring: those that the cache lacks and one cache more, or these alone
   abbrev pub IsAskedFor : ℕ → ℕ → Type 0
   IsAskedFor n asked = (asked ≡ n - length (cache_of l) + cache_size l) ⊎ (asked ≡ n - length (cache_of l))
@@ -53,8 +54,8 @@ module _ {G : Ghosts Number} {H : StoredGhosts (Option Number) Number}
   abbrev pub PassesCache : List Number → Type 0
   PassesCache items = threshold (cache_size l) < length (cache_of l ++ items)
 
-module _ {G : Ghosts Number} {H : StoredGhosts (Option Number) Number} (f : NumberRings)
-    (l m : LocalWords Number 1024 (Option Number) G H) where
+module _ {G : Ghosts Number} {H : StoredGhosts (Option Number) Number} {C : Type 0} {K : StoreGhosts C Number} (f : NumberRings)
+    (l m : Local Number 1024 (Option Number) C G H K) where
   -- where the numbers of a get come from: the cache has n, or it has too few, and the free ring gave these
   abbrev pub Draws : ℕ → List Number → Type 0
   Draws n taken = ((n ≤ length (cache_of l)) × (taken ≡ []) × (view_of m ≡ view_of l))

@@ -7,8 +7,9 @@ use Rattle.burst.specs.declared.tagged.Tagged.{Ghosts}
 use Rattle.fabric.specs.declared.stored.Stored.{Ghosts as StoredGhosts}
 use Rattle.fabric.specs.declared.fabric.Fabric.{Fabric}
 use Rattle.fabric.specs.CacheHands.{IsCacheHandOf}
-use Rattle.word_pool.specs.declared.local_words.LocalWords.{LocalWords}
-use Rattle.word_pool.specs.Words.{hand_of}
+use Rattle.pool.specs.declared.local.Local.{Local}
+use Rattle.pool.specs.declared.store.Store.{Ghosts as StoreGhosts}
+use Rattle.pool.specs.Locals.{hand_of}
 use Rattle.capi.specs.declared.pools.member.Number.{Number}
 
 -- rings of numbers
@@ -34,5 +35,5 @@ pub record ArePoolRings (plans : List RingPlan) : Type 0 where
 
 module _ {G : Ghosts Number} {H : StoredGhosts (Option Number) Number} where
   -- the cache's hand comes from these rings
-  abbrev pub SuitsCache : NumberRings → LocalWords Number 1024 (Option Number) G H → Type 0
+  abbrev pub SuitsCache : {C : Type 0} {K : StoreGhosts C Number} → NumberRings → Local Number 1024 (Option Number) C G H K → Type 0
   SuitsCache f l = (k : _) → hand_of l ≡ Some k → IsCacheHandOf f k

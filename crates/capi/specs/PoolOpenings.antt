@@ -5,7 +5,7 @@ use Rattle.ringcore_laws.specs.declared.party.Settled.{Settled}
 use Rattle.ringcore_laws.specs.Party.{newcomer}
 use Rattle.fabric.specs.Hands.{pool_of}
 use Rattle.ringapi.specs.Views.{settlement}
-use Rattle.word_pool.specs.Words.{cache_of, cache_size, view_of}
+use Rattle.pool.specs.Locals.{cache_of, cache_size, view_of}
 use Rattle.capi.specs.declared.rings.fault.Fault.{Fault}
 use Rattle.capi.specs.declared.rings.fault.Fault.TheVariants as fault
 use Rattle.capi.specs.PoolMembers.{all_numbers}

@@ -2,7 +2,7 @@
 use Rattle.std.specs.Prelude.{◌≡◌, ℕ, []}
 use Rattle.ringcore_laws.specs.Party.{newcomer}
 use Rattle.fabric.specs.Hands.{IsHandOf}
-use Rattle.word_pool.specs.Words.{IsLocalOf, cache_of, cache_size, ring_of, view_of}
+use Rattle.pool.specs.Locals.{IsLocalOf, cache_of, cache_size, ring_of, view_of}
 use Rattle.capi.specs.PoolMembers.{NumberRings}
 use Rattle.capi.specs.declared.pools.splits.Second.{Second}
 

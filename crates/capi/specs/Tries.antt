@@ -12,10 +12,11 @@ use Rattle.ringapi.specs.declared.answers.Moved.{Moved}
 use Rattle.ringapi.specs.declared.answers.Refusal.{Refusal}
 use Rattle.ringapi.specs.declared.answers.Refusal.TheVariants.{Start, NotYours}
 use Rattle.ringapi.specs.Views.{by_bulk}
-use Rattle.word_pool.specs.declared.local_words.LocalWords.{LocalWords}
+use Rattle.pool.specs.declared.local.Local.{Local}
+use Rattle.pool.specs.declared.store.Store.{Ghosts as StoreGhosts}
 use Rattle.pool_laws.specs.Beside.{Receives, Sends, unsent_of}
 use Rattle.pool_laws.specs.Hands.{view_in}
-use Rattle.word_pool.specs.Words.{SameCache, SameRing, cache_of, hand_of, view_of}
+use Rattle.pool.specs.Locals.{SameCache, SameRing, cache_of, hand_of, view_of}
 use Rattle.capi.specs.PoolMembers.{NumberRings, numbers_of}
 use Rattle.capi.specs.Spans.{start_fault}
 use Rattle.capi.specs.declared.rings.fault.Fault.{Fault}
@@ -41,30 +42,30 @@ WasLostPut NotYours = ⊥
 
 module _ {G : Ghosts Number} {H : StoredGhosts (Option Number) Number} where
   -- the handle has the numbers and the cache that it had
-  pub record IsSame (l m : LocalWords Number 1024 (Option Number) G H) : Type 0 where
+  pub record IsSame {C : Type 0} {K : StoreGhosts C Number} (l m : Local Number 1024 (Option Number) C G H K) : Type 0 where
     pub ring : SameRing l m
     pub cache : SameCache l m
     pub kept : IsKept (view_of l) (view_of m)
 
   -- The last of some tries put these numbers on a ring, or was refused, and the tries before it changed nothing. They
   -- are not in the cache
-  pub record Sent (f : NumberRings) (ring : ℕ) (cache items : List Number)
-      (l m : LocalWords Number 1024 (Option Number) G H) (answer : Result Moved Refusal) : Type 0 where
+  pub record Sent {C : Type 0} {K : StoreGhosts C Number} (f : NumberRings) (ring : ℕ) (cache items : List Number)
+      (l m : Local Number 1024 (Option Number) C G H K) (answer : Result Moved Refusal) : Type 0 where
     pub seen : Option (CacheHand Number (Option Number) G H)
     pub kept : IsKept (view_of l) (view_in seen)
     pub reply : OnRing f ring (λ plan. Sends numbers_of by_bulk 1024 ring plan seen (hand_of m) cache items answer
         (unsent_of answer items))
 
   -- The last of some tries took n numbers from a ring, these, or was refused, and the tries before it changed nothing
-  pub record Received (f : NumberRings) (ring n : ℕ) (l m : LocalWords Number 1024 (Option Number) G H)
-      (answer : Result Moved StartFault) (shown : List Number) : Type 0 where
+  pub record Received {C : Type 0} {K : StoreGhosts C Number} (f : NumberRings) (ring n : ℕ)
+      (l m : Local Number 1024 (Option Number) C G H K) (answer : Result Moved StartFault) (shown : List Number) : Type 0 where
     pub seen : Option (CacheHand Number (Option Number) G H)
     pub kept : IsKept (view_of l) (view_in seen)
     pub reply : OnRing f ring (λ plan. Receives numbers_of by_bulk 1024 ring plan seen (hand_of m) n answer shown)
 
   -- numbers of a ring filled an array of n places, and are the handle's own
-  pub record Filled (f : NumberRings) (ring n : ℕ) (after : List Number)
-      (l m : LocalWords Number 1024 (Option Number) G H) (moved : Moved) : Type 0 where
+  pub record Filled {C : Type 0} {K : StoreGhosts C Number} (f : NumberRings) (ring n : ℕ) (after : List Number)
+      (l m : Local Number 1024 (Option Number) C G H K) (moved : Moved) : Type 0 where
     pub long : length after ≡ n
     pub reply : Received f ring n l m (Ok moved) after
     pub own : AreOwnBuffers numbers_of (view_of m) (after ++ cache_of m)

@@ -1,6 +1,6 @@
 //! Pools of numbers, as C calls them: each call takes what its handle has and gives it back.
 ghost use Rattle.std.specs.Prelude.{◌≡◌, ◌+◌, ⊤, IfErr, Ok, length};
-ghost use Rattle.word_pool.specs.Words.{cache_of, view_of};
+ghost use Rattle.pool.specs.Locals.{cache_of, view_of};
 ghost use Rattle.capi.specs.Codes.{Answers};
 ghost use Rattle.capi.specs.PoolCalls.{Flushes, Gets, PassesOn, Puts, TakesOver, TellsOwner};
 ghost use Rattle.capi.specs.Same.{OnPoolRing, SamePool};

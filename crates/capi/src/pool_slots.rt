@@ -1,6 +1,6 @@
 //! Calls on pools by what a handle has: a pool, whose cache is changed in place, or a fault.
 ghost use Rattle.std.specs.Prelude.{◌≡◌, ◌+◌, ⊤, IfErr, Ok, length};
-ghost use Rattle.word_pool.specs.Words.{cache_of, view_of};
+ghost use Rattle.pool.specs.Locals.{cache_of, view_of};
 ghost use Rattle.capi.specs.PoolCalls.{Flushes, Gets, PassesOn, Puts, TakesOver, TellsOwner};
 ghost use Rattle.capi.specs.Same.{OnPoolRing, SamePool};
 ghost use Rattle.capi.specs.PoolHandles.{AtPool};

@@ -12,11 +12,13 @@ use Rattle.fabric.specs.declared.fabric.Fabric.{Fabric}
 use Rattle.fabric.specs.declared.hand.cache_hand.CacheHand.{CacheHand}
 use Rattle.fabric.specs.Settles.{AreOwnBuffers}
 use Rattle.pool.specs.declared.local.Local.{Local}
+use Rattle.pool.specs.declared.store.Store.{Ghosts as StoreGhosts}
 use Rattle.pool_laws.specs.Hands.{IsIn, IsSameIn, view_in}
 use Rattle.pool.specs.Locals.{HasSameHand, IsLocalOf, cache_of, view_of}
 use Rattle.pool_laws.proofs.Wholes.{same_mine}
 
-module _ {T : Type 0} {S : Type 0} {G : Ghosts T} {H : StoredGhosts S T} {N : ℕ} (l : Local T N S G H) where
+module _ {T : Type 0} {S : Type 0} {C : Type 0} {G : Ghosts T} {H : StoredGhosts S T} {N : ℕ} {K : StoreGhosts C T}
+    (l : Local T N S C G H K) where
   pub cache_own : AreOwnBuffers G.numbers (view_of l) (cache_of l)
   cache_own = ((λ b. omega (arith, l.kept b)), l.single)
 
@@ -35,5 +37,5 @@ module _ {T : Type 0} {S : Type 0} {G : Ghosts T} {H : StoredGhosts S T} {N : �
   kept_in (Some k) (Some m) same mine = same_mine f k m same mine
 
   -- a call of the cache alone leaves it a cache of the same fabric
-  pub local_kept : (l m : Local T N S G H) → HasSameHand l m → IsLocalOf f l → IsLocalOf f m
+  pub local_kept : {C : Type 0} {K : StoreGhosts C T} (l m : Local T N S C G H K) → HasSameHand l m → IsLocalOf f l → IsLocalOf f m
   local_kept l m same mine = kept_in l.hand m.hand same mine

@@ -10,9 +10,11 @@ use Rattle.pool_laws.specs.Calls.{SameAnswer}
 use Rattle.pool.specs.Calls.{GetTells}
 use Rattle.pool.specs.Locals.{cache_of, cache_size, hand_of, ring_of, view_of}
 use Rattle.pool.specs.declared.local.Local.{Local}
+use Rattle.pool.specs.declared.store.Store.{Ghosts as StoreGhosts}
 use Rattle.pool_laws.specs.declared.faults.PoolFault.{PoolFault}
 
-module _ {T : Type 0} {S : Type 0} {G : Ghosts T} {H : StoredGhosts S T} {N : ℕ} (tags : T → List ℕ) (plan : RingPlan) (l m : Local T N S G H) where
+module _ {T : Type 0} {S : Type 0} {C : Type 0} {G : Ghosts T} {H : StoredGhosts S T} {N : ℕ} {K : StoreGhosts C T} (tags : T → List ℕ)
+    (plan : RingPlan) (l m : Local T N S C G H K) where
   same_ok : {X Y : Type 0} (x : X) (y : Y) (answer : Result (Hand T S G H) (Hand T S G H × PoolFault)) → SameAnswer (hand_of m) answer (Ok x)
       → SameAnswer (hand_of m) answer (Ok y)
   same_ok x y (Ok h) same = same

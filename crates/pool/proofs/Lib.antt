@@ -1,2 +1,5 @@
-pub mod ByValue
 pub mod Apart
+pub mod ByValue
+pub mod Filled
+pub mod Shown
+pub mod Stacks

@@ -1,20 +1,34 @@
 //! A pool of buffers with a cache for one thread: a free ring that all threads share, and in front of it a stack of
-//! buffers that this thread's hand owns, so that most gets and puts touch no word of the ring. The items may be of any
-//! kind: they move through bursts. `word_pool` has the same for items that are plain words.
+//! buffers that this thread's hand owns, so that most gets and puts touch no word of the ring.
 //!
-//! `local` is the cache, `opening` makes it, `lent` has the gets, puts and flushes that may go to the ring and `cached`
-//! those of the cache alone, `values` the calls by value, `other_rings` uses another ring of the fabric, and `queries`
-//! look at the cache. Below them `set_aside` has the hand that sets the cached buffers aside, and `pool_requests` what
-//! is asked of the free ring.
+//! `local` is the cache. It holds its buffers in a `store`: a list of items of any kind, which move through bursts
+//! (`bursts`, `list_moves`), or an array of plain words, which are copied to and from slices (`words`, `stack`,
+//! `stack_moves`). These have one body for both: `cached` has the gets and puts of the cache alone, `other_rings` those
+//! on another ring of the fabric, `opening` makes a cache, and `queries` look at it. The calls by name: `lent` with a
+//! burst that is borrowed, `values` with one by value, `slices` with a slice, `tries` with a slice and tried once. Below
+//! them, `set_aside` has the hand that sets the cached buffers aside, and `ring_requests` the requests of the free ring.
 #![tactic(auto)]
 
+mod bursts;
 mod cached;
 mod lent;
+mod list_moves;
 mod local;
 mod opening;
 mod other_rings;
 mod queries;
+mod ring_requests;
 mod set_aside;
+mod slices;
+mod stack;
+mod stack_moves;
+mod store;
+mod tries;
 mod values;
+mod word_opening;
+mod words;
 
 pub use local::Local;
+pub use slices::LocalWords;
+pub use stack::WordStack;
+pub use word_opening::CacheFault;

@@ -1,35 +1,14 @@
 //! Queries about a cache.
-ghost use Rattle.std.specs.Prelude.{◌≡◌, ◌==◌, ◌<◌, ◌↔◌, IsTrue, length, true, false};
-ghost use Rattle.ringcore_laws.specs.FreeRings.{AreSingle};
-ghost use Rattle.ringcore_laws.specs.Sound.{holds, occurrences, occurrences_in};
-ghost use Rattle.fabric.specs.Owned.{one_if};
+ghost use Rattle.std.specs.Prelude.{◌≡◌, ◌==◌, ◌↔◌, IsTrue, length};
+ghost use Rattle.ringcore_laws.specs.Sound.{holds};
 ghost use Rattle.pool.specs.Locals.{cache_of, cache_size, ring_of, view_of};
 
 use crate::local::Local;
-use burst::{Burst, Tagged};
+use crate::store::Store;
+use burst::Tagged;
 use fabric::Stored;
-use pool_laws::carries;
 
-/// Whether an item of a list carries this buffer. Each item carries one buffer.
-fn one_carries<T: Tagged, const N: usize>(items: &Burst<T, N>, b: u32) -> bool
-    requires single { AreSingle T.numbers items.now }
-    ensures found { result ≡ true → 0 < occurrences_in T.numbers b items.now }
-    ensures none { result ≡ false → occurrences_in T.numbers b items.now ≡ 0 }
-{
-    for i in 0..items.len() {
-        match items.get(i) {
-            Some(item) => {
-                if carries(item, b) {
-                    return true;
-                }
-            }
-            None => (),
-        }
-    }
-    false
-}
-
-impl<T: Tagged, const N: usize, S: Stored<T>> Local<T, N, S> {
+impl<T: Tagged, const N: usize, S: Stored<T>, C: Store<T> + Drop> Local<T, N, S, C> {
     /// How many items the cache has.
     pub fn len(&self) -> usize
         ensures { result ≡ length (cache_of self.now) }
@@ -41,7 +20,7 @@ impl<T: Tagged, const N: usize, S: Stored<T>> Local<T, N, S> {
     pub fn is_empty(&self) -> bool
         ensures { result ≡ (length (cache_of self.now) == 0) }
     {
-        self.cache.is_empty()
+        self.cache.len() == 0
     }
 
     /// The size that the cache was made with.
@@ -62,7 +41,7 @@ impl<T: Tagged, const N: usize, S: Stored<T>> Local<T, N, S> {
         if spare {
             return true;
         }
-        one_carries(&self.cache, b)
+        self.cache.one_carries(b)
     }
 
     /// The free ring that the cache is in front of.

@@ -1,5 +1,5 @@
 -- What a bulk request tells of its items, of the hand and of why it was refused
-use Rattle.std.proofs.Common.{◌≡◌, ℕ, ◌+◌, ◌-◌, ◌<◌, ◌≤◌, List, [], ◌∷◌, length, refl, ap, ◌∙◌, subst, arith, Ok, Err, drop, take}
+use Rattle.std.proofs.Common.{◌≡◌, ℕ, ◌+◌, ◌-◌, ◌<◌, ◌≤◌, List, [], length, refl, ap, ◌∙◌, subst, arith, Ok, Err, drop, take}
 use Rattle.std.proofs.lemmas.Bool.Decides.{nat_tests}
 use Rattle.geom.specs.Plan.{granted}
 use Rattle.geom.specs.declared.plan.How.TheVariants.{Bulk}
@@ -15,7 +15,6 @@ use Rattle.fabric.specs.declared.hand.Hand.{Hand}
 use Rattle.fabric.specs.declared.hand.StartFault.{StartFault}
 use Rattle.fabric.specs.declared.hand.StartFault.TheVariants.{Busy, Contended, NoRoom, Worn, BadCount}
 use Rattle.fabric.specs.Hands.{view}
-use Rattle.fabric.specs.Views.{span_of}
 use Rattle.fabric.proofs.Holding.{holds_put, holds_take}
 use Rattle.ringapi.specs.declared.answers.Moved.{Moved}
 use Rattle.ringapi.specs.declared.answers.TakeAnswer.TheVariants as taken
@@ -83,13 +82,17 @@ module _ {T : Type 0} {S : Type 0} {G : Ghosts T} {H : StoredGhosts S T} (tags :
       → AreSingle tags items
   took_single v n h items takes free = takes.2.2.2.2.started.single refl free
 
-  -- a bulk put that came through
+  -- a bulk put that came through moved all items
+  pub put_count : (v : View T) (h : Hand T S G H) (m : Moved) (items rest : List T)
+      → PutHasTold {N = most} tags by_bulk ring plan v items (put.Done h m) rest → m.count ≡ length items
+  put_count v h m items rest told =
+      bulk_all tags most (length items) ring Put plan v (view h) told.0 m.count m.left [] (take m.count items) told.1 told.2.2
+
   pub put_all : (v : View T) (h : Hand T S G H) (m : Moved) (items rest : List T)
       → PutHasTold {N = most} tags by_bulk ring plan v items (put.Done h m) rest → (rest ≡ []) × Spills tags most ring plan v items (Ok h)
   put_all v h m items rest told =
       let is = told.2 in
-      let all : m.count ≡ length items = bulk_all tags most (length items) ring Put plan v (view h) told.0 m.count m.left [] (take m.count items) told.1 is.2 in
-      let none = none_behind m.count items all in
+      let none = none_behind m.count items (put_count v h m items rest told) in
       let gone = is.1 ∙ none in
       (gone, (m, subst (λ l. PutHasTold {N = most} tags by_bulk ring plan v items (put.Done h m) l) gone told))
 

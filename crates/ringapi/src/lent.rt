@@ -8,7 +8,7 @@ ghost use Rattle.ringapi.specs.Whole.{MakesPut, MakesTake, TriesPut, TriesTake};
 
 use crate::answers::{PutAnswer, TakeAnswer};
 use crate::put::{put, put_own, try_put};
-use crate::take::{take, try_take};
+use crate::take::{take_into, try_take};
 use burst::{Burst, Tagged};
 use fabric::{Fabric, Hand, Stored};
 use geom::How;
@@ -227,7 +227,7 @@ pub fn take_bulk_into<'f, T: Tagged, const N: usize, S: Stored<T>, R: Wait>(
     requires empty { into.old ≡ [] }
     ensures { MakesTake T.numbers by_bulk n f.now ring hand result into.new }
 {
-    take(rt, f, hand, ring, n, How::Bulk, into)
+    take_into(rt, f, hand, ring, n, How::Bulk, into)
 }
 
 /// Takes at most `n` items, as many as are queued, into an empty list, and tries again after `Busy`, `Contended` and a
@@ -247,5 +247,5 @@ pub fn take_burst_into<'f, T: Tagged, const N: usize, S: Stored<T>, R: Wait>(
     requires empty { into.old ≡ [] }
     ensures { MakesTake T.numbers by_burst n f.now ring hand result into.new }
 {
-    take(rt, f, hand, ring, n, How::Burst, into)
+    take_into(rt, f, hand, ring, n, How::Burst, into)
 }

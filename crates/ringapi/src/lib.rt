@@ -1,8 +1,8 @@
 //! Whole calls on the rings of a fabric: a start and a settle in one, tried once or until they are done; and peeks,
 //! which look at items before they are taken.
 //!
-//! `put` and `take` have the bodies, for any list of items. The calls by name are over them: `lent` for bursts,
-//! `values` for bursts by value, `slices` for the words of a slice.
+//! `put` and `take` have the bodies, for any list of items, by bulk or burst. The calls by name are over them: `lent`
+//! for bursts, `values` for bursts by value, `slices` for the words of a slice.
 #![tactic(auto)]
 
 mod answers;
@@ -24,11 +24,13 @@ pub use lent::{
 };
 pub use peek::{PeekPut, PeekTake, PeekTakeLent, peek_put, peek_take, peek_take_into};
 pub use peek_slices::peek_take_slice;
+pub use put::put_own;
 pub use slices::{
     put_bulk_slice, put_burst_slice, put_own_bulk_slice, put_own_burst_slice, take_bulk_slice,
     take_burst_slice, try_put_bulk_slice, try_put_burst_slice, try_take_bulk_slice,
     try_take_burst_slice,
 };
+pub use take::take_into;
 pub use values::{
     put_bulk, put_burst, take_bulk, take_burst, try_put_bulk, try_put_burst, try_take_bulk,
     try_take_burst,

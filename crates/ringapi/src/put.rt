@@ -113,8 +113,13 @@ fn again<'f, T: Tagged, const N: usize, S: Stored<T>, I: PutItems<T>>(
     }
 }
 
-/// A whole put of items that the hand may put, tried until it is finished.
-pub(crate) fn put_own<'f, T: Tagged, const N: usize, S: Stored<T>, I: PutItems<T>, R: Wait>(
+/// Puts all items of a list that the hand may put, or as many of its first ones as there is room for, and tries again
+/// after `Busy`, `Contended` and a settle that comes too early, with pauses in between. Nothing is tested before the
+/// start. Requires: the hand may put them. `PutItems::after` says what is left in the list.
+///
+/// Errors, in the order of the tests: `BadCount` if the list is empty or has more than `N` items; `NoRoom`; `Worn`.
+/// Never `NotYours`, `Open`, `Busy` or `Contended`. No memory; any number of steps on words.
+pub fn put_own<'f, T: Tagged, const N: usize, S: Stored<T>, I: PutItems<T>, R: Wait>(
     rt: &R,
     f: &'f Fabric<T, N, S>,
     hand: Hand<T, S>,

@@ -13,7 +13,7 @@ ghost use Rattle.ringapi.specs.Whole.{MakesPut, MakesTake, TriesPut, TriesTake};
 
 use crate::answers::{PutAnswer, TakeAnswer};
 use crate::put::{put, put_own, try_put};
-use crate::take::{take, try_take};
+use crate::take::{take_into, try_take};
 use burst::Word;
 use fabric::{Fabric, Front, Hand, Stored, Words};
 use geom::How;
@@ -175,7 +175,7 @@ fn take_front<'f, T: Word, const N: usize, S: Stored<T>, R: Wait>(
         words: into,
         count: 0,
     };
-    take(rt, f, hand, ring, n, how, &mut front)
+    take_into(rt, f, hand, ring, n, how, &mut front)
 }
 
 /// Tries once to take as many words as a slice has places, or none. The slice has them afterwards; at a refusal it is

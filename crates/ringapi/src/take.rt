@@ -90,8 +90,13 @@ fn again<'f, T: Tagged, const N: usize, S: Stored<T>, I: TakeItems<T>>(
     }
 }
 
-/// A whole take, tried until it is finished.
-pub(crate) fn take<'f, T: Tagged, const N: usize, S: Stored<T>, I: TakeItems<T>, R: Wait>(
+/// Takes `n` items into an empty list, or at most `n`, as many as are queued, and tries again after `Busy`, `Contended`
+/// and a settle that comes too early, with pauses in between. It doesn't wait for items. Requires: the list is empty,
+/// and has room.
+///
+/// Errors, in the order of the tests: `BadCount` if `n` is 0 or above `N`, before any step; `NoRoom`; `Worn`. Never
+/// `Open`, `Busy` or `Contended`. No memory; any number of steps on words.
+pub fn take_into<'f, T: Tagged, const N: usize, S: Stored<T>, I: TakeItems<T>, R: Wait>(
     rt: &R,
     f: &'f Fabric<T, N, S>,
     hand: Hand<T, S>,

@@ -137,7 +137,7 @@ fn starved<R: Wait>(
         return Err(Wrong("a ring that isn't free"));
     }
     let held = taken(alloc)?;
-    let Ok(mut local) = Local::resume(hand, Burst::new(), POOL, 2) else {
+    let Ok(mut local) = Local::<Number, MAX_ITEMS>::resume(hand, Burst::new(), POOL, 2) else {
         return Err(Wrong("a cache"));
     };
     all_calls(rt, f, &mut local, all)?;

@@ -1,17 +1,17 @@
 //! A cache of words: making one is refused while all memory is taken, and its other calls take none.
 ghost use Rattle.std.specs.Prelude.{◌<◌, length, IfOk};
 ghost use Rattle.fabric.specs.Hands.{IsHandOf, rings_of};
-ghost use Rattle.word_pool.specs.Words.{IsLocalOf};
+ghost use Rattle.pool.specs.Locals.{IsLocalOf};
 
 use crate::numbers::{BUFFERS, MAX_ITEMS, Number, POOL, numbers, planned};
 use burst::Slot;
 use fabric::{Fabric, Hand, Opened};
 use geom::Mode;
 use oom::{Wrong, taken};
+use pool::{CacheFault, LocalWords};
 use std::alloc::Global;
 use std::sync::Wait;
 use std::test::Fail;
-use word_pool::{CacheFault, LocalWords};
 
 type Numbers = Fabric<Number, MAX_ITEMS, Slot<Number>>;
 

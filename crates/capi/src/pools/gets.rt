@@ -3,7 +3,7 @@ ghost use Rattle.std.specs.Prelude.{◌≡◌, ◌+◌, ◌-◌, ◌<◌, ◌≤
 ghost use Rattle.fabric.specs.Hands.{rings_of};
 ghost use Rattle.fabric.specs.Settles.{AreOwnBuffers};
 ghost use Rattle.pool_laws.specs.Caches.{cached_after_get, taken_by_get};
-ghost use Rattle.word_pool.specs.Words.{HasSameHand, IsLocalOf, SameRing, cache_of, cache_size, view_of};
+ghost use Rattle.pool.specs.Locals.{HasSameHand, IsLocalOf, SameRing, cache_of, cache_size, view_of};
 ghost use Rattle.capi.specs.PoolCalls.{Gets, HasDrawn};
 ghost use Rattle.capi.specs.PoolMembers.{ArePoolRings, numbers_of};
 ghost use Rattle.capi.specs.Tries.{IsSame, Received};
@@ -13,7 +13,7 @@ use crate::pools::tries::{Tries, receive};
 use crate::rings::{Fault, fault_of};
 use burst::Slot;
 use fabric::{Fabric, StartFault};
-use word_pool::LocalWords;
+use pool::LocalWords;
 
 /// Deals what the cache has and what the free ring gave: the array is filled, and the rest is cached.
 fn deal(local: &mut LocalWords<Number, 1024, Slot<Number>>, taken: &[Number], into: &mut [Number])

@@ -1,14 +1,14 @@
 //! One thread's way to a pool of numbers: a cache in front of the free ring, and the rings that pass numbers on.
 ghost use Rattle.std.specs.Prelude.{◌≡◌, ◌+◌, length};
 ghost use Rattle.fabric.specs.Hands.{IsHandOf, rings_of};
-ghost use Rattle.word_pool.specs.Words.{ring_of};
+ghost use Rattle.pool.specs.Locals.{ring_of};
 ghost use Rattle.capi.specs.PoolMembers.{ArePoolRings, SuitsCache};
 
 use arrayvec::ArrayVec;
 use burst::{Slot, Tagged, Word};
 use fabric::{Fabric, Hand};
+use pool::LocalWords;
 use std::sync::Arc;
-use word_pool::LocalWords;
 
 /// The most numbers of one call. A get asks the free ring for these and a whole cache, 1,024 at most.
 pub(crate) const MOST_NUMBERS: usize = 512;

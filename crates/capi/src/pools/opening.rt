@@ -12,10 +12,10 @@ use crate::rings::Fault;
 use burst::Slot;
 use fabric::{Fabric, Hand, OpenFault, Opened};
 use geom::{Geometry, Mode, RingPlan};
+use pool::LocalWords;
 use ringapi::{PutAnswer, try_put_bulk_slice};
 use std::alloc::Global;
 use std::sync::Arc;
-use word_pool::LocalWords;
 
 /// The most numbers of one put on the free ring.
 const BULK: usize = 1024;

@@ -1,7 +1,7 @@
 //! Numbers that are passed on to other handles by rings, and taken over from them.
 ghost use Rattle.std.specs.Prelude.{◌≡◌, ◌<◌, length};
 ghost use Rattle.fabric.specs.Hands.{rings_of};
-ghost use Rattle.word_pool.specs.Words.{IsLocalOf};
+ghost use Rattle.pool.specs.Locals.{IsLocalOf};
 ghost use Rattle.capi.specs.PoolCalls.{PassesOn, TakesOver};
 ghost use Rattle.capi.specs.PoolMembers.{ArePoolRings};
 
@@ -10,7 +10,7 @@ use crate::pools::tries::{Tries, receive, refused, send};
 use crate::rings::{Fault, fault_of};
 use burst::Slot;
 use fabric::Fabric;
-use word_pool::LocalWords;
+use pool::LocalWords;
 
 /// Puts numbers on a ring, from which another handle takes them over.
 pub fn pass_on(

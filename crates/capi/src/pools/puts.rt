@@ -1,7 +1,7 @@
 //! Puts of numbers, and flushes: into the cache, and onto the free ring.
 ghost use Rattle.std.specs.Prelude.{◌<◌, length};
 ghost use Rattle.fabric.specs.Hands.{rings_of};
-ghost use Rattle.word_pool.specs.Words.{IsLocalOf};
+ghost use Rattle.pool.specs.Locals.{IsLocalOf};
 ghost use Rattle.capi.specs.PoolCalls.{Flushes, Puts};
 ghost use Rattle.capi.specs.PoolMembers.{ArePoolRings};
 
@@ -10,8 +10,8 @@ use crate::pools::tries::{Tries, refused, send};
 use crate::rings::Fault;
 use burst::Slot;
 use fabric::Fabric;
+use pool::LocalWords;
 use pool_laws::PoolFault;
-use word_pool::LocalWords;
 
 /// Puts numbers back that the handle has.
 #[inline(always)]

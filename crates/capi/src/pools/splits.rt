@@ -10,9 +10,9 @@ use crate::pools::member::{Number, PoolMember};
 use crate::rings::Fault;
 use burst::Slot;
 use fabric::{Fabric, Hand, SplitFault};
+use pool::LocalWords;
 use std::alloc::Global;
 use std::sync::Arc;
-use word_pool::LocalWords;
 
 /// What a further handle gets: an empty cache, and a hand for its own splits.
 #[derive(Drop)]

@@ -3,15 +3,15 @@ ghost use Rattle.std.specs.Prelude.{◌≡◌, ◌<◌, ◌+◌, [], length, Err
 ghost use Rattle.fabric.specs.Hands.{OnRing, rings_of};
 ghost use Rattle.fabric.specs.Views.{IsKept};
 ghost use Rattle.pool_laws.specs.Beside.{IsPutByHts, IsTakenByHts};
-ghost use Rattle.word_pool.specs.Words.{IsLocalOf, SameCache, SameRing, cache_of, view_of};
+ghost use Rattle.pool.specs.Locals.{IsLocalOf, SameCache, SameRing, cache_of, view_of};
 ghost use Rattle.capi.specs.Tries.{Filled, Received, Sent, WasLost, WasLostPut, refusal_fault};
 
 use crate::pools::member::Number;
 use crate::rings::{Fault, fault_of};
 use burst::Slot;
 use fabric::{Fabric, StartFault};
+use pool::LocalWords;
 use ringapi::{Moved, Refusal};
-use word_pool::LocalWords;
 
 /// How often a call tries a ring at most if other threads come first.
 const TRIES: u32 = 1024;

@@ -3,7 +3,7 @@ use Rattle.std.proofs.lemmas.Grind.{common_steps}
 use Rattle.std.proofs.lemmas.List.{length-drop, take_all}
 use Rattle.fabric.specs.Settles.{AreOwnBuffers}
 use Rattle.pool_laws.specs.Caches.{cached_after_get, taken_by_get}
-use Rattle.word_pool.specs.Words.{cache_of, cache_size, view_of}
+use Rattle.pool.specs.Locals.{cache_of, cache_size, view_of}
 use Rattle.capi.specs.PoolMembers.{numbers_of}
 use Rattle.capi.proofs.Attempts.{same_view}
 use Rattle.capi.proofs.Deals.{dealt_own, none_left, rest_fits}

@@ -1,5 +1,5 @@
 use Rattle.std.proofs.Common.{◌-◌, ◌≡◌, ◌∙◌, ap, arith, length, refl, subst, sym}
-use Rattle.word_pool.specs.Words.{cache_of}
+use Rattle.pool.specs.Locals.{cache_of}
 use Rattle.capi.specs.PoolCalls.{RefusesGet}
 use Rattle.capi.proofs.PoolCalls.{got_later, refused_later, same_then}
 use Rattle.capi.proofs.pools.gets.get_more.Goals as goal

@@ -1,5 +1,5 @@
 use Rattle.std.proofs.Common.{◌≡◌, ◌++◌, ◌∙◌, Ok, Err, [], inr, rules, subst}
-use Rattle.word_pool.specs.Words.{cache_of, view_of}
+use Rattle.pool.specs.Locals.{cache_of, view_of}
 use Rattle.capi.specs.Tries.{Sent}
 use Rattle.capi.proofs.Deals.{none_left, turned_back}
 use Rattle.capi.proofs.Attempts.{same_view, sent_later, sent_same, then_kept, view_kept}

@@ -1,6 +1,6 @@
 use Rattle.std.proofs.Common.{◌∙◌, Ok, Err, inr, refl, rules, subst, sym}
 use Rattle.pool_laws.specs.Calls.{PutsCached}
-use Rattle.word_pool.specs.Words.{cache_of, cache_size, view_of}
+use Rattle.pool.specs.Locals.{cache_of, cache_size, view_of}
 use Rattle.capi.specs.PoolMembers.{numbers_of}
 use Rattle.capi.specs.PoolCalls.{RefusesPut}
 use Rattle.capi.proofs.Attempts.{same_view, sent_later, then_kept, view_kept}

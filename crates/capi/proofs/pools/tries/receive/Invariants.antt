@@ -1,6 +1,6 @@
 use Rattle.std.proofs.Common.{◌≡◌, ◌<◌}
 use Rattle.fabric.specs.Views.{IsKept}
-use Rattle.word_pool.specs.Words.{IsLocalOf, SameCache, SameRing, view_of}
+use Rattle.pool.specs.Locals.{IsLocalOf, SameCache, SameRing, view_of}
 use Rattle.capi.proofs.pools.tries.receive.Given as goal
 
 abbrev pub invariant-loop-tries : goal.invariant-loop-tries

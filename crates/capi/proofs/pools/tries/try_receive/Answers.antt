@@ -5,8 +5,8 @@ use Rattle.fabric.specs.Settles.{AreOwnBuffers}
 use Rattle.fabric.proofs.Told.{ring_at}
 use Rattle.ringapi.specs.Views.{by_bulk}
 use Rattle.pool_laws.specs.Beside.{Receives}
-use Rattle.word_pool.specs.Words.{cache_of, hand_of, view_of}
-use Rattle.word_pool.proofs.Slices.{none_shown, whole_shown}
+use Rattle.pool.specs.Locals.{cache_of, hand_of, view_of}
+use Rattle.pool.proofs.Shown.{none_shown, whole_shown}
 use Rattle.capi.specs.PoolMembers.{numbers_of}
 use Rattle.capi.proofs.Attempts.{held_once, received_own, unreceived_keeps, view_kept}
 use Rattle.capi.proofs.pools.tries.try_receive.Goals as goal

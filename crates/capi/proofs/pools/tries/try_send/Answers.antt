@@ -1,6 +1,6 @@
 use Rattle.fabric.specs.Hands.{rings_of}
 use Rattle.fabric.proofs.Told.{ring_at}
-use Rattle.word_pool.specs.Words.{cache_of, hand_of}
+use Rattle.pool.specs.Locals.{cache_of, hand_of}
 use Rattle.capi.proofs.Attempts.{unsent_keeps}
 use Rattle.capi.proofs.pools.tries.try_send.Goals as goal
 

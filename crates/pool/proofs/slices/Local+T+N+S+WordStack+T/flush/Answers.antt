@@ -1,0 +1,105 @@
+use Rattle.std.proofs.Common.{◌≡◌, Some, Ok, Err, refl, sym, ap, subst, rules, arith, length}
+use Rattle.ringcore_laws.specs.FreeRings.{AreSingle}
+use Rattle.fabric.specs.Hands.{view}
+use Rattle.pool_laws.proofs.Kept.{same_own}
+use Rattle.pool_laws.proofs.Wholes.{free_at, free_of, hand_from, hand_own, cache_hand_from, mine_of, view_at}
+use Rattle.pool_laws.specs.Asks.{Flushes}
+use Rattle.pool.specs.Stacks.{stacked}
+use Rattle.pool.proofs.slices.Local+T+N+S+WordStack+T.flush.Goals as goal
+
+pub empty-requires : goal.empty-requires
+empty-requires g c =
+    let tags = g.T.Tagged.numbers in
+    let f = c.args.f.now in
+    let l = c.args.self.now in
+    let k = c.take_hand-cache_hand.result in
+    let h = c.whole_hand-hand.result in
+    let was : l.hand ≡ Some k = search rules in (
+      search rules,
+      (
+        hand_from f h k c.whole_hand-hand.ensures (mine_of f l.hand k was c.requires.local),
+        (
+          free_of f l.hand k l.ring was c.requires.local l.free,
+          (hand_own tags l.hand k h (stacked l.cache) was c.whole_hand-hand.ensures l.kept l.single, search rules),
+        ),
+      ),
+    )
+
+pub invariant_of-self : goal.invariant_of-self
+invariant_of-self g c =
+    let tags = g.T.Tagged.numbers in
+    let f = c.args.f.now in
+    let l = c.args.self.now in
+    let k = c.take_hand-cache_hand.result in
+    let was : l.hand ≡ Some k = search rules in
+    let back = c.keep_back in
+    record {
+      here = refl;
+      free = free_at f back.result l.ring (cache_hand_from f c.in-Ok.hand back.result back.ensures.seat c.in-Ok.ensures.kept.0)
+          (free_of f l.hand k l.ring was c.requires.local l.free);
+      small = l.small;
+      fits = l.fits;
+      room = omega (arith, c.empty.ensures.room, l.room);
+      within = omega (arith, ap length c.in-Ok.ensures.kept.1);
+      kept = back.ensures.kept;
+      single = subst (AreSingle tags) (sym c.in-Ok.ensures.kept.1) refl;
+    }
+
+pub keep_back-requires-in-Err : goal.keep_back-requires-in-Err
+keep_back-requires-in-Err g c =
+    let tags = g.T.Tagged.numbers in
+    let l = c.args.self.now in
+    let k = c.take_hand-cache_hand.result in
+    let h = c.whole_hand-hand.result in
+    let was : l.hand ≡ Some k = search rules in
+    record {
+      own = same_own tags (view h) (view c.in-Err.hand) (stacked l.cache) (stacked c.empty.new.cache) c.in-Err.ensures.party c.in-Err.ensures.same.1
+          (hand_own tags l.hand k h (stacked l.cache) was c.whole_hand-hand.ensures l.kept l.single);
+    }
+
+pub invariant_of-self-in-Err : goal.invariant_of-self-in-Err
+invariant_of-self-in-Err g c =
+    let tags = g.T.Tagged.numbers in
+    let f = c.args.f.now in
+    let l = c.args.self.now in
+    let k = c.take_hand-cache_hand.result in
+    let was : l.hand ≡ Some k = search rules in
+    let back = c.keep_back-in-Err in
+    record {
+      here = refl;
+      free = free_at f back.result l.ring (cache_hand_from f c.in-Err.hand back.result back.ensures.seat c.in-Err.ensures.same.0)
+          (free_of f l.hand k l.ring was c.requires.local l.free);
+      small = l.small;
+      fits = l.fits;
+      room = omega (arith, c.empty.ensures.room, l.room);
+      within = omega (arith, ap length c.in-Err.ensures.same.1, l.within);
+      kept = back.ensures.kept;
+      single = subst (AreSingle tags) (sym c.in-Err.ensures.same.1) l.single;
+    }
+
+pub returns-in-Ok-clause-exact : goal.returns-in-Ok-clause-exact
+returns-in-Ok-clause-exact g c plan there =
+    let tags = g.T.Tagged.numbers in
+    let l = c.args.self.now in
+    let k = c.take_hand-cache_hand.result in
+    let was : l.hand ≡ Some k = search rules in (
+      c.in-Ok.hand,
+      subst (λ v. Flushes tags g.row.N l.ring plan v (stacked l.cache) (Ok c.in-Ok.hand) (stacked c.empty.new.cache))
+          (view_at tags l.hand k c.whole_hand-hand.result was c.whole_hand-hand.ensures)
+          (c.in-Ok.ensures.exact plan there),
+      ap (λ s. s.me.0) c.keep_back.ensures.seat,
+    )
+
+pub returns-in-Err-clause-exact : goal.returns-in-Err-clause-exact
+returns-in-Err-clause-exact g c plan there =
+    let tags = g.T.Tagged.numbers in
+    let l = c.args.self.now in
+    let k = c.take_hand-cache_hand.result in
+    let was : l.hand ≡ Some k = search rules in (
+      refl,
+      c.in-Err.hand,
+      subst (λ v. Flushes tags g.row.N l.ring plan v (stacked l.cache) (Err c.in-Err.hand) (stacked c.empty.new.cache))
+          (view_at tags l.hand k c.whole_hand-hand.result was c.whole_hand-hand.ensures)
+          (c.in-Err.ensures.exact plan there),
+      ap (λ s. s.me.0) c.keep_back-in-Err.ensures.seat,
+    )

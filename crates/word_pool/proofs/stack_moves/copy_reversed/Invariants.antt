@@ -1,5 +1,0 @@
-use Rattle.std.proofs.Common.{◌≡◌, length, reverse, take}
-use Rattle.word_pool.proofs.stack_moves.copy_reversed.Given as goal
-
-abbrev pub invariant-loop-i : goal.invariant-loop-i
-invariant-loop-i g l = (length l.into ≡ length l.fn.into) × (take l.i l.into ≡ take l.i (reverse l.from))

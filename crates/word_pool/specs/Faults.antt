@@ -1,9 +1,0 @@
--- The numbers of refusals
-use Rattle.std.specs.Prelude.{ℕ}
-use Rattle.pool_laws.specs.Faults.{number_of}
-use Rattle.word_pool.specs.declared.opening.CacheFault.{CacheFault}
-use Rattle.word_pool.specs.declared.opening.CacheFault.TheVariants.{Memory, Pool}
-
-abbrev pub cache_number_of : CacheFault → ℕ
-cache_number_of Memory = 6
-cache_number_of (Pool e) = number_of e
