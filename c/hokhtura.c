@@ -11,6 +11,9 @@ struct hk_cell {
     void *at;
 };
 
+/* A cell for one call. */
+#define CELL(handle) (&(struct hk_cell){handle})
+
 /* The exports, with the names that their parameters have there. A slice there is an array and its length here. */
 extern int64_t hkx_free(struct hk_cell *h);
 extern int64_t hkx_hand_open(struct hk_cell *h, const hk_ring_plan *asked, size_t asked_length);
@@ -42,7 +45,7 @@ extern int64_t hkx_routes_remove(struct hk_cell *h, uint32_t address, uint32_t d
 extern int64_t hkx_routes_lookup(struct hk_cell *h, uint32_t address);
 extern int64_t hkx_routes_lookup_bulk(struct hk_cell *h, const uint32_t *addresses, size_t addresses_length,
     uint32_t *hops, size_t hops_length);
-extern int64_t hkx_fib_open(struct hk_cell *h, uint32_t bits, uint32_t groups, const hk_port *ports,
+extern int64_t hkx_fib_open(struct hk_cell *h, bool whole, uint32_t bits, uint32_t groups, const hk_port *ports,
     size_t ports_length, const hk_next_hop *hops, size_t hops_length);
 extern int64_t hkx_fib_share(struct hk_cell *h, struct hk_cell *second);
 extern int64_t hkx_fib_add(struct hk_cell *h, uint32_t address, uint32_t depth, uint32_t hop);
@@ -51,10 +54,13 @@ extern int64_t hkx_fib_clear(struct hk_cell *h);
 extern int64_t hkx_fib_set_hop(struct hk_cell *h, uint32_t number, const hk_next_hop *hop);
 extern int64_t hkx_fib_set_port(struct hk_cell *h, uint32_t number, const hk_port *port);
 extern int64_t hkx_fib_publish(struct hk_cell *h);
+extern int64_t hkx_fib_settle(struct hk_cell *h);
 extern int64_t hkx_fib_pending(struct hk_cell *h);
 extern int64_t hkx_fib_get(struct hk_cell *h, uint32_t address, uint32_t depth);
 extern int64_t hkx_fib_count(struct hk_cell *h);
 extern int64_t hkx_fib_walk(struct hk_cell *h, uint32_t address, uint32_t depth, hk_fib_route *place);
+extern int64_t hkx_forward_hold(struct hk_cell *h);
+extern int64_t hkx_forward_release(struct hk_cell *h);
 extern int64_t hkx_forward_lookup(struct hk_cell *h, uint32_t address);
 extern int64_t hkx_forward_lookup_bulk(struct hk_cell *h, const uint32_t *addresses, size_t addresses_length,
     uint32_t *hops, size_t hops_length);
@@ -98,8 +104,7 @@ int64_t hk_hand_split(hk_hand *hand, hk_hand **out) {
 }
 
 void hk_hand_free(hk_hand *hand) {
-    struct hk_cell cell = {hand};
-    (void)hkx_free(&cell);
+    (void)hkx_free(CELL(hand));
 }
 
 /* An export tries each step once. If another thread came first, the calls below try that step again, until they have
@@ -112,20 +117,21 @@ static inline void pause_a_moment(void) {
 #endif
 }
 
+/* Makes a call again while its code says that another thread came first, `lost`: the only loop over tries. */
+#define TRY_AGAIN(code, lost, call)                                     \
+    for (unsigned turn = 1; (code) == (lost) && turn < TURNS; turn++) { \
+        pause_a_moment();                                               \
+        (code) = (call);                                                \
+    }
+
 /* Goes on with the put that the hand has open after a first try to settle it, which returned a code. */
 static int64_t settle_put(struct hk_cell *cell, const uint64_t *words, size_t n, int64_t code) {
-    for (unsigned turn = 1; code == HK_E_PENDING && turn < TURNS; turn++) {
-        pause_a_moment();
-        code = hkx_ring_finish_put(cell, words, n);
-    }
+    TRY_AGAIN(code, HK_E_PENDING, hkx_ring_finish_put(cell, words, n))
     return code;
 }
 
 static int64_t settle_take(struct hk_cell *cell, size_t n, int64_t code) {
-    for (unsigned turn = 1; code == HK_E_PENDING && turn < TURNS; turn++) {
-        pause_a_moment();
-        code = hkx_ring_finish_take(cell, n);
-    }
+    TRY_AGAIN(code, HK_E_PENDING, hkx_ring_finish_take(cell, n))
     return code;
 }
 
@@ -149,18 +155,12 @@ struct take_call {
 
 /* Goes on with a put whose first try returned a code. */
 static RARELY int64_t put_again(struct put_call *call, bool bulk, int64_t code) {
-    for (unsigned turn = 1; code == HK_E_AGAIN && turn < TURNS; turn++) {
-        pause_a_moment();
-        code = hkx_ring_put(&call->cell, call->ring, call->words, call->n, bulk);
-    }
+    TRY_AGAIN(code, HK_E_AGAIN, hkx_ring_put(&call->cell, call->ring, call->words, call->n, bulk))
     return settle_put(&call->cell, call->words, call->n, code);
 }
 
 static RARELY int64_t take_again(struct take_call *call, bool bulk, int64_t code) {
-    for (unsigned turn = 1; code == HK_E_AGAIN && turn < TURNS; turn++) {
-        pause_a_moment();
-        code = hkx_ring_take(&call->cell, call->ring, call->words, call->n, bulk);
-    }
+    TRY_AGAIN(code, HK_E_AGAIN, hkx_ring_take(&call->cell, call->ring, call->words, call->n, bulk))
     return settle_take(&call->cell, call->n, code);
 }
 
@@ -201,10 +201,7 @@ int64_t hk_ring_try_take_burst(hk_hand *hand, size_t ring, uint64_t *words, size
 static inline int64_t peek_put(hk_hand *hand, size_t ring, size_t n, bool bulk) {
     struct hk_cell cell = {hand};
     int64_t code = hkx_ring_peek_put(&cell, ring, n, bulk);
-    for (unsigned turn = 1; code == HK_E_AGAIN && turn < TURNS; turn++) {
-        pause_a_moment();
-        code = hkx_ring_peek_put(&cell, ring, n, bulk);
-    }
+    TRY_AGAIN(code, HK_E_AGAIN, hkx_ring_peek_put(&cell, ring, n, bulk))
     return code;
 }
 
@@ -222,10 +219,7 @@ static inline int64_t peek_take(hk_hand *hand, size_t ring, uint64_t *words, siz
     struct hk_cell cell = {hand};
     if (!words) words = no_words;
     code = hkx_ring_peek_take(&cell, ring, words, n, bulk);
-    for (unsigned turn = 1; code == HK_E_AGAIN && turn < TURNS; turn++) {
-        pause_a_moment();
-        code = hkx_ring_peek_take(&cell, ring, words, n, bulk);
-    }
+    TRY_AGAIN(code, HK_E_AGAIN, hkx_ring_peek_take(&cell, ring, words, n, bulk))
     return code;
 }
 
@@ -251,35 +245,29 @@ int64_t hk_ring_finish_take(hk_hand *hand, size_t n) {
 }
 
 int64_t hk_hand_span(hk_hand *hand) {
-    struct hk_cell cell = {hand};
-    return hkx_hand_span(&cell);
+    return hkx_hand_span(CELL(hand));
 }
 
 int64_t hk_hand_left(hk_hand *hand) {
-    struct hk_cell cell = {hand};
-    return hkx_hand_left(&cell);
+    return hkx_hand_left(CELL(hand));
 }
 
 int64_t hk_ring_count(hk_hand *hand, size_t ring) {
-    struct hk_cell cell = {hand};
-    return hkx_ring_room(&cell, ring, true);
+    return hkx_ring_room(CELL(hand), ring, true);
 }
 
 int64_t hk_ring_room(hk_hand *hand, size_t ring) {
-    struct hk_cell cell = {hand};
-    return hkx_ring_room(&cell, ring, false);
+    return hkx_ring_room(CELL(hand), ring, false);
 }
 
 int64_t hk_hand_close(hk_hand *hand) {
-    struct hk_cell cell = {hand};
-    return hkx_hand_close(&cell);
+    return hkx_hand_close(CELL(hand));
 }
 
 int64_t hk_hand_drain(hk_hand *hand, size_t ring, uint64_t *words, size_t n) {
     int64_t code = refused(words, n);
     if (code < 0) return code;
-    struct hk_cell cell = {hand};
-    return hkx_hand_drain(&cell, ring, words ? words : no_words, n);
+    return hkx_hand_drain(CELL(hand), ring, words ? words : no_words, n);
 }
 
 /* ---- Pools ---- */
@@ -309,51 +297,43 @@ int64_t hk_pool_split(hk_pool *pool, hk_pool **out) {
 }
 
 void hk_pool_free(hk_pool *pool) {
-    struct hk_cell cell = {pool};
-    (void)hkx_free(&cell);
+    (void)hkx_free(CELL(pool));
 }
 
 int64_t hk_pool_try_get_bulk(hk_pool *pool, uint32_t *numbers, size_t n) {
     int64_t code = refused_numbers(numbers, n);
     if (code < 0) return code;
-    struct hk_cell cell = {pool};
-    return hkx_pool_get(&cell, numbers ? numbers : no_numbers, n);
+    return hkx_pool_get(CELL(pool), numbers ? numbers : no_numbers, n);
 }
 
 int64_t hk_pool_try_put_bulk(hk_pool *pool, const uint32_t *numbers, size_t n) {
     int64_t code = refused_numbers(numbers, n);
     if (code < 0) return code;
-    struct hk_cell cell = {pool};
-    return hkx_pool_put(&cell, numbers ? numbers : no_numbers, n);
+    return hkx_pool_put(CELL(pool), numbers ? numbers : no_numbers, n);
 }
 
 int64_t hk_pool_try_flush(hk_pool *pool) {
-    struct hk_cell cell = {pool};
-    return hkx_pool_flush(&cell);
+    return hkx_pool_flush(CELL(pool));
 }
 
 int64_t hk_pool_cached(hk_pool *pool) {
-    struct hk_cell cell = {pool};
-    return hkx_pool_cached(&cell);
+    return hkx_pool_cached(CELL(pool));
 }
 
 int64_t hk_pool_owns(hk_pool *pool, uint32_t number) {
-    struct hk_cell cell = {pool};
-    return hkx_pool_owns(&cell, number);
+    return hkx_pool_owns(CELL(pool), number);
 }
 
 int64_t hk_pool_try_send_bulk(hk_pool *pool, size_t ring, const uint32_t *numbers, size_t n) {
     int64_t code = refused_numbers(numbers, n);
     if (code < 0) return code;
-    struct hk_cell cell = {pool};
-    return hkx_pool_send(&cell, ring, numbers ? numbers : no_numbers, n);
+    return hkx_pool_send(CELL(pool), ring, numbers ? numbers : no_numbers, n);
 }
 
 int64_t hk_pool_try_receive_bulk(hk_pool *pool, size_t ring, uint32_t *numbers, size_t n) {
     int64_t code = refused_numbers(numbers, n);
     if (code < 0) return code;
-    struct hk_cell cell = {pool};
-    return hkx_pool_receive(&cell, ring, numbers ? numbers : no_numbers, n);
+    return hkx_pool_receive(CELL(pool), ring, numbers ? numbers : no_numbers, n);
 }
 
 /* ---- Routes ---- */
@@ -375,46 +355,51 @@ int64_t hk_routes_share(hk_routes *routes, hk_routes **out) {
 }
 
 int64_t hk_routes_add(hk_routes *routes, uint32_t address, uint32_t depth, uint32_t hop) {
-    struct hk_cell cell = {routes};
-    return hkx_routes_add(&cell, address, depth, hop);
+    return hkx_routes_add(CELL(routes), address, depth, hop);
 }
 
 int64_t hk_routes_remove(hk_routes *routes, uint32_t address, uint32_t depth) {
-    struct hk_cell cell = {routes};
-    return hkx_routes_remove(&cell, address, depth);
+    return hkx_routes_remove(CELL(routes), address, depth);
 }
 
 int64_t hk_routes_lookup(hk_routes *routes, uint32_t address) {
-    struct hk_cell cell = {routes};
-    return hkx_routes_lookup(&cell, address);
+    return hkx_routes_lookup(CELL(routes), address);
 }
 
 int64_t hk_routes_lookup_bulk(hk_routes *routes, const uint32_t *addresses, uint32_t *hops, size_t n) {
     static uint32_t none[1];
     if (n > SIZE_MAX / 8) return HK_E_COUNT;
     if (n > 0 && (!addresses || !hops)) return HK_E_NULL;
-    struct hk_cell cell = {routes};
-    return hkx_routes_lookup_bulk(&cell, addresses ? addresses : none, n, hops ? hops : none, n);
+    return hkx_routes_lookup_bulk(CELL(routes), addresses ? addresses : none, n, hops ? hops : none, n);
 }
 
 void hk_routes_free(hk_routes *routes) {
-    struct hk_cell cell = {routes};
-    (void)hkx_free(&cell);
+    (void)hkx_free(CELL(routes));
 }
 
 /* ---- Forwarding tables ---- */
 
-int64_t hk_fib_open(hk_fib **out, uint32_t bits, uint32_t groups, const hk_port *ports, size_t port_count,
-                    const hk_next_hop *hops, size_t hop_count) {
+static int64_t open_fib(hk_fib **out, bool whole, uint32_t bits, uint32_t groups, const hk_port *ports,
+                        size_t port_count, const hk_next_hop *hops, size_t hop_count) {
     static const hk_port no_ports[1];
     static const hk_next_hop no_hops[1];
     if (!out || (port_count > 0 && !ports) || (hop_count > 0 && !hops)) return HK_E_NULL;
     if (port_count > HK_MOST_PORTS || hop_count > HK_MOST_HOPS) return HK_E_PLAN;
     struct hk_cell cell = {NULL};
-    int64_t code =
-        hkx_fib_open(&cell, bits, groups, ports ? ports : no_ports, port_count, hops ? hops : no_hops, hop_count);
+    int64_t code = hkx_fib_open(&cell, whole, bits, groups, ports ? ports : no_ports, port_count,
+                                hops ? hops : no_hops, hop_count);
     if (code >= 0) *out = cell.at;
     return code;
+}
+
+int64_t hk_fib_open(hk_fib **out, uint32_t bits, uint32_t groups, const hk_port *ports, size_t port_count,
+                    const hk_next_hop *hops, size_t hop_count) {
+    return open_fib(out, false, bits, groups, ports, port_count, hops, hop_count);
+}
+
+int64_t hk_fib_open_whole(hk_fib **out, uint32_t bits, uint32_t groups, const hk_port *ports, size_t port_count,
+                          const hk_next_hop *hops, size_t hop_count) {
+    return open_fib(out, true, bits, groups, ports, port_count, hops, hop_count);
 }
 
 int64_t hk_fib_share(hk_fib *fib, hk_forward **out) {
@@ -426,63 +411,50 @@ int64_t hk_fib_share(hk_fib *fib, hk_forward **out) {
 }
 
 int64_t hk_fib_add(hk_fib *fib, uint32_t address, uint32_t depth, uint32_t hop) {
-    struct hk_cell cell = {fib};
-    return hkx_fib_add(&cell, address, depth, hop);
+    return hkx_fib_add(CELL(fib), address, depth, hop);
 }
 
 int64_t hk_fib_remove(hk_fib *fib, uint32_t address, uint32_t depth) {
-    struct hk_cell cell = {fib};
-    return hkx_fib_remove(&cell, address, depth);
+    return hkx_fib_remove(CELL(fib), address, depth);
 }
 
 int64_t hk_fib_clear(hk_fib *fib) {
-    struct hk_cell cell = {fib};
-    return hkx_fib_clear(&cell);
+    return hkx_fib_clear(CELL(fib));
 }
 
 int64_t hk_fib_set_hop(hk_fib *fib, uint32_t number, const hk_next_hop *hop) {
     if (!hop) return HK_E_NULL;
-    struct hk_cell cell = {fib};
-    return hkx_fib_set_hop(&cell, number, hop);
+    return hkx_fib_set_hop(CELL(fib), number, hop);
 }
 
 int64_t hk_fib_set_port(hk_fib *fib, uint32_t number, const hk_port *port) {
     if (!port) return HK_E_NULL;
-    struct hk_cell cell = {fib};
-    return hkx_fib_set_port(&cell, number, port);
+    return hkx_fib_set_port(CELL(fib), number, port);
 }
 
 int64_t hk_fib_publish(hk_fib *fib) {
-    struct hk_cell cell = {fib};
-    return hkx_fib_publish(&cell);
+    return hkx_fib_publish(CELL(fib));
 }
 
-/* The removal of a route with depth 0 settles first, and is then refused, if it isn't pending. */
 int64_t hk_fib_settle(hk_fib *fib) {
-    struct hk_cell cell = {fib};
-    int64_t code = hkx_fib_remove(&cell, 0, 0);
-    return code == HK_E_DEPTH ? HK_OK : code;
+    return hkx_fib_settle(CELL(fib));
 }
 
 int64_t hk_fib_pending(hk_fib *fib) {
-    struct hk_cell cell = {fib};
-    return hkx_fib_pending(&cell);
+    return hkx_fib_pending(CELL(fib));
 }
 
 int64_t hk_fib_get(hk_fib *fib, uint32_t address, uint32_t depth) {
-    struct hk_cell cell = {fib};
-    return hkx_fib_get(&cell, address, depth);
+    return hkx_fib_get(CELL(fib), address, depth);
 }
 
 int64_t hk_fib_count(hk_fib *fib) {
-    struct hk_cell cell = {fib};
-    return hkx_fib_count(&cell);
+    return hkx_fib_count(CELL(fib));
 }
 
 int64_t hk_fib_walk(hk_fib *fib, uint32_t address, uint32_t depth, hk_fib_route *route) {
     if (!route) return HK_E_NULL;
-    struct hk_cell cell = {fib};
-    return hkx_fib_walk(&cell, address, depth, route);
+    return hkx_fib_walk(CELL(fib), address, depth, route);
 }
 
 void hk_fib_free(hk_fib *fib) {
@@ -490,17 +462,23 @@ void hk_fib_free(hk_fib *fib) {
     (void)hkx_free(&cell);
 }
 
+int64_t hk_forward_hold(hk_forward *forward) {
+    return hkx_forward_hold(CELL(forward));
+}
+
+int64_t hk_forward_release(hk_forward *forward) {
+    return hkx_forward_release(CELL(forward));
+}
+
 int64_t hk_forward_lookup(hk_forward *forward, uint32_t address) {
-    struct hk_cell cell = {forward};
-    return hkx_forward_lookup(&cell, address);
+    return hkx_forward_lookup(CELL(forward), address);
 }
 
 int64_t hk_forward_lookup_bulk(hk_forward *forward, const uint32_t *addresses, uint32_t *hops, size_t n) {
     static uint32_t none[1];
     if (n > SIZE_MAX / 8) return HK_E_COUNT;
     if (n > 0 && (!addresses || !hops)) return HK_E_NULL;
-    struct hk_cell cell = {forward};
-    return hkx_forward_lookup_bulk(&cell, addresses ? addresses : none, n, hops ? hops : none, n);
+    return hkx_forward_lookup_bulk(CELL(forward), addresses ? addresses : none, n, hops ? hops : none, n);
 }
 
 /* ---- Forwarding of frames ---- */
@@ -514,15 +492,13 @@ static inline int64_t refused_frame(const hk_forward *forward, const void *bytes
 int64_t hk_forward_frame(hk_forward *forward, uint8_t *bytes, size_t held, size_t wire) {
     int64_t code = refused_frame(forward, bytes, held, wire);
     if (code < 0) return code;
-    struct hk_cell cell = {forward};
-    return hkx_forward_frame(&cell, bytes, held, wire);
+    return hkx_forward_frame(CELL(forward), bytes, held, wire);
 }
 
 int64_t hk_forward_verdict(hk_forward *forward, const uint8_t *bytes, size_t held, size_t wire) {
     int64_t code = refused_frame(forward, bytes, held, wire);
     if (code < 0) return code;
-    struct hk_cell cell = {forward};
-    return hkx_forward_verdict(&cell, bytes, held, wire);
+    return hkx_forward_verdict(CELL(forward), bytes, held, wire);
 }
 
 /* Checks the frames of a burst. */
@@ -541,14 +517,12 @@ int64_t hk_forward_burst(hk_forward *forward, const hk_frame *frames, uint32_t *
     if (!forward || (n > 0 && (!frames || !verdicts))) return HK_E_NULL;
     int64_t code = refused_frames(frames, n);
     if (code < 0) return code;
-    struct hk_cell cell = {forward};
-    return hkx_forward_burst(&cell, (hk_frame *)frames, n, verdicts, n);
+    return hkx_forward_burst(CELL(forward), (hk_frame *)frames, n, verdicts, n);
 }
 
 int64_t hk_forward_class(hk_forward *forward, size_t port, const uint8_t *bytes, size_t held) {
     if (!forward || !bytes) return HK_E_NULL;
-    struct hk_cell cell = {forward};
-    return hkx_forward_class(&cell, port, bytes, held);
+    return hkx_forward_class(CELL(forward), port, bytes, held);
 }
 
 void hk_forward_free(hk_forward *forward) {
@@ -567,15 +541,13 @@ int64_t hk_reorder_open(hk_reorder **out, uint32_t size) {
 }
 
 int64_t hk_reorder_insert(hk_reorder *window, uint64_t number, uint64_t word) {
-    struct hk_cell cell = {window};
-    return hkx_reorder_insert(&cell, number, word);
+    return hkx_reorder_insert(CELL(window), number, word);
 }
 
 int64_t hk_reorder_drain(hk_reorder *window, uint64_t *words, size_t n) {
     int64_t code = refused(words, n);
     if (code < 0) return code;
-    struct hk_cell cell = {window};
-    return hkx_reorder_drain(&cell, words ? words : no_words, n);
+    return hkx_reorder_drain(CELL(window), words ? words : no_words, n);
 }
 
 int64_t hk_reorder_pop(hk_reorder *window, uint64_t *word) {
@@ -586,16 +558,13 @@ int64_t hk_reorder_pop(hk_reorder *window, uint64_t *word) {
 
 int64_t hk_reorder_next(hk_reorder *window, uint64_t *number) {
     if (!number) return HK_E_NULL;
-    struct hk_cell cell = {window};
-    return hkx_reorder_next(&cell, number);
+    return hkx_reorder_next(CELL(window), number);
 }
 
 int64_t hk_reorder_skip(hk_reorder *window, uint64_t number) {
-    struct hk_cell cell = {window};
-    return hkx_reorder_skip(&cell, number);
+    return hkx_reorder_skip(CELL(window), number);
 }
 
 void hk_reorder_free(hk_reorder *window) {
-    struct hk_cell cell = {window};
-    (void)hkx_free(&cell);
+    (void)hkx_free(CELL(window));
 }

@@ -254,7 +254,8 @@ HK_API void hk_routes_free(hk_routes *routes);
 typedef struct hk_fib hk_fib;
 
 /* A reader's handle, for one thread at a time. It looks addresses up and forwards frames. Each call is answered by one
- * publish, which is no older than any that this handle saw. A reader neither waits nor takes memory. */
+ * publish, which is no older than any that this handle saw: by the last one, or by the one that the handle holds. A
+ * reader neither waits nor takes memory. */
 typedef struct hk_forward hk_forward;
 
 /* The largest number of ports, of next hops, and of frames in one burst. */
@@ -292,6 +293,11 @@ typedef struct hk_fib_route {
  * depth above 32; HK_E_MEMORY. */
 HK_API HK_CHECKED int64_t hk_fib_open(hk_fib **out, uint32_t bits, uint32_t groups, const hk_port *ports,
                                       size_t port_count, const hk_next_hop *hops, size_t hop_count);
+/* [memory] The same, with the first level of both copies written when the table is made, 4 bytes for each entry in each
+ * copy. hk_fib_open's table takes memory only for the parts of it that a route covers; this one answers lookups of
+ * routed addresses a little faster. */
+HK_API HK_CHECKED int64_t hk_fib_open_whole(hk_fib **out, uint32_t bits, uint32_t groups, const hk_port *ports,
+                                            size_t port_count, const hk_next_hop *hops, size_t hop_count);
 /* [memory] Makes a reader, which may go to another thread. HK_E_NULL, HK_E_KIND, HK_E_MEMORY. */
 HK_API HK_CHECKED int64_t hk_fib_share(hk_fib *fib, hk_forward **out);
 /* [memory] Draws up a route for the first `depth` bits of an address, 1 to 32, or another next hop of it, whose number
@@ -308,13 +314,13 @@ HK_API HK_CHECKED int64_t hk_fib_set_hop(hk_fib *fib, uint32_t number, const hk_
 /* [memory] Draws up another port for a number below the count that the table was opened with. HK_E_NULL, HK_E_KIND,
  * HK_E_PLAN: a depth above 32; HK_E_PENDING, HK_E_COUNT: there is no such number; HK_E_MEMORY. */
 HK_API HK_CHECKED int64_t hk_fib_set_port(hk_fib *fib, uint32_t number, const hk_port *port);
-/* [memory] Publishes all that is drawn up at once. A reader that is in no call sees it from its next call on. One that
- * is in a call goes on with what was published before, also in later calls, until the writer's next call shows it: call
- * hk_fib_settle until it returns HK_OK. HK_E_NULL, HK_E_KIND, HK_E_PENDING, HK_E_MEMORY. */
+/* [memory] Publishes all that is drawn up at once. Each reader sees it from its next call on, or, if it holds what was
+ * published before, from the first one after hk_forward_release. HK_E_NULL, HK_E_KIND; HK_E_PENDING: the publish before
+ * isn't settled; HK_E_MEMORY. */
 HK_API HK_CHECKED int64_t hk_fib_publish(hk_fib *fib);
-/* [memory] Shows what was published last to the readers that were in a call then, and repeats its changes in the second
- * copy. Each call that draws up a change does so first. HK_OK: each reader sees it from its next call on, and changes can
- * be made. HK_E_NULL, HK_E_KIND; HK_E_PENDING: a reader is still in such a call, or memory was refused; call again. */
+/* [memory] Settles the last publish: takes back the copy that readers had before, and repeats the changes in it. Each
+ * call that draws up a change does so first. HK_OK: changes can be made. HK_E_NULL, HK_E_KIND; HK_E_PENDING: a reader
+ * is still in a call that began before the publish, or holds what was published before; HK_E_MEMORY. Then call again. */
 HK_API HK_CHECKED int64_t hk_fib_settle(hk_fib *fib);
 /* How many changes readers don't see yet. HK_E_NULL, HK_E_KIND. */
 HK_API HK_CHECKED int64_t hk_fib_pending(hk_fib *fib);
@@ -330,6 +336,15 @@ HK_API HK_CHECKED int64_t hk_fib_walk(hk_fib *fib, uint32_t address, uint32_t de
 /* Frees the writer's handle; null is allowed. Readers keep what was published last. */
 HK_API void hk_fib_free(hk_fib *fib);
 
+/* Holds what was published last: the calls of this handle are answered by it until hk_forward_release, and cost less,
+ * since none of them has to take the table and give it back. What is held already stays. While a reader holds what was
+ * published before the last publish, that isn't settled: hk_fib_settle returns HK_E_PENDING. So release every few
+ * bursts and before the thread waits or sleeps, where DPDK's programs report a quiescent state to rte_rcu_qsbr.
+ * HK_E_NULL, HK_E_KIND. */
+HK_API HK_CHECKED int64_t hk_forward_hold(hk_forward *forward);
+/* Lets go what is held, if anything is: the next call is answered by what is published last then. HK_E_NULL,
+ * HK_E_KIND. */
+HK_API HK_CHECKED int64_t hk_forward_release(hk_forward *forward);
 /* The next hop's number of the longest published route that covers an address. HK_E_NULL, HK_E_KIND, HK_E_NOROUTE. */
 HK_API HK_CHECKED int64_t hk_forward_lookup(hk_forward *forward, uint32_t address);
 /* The same for n addresses, all by one publish: hops[i] is the next hop for addresses[i], or HK_NO_HOP. HK_E_COUNT: n

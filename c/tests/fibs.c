@@ -1,6 +1,7 @@
-/* A forwarding table beside a list of routes, on pseudo-random calls with publishes at random; and three readers that
- * look up in bursts while the table is published 20,000 times: no burst is of two publishes, and none is older than the
- * one before. An argument is another number of publishes. */
+/* Forwarding tables, whole and sparse, compared with a list of routes on pseudo-random calls, with publishes and holds
+ * at random; and three readers that look up in bursts while the table is published 20,000 times, one of which holds a
+ * publish for eight bursts: no burst is of two publishes, and none is older than the one before. An argument is another
+ * number of publishes. */
 #include "tests.h"
 
 #include <pthread.h>
@@ -105,12 +106,33 @@ static void compare(hk_fib *fib, hk_forward *reader) {
     }
 }
 
-static void beside_a_list(void) {
-    hk_fib *fib = NULL;
+/* A reader that holds a publish is answered by it after the next one, and the writer can't go on before it lets go. */
+static void hold(hk_fib *fib, hk_forward *reader) {
+    if (below(10) != 0) return;
+    IS(hk_forward_hold(reader), HK_OK), IS(hk_forward_hold(reader), HK_OK);
+    IS(hk_fib_add(fib, 0x0a010200, 32, 1), HK_OK), IS(hk_fib_publish(fib), HK_OK);
+    IS(hk_fib_settle(fib), HK_E_PENDING), IS(hk_fib_add(fib, 0x0a010200, 32, 2), HK_E_PENDING);
+    for (int i = 0; i < 4; i++) {
+        uint32_t address = some_address(), hop;
+        IS(hk_forward_lookup(reader, address), longest(&published, address));
+        IS(hk_forward_lookup_bulk(reader, &address, &hop, 1), HK_OK);
+        IS(hop, (uint32_t)(longest(&published, address) < 0 ? HK_NO_HOP : longest(&published, address)));
+    }
+    IS(hk_forward_release(reader), HK_OK), IS(hk_forward_release(reader), HK_OK);
+    IS(hk_fib_settle(fib), HK_OK), IS(hk_forward_lookup(reader, 0x0a010200), 1);
+    IS(hk_fib_remove(fib, 0x0a010200, 32), HK_OK);
+    size_t at = place(&drawn, 0x0a010200, 32);
+    if (has(&drawn, at, 0x0a010200, 32)) IS(hk_fib_add(fib, 0x0a010200, 32, drawn.routes[at].hop), HK_OK);
+    IS(hk_fib_publish(fib), HK_OK);
+    published = drawn;
+}
+
+static void beside_a_list(hk_fib *fib, int calls) {
     hk_forward *reader = NULL;
     int64_t pending = 0;
-    IS(hk_fib_open(&fib, 24, 200, NULL, 0, NULL, 0), HK_OK), IS(hk_fib_share(fib, &reader), HK_OK);
-    for (int i = 0; i < CALLS; i++) {
+    drawn.n = published.n = 0;
+    IS(hk_fib_share(fib, &reader), HK_OK);
+    for (int i = 0; i < calls; i++) {
         size_t before = (size_t)hk_fib_pending(fib);
         change(fib);
         pending = hk_fib_pending(fib);
@@ -120,6 +142,7 @@ static void beside_a_list(void) {
             published = drawn;
         }
         if (below(10) == 0) compare(fib, reader);
+        hold(fib, reader);
         if (hk_failed) return;
     }
     hk_fib_free(fib);
@@ -132,14 +155,22 @@ static void beside_a_list(void) {
 static uint32_t publishes = 20000;
 static _Atomic int is_done;
 
-/* Each route leads to the number of the publish. */
+/* Each route leads to the number of the publish. A reader of an odd number holds a publish for eight bursts. */
+struct reader {
+    hk_forward *reader;
+    int number;
+};
+
 static void *look_up(void *at) {
-    hk_forward *reader = at;
+    hk_forward *reader = ((struct reader *)at)->reader;
+    int holds = ((struct reader *)at)->number % 2;
     uint32_t addresses[BURST], hops[BURST], last = 0;
     intptr_t wrong = 0;
     for (uint32_t i = 0; i < BURST; i++) addresses[i] = (i << 24) + 0x00000203;
-    while (!is_done || last < publishes) {
+    for (uint32_t burst = 0; !is_done || last < publishes; burst++) {
+        if (holds && burst % 8 == 0) wrong += hk_forward_release(reader) != HK_OK || hk_forward_hold(reader) != HK_OK;
         wrong += hk_forward_lookup_bulk(reader, addresses, hops, BURST) != HK_OK;
+        if (holds && burst % 8 != 0) wrong += hops[0] != last;
         for (size_t i = 1; i < BURST; i++) wrong += hops[i] != hops[0];
         wrong += hops[0] < last;
         if (wrong) break;
@@ -167,33 +198,33 @@ static void publish_all(hk_fib *fib, uint32_t publish) {
 }
 
 static void beside_readers(void) {
-    pthread_t readers[READERS];
+    pthread_t threads[READERS];
+    struct reader readers[READERS];
     hk_fib *fib = NULL;
     IS(hk_fib_open(&fib, 16, 32, NULL, 0, NULL, 0), HK_OK);
     /* From here on each lookup finds a route. */
     for (uint32_t i = 0; i < BURST; i++) IS(hk_fib_add(fib, i << 24, 8, 0), HK_OK);
     publish_all(fib, 1);
     for (int i = 0; i < READERS; i++) {
-        hk_forward *reader = NULL;
-        IS(hk_fib_share(fib, &reader), HK_OK);
-        IS(pthread_create(&readers[i], NULL, look_up, reader), 0);
+        readers[i] = (struct reader){NULL, i};
+        IS(hk_fib_share(fib, &readers[i].reader), HK_OK);
+        IS(pthread_create(&threads[i], NULL, look_up, &readers[i]), 0);
     }
     for (uint32_t i = 2; i <= publishes && !hk_failed; i++) publish_all(fib, i);
-    /* Readers that were in a call see the last one once it is settled. */
-    int64_t code;
-    do again(code = hk_fib_settle(fib));
-    while (code == HK_E_PENDING);
+    /* Each reader sees the last one without a further call of the writer. */
     is_done = 1;
     for (int i = 0; i < READERS; i++) {
         void *wrong;
-        IS(pthread_join(readers[i], &wrong), 0), IS((intptr_t)wrong, 0);
+        IS(pthread_join(threads[i], &wrong), 0), IS((intptr_t)wrong, 0);
     }
     hk_fib_free(fib);
 }
 
 int main(int argc, char **argv) {
     if (argc > 1) publishes = (uint32_t)strtoul(argv[1], NULL, 10);
-    beside_a_list();
+    hk_fib *sparse = NULL, *whole = NULL;
+    IS(hk_fib_open(&sparse, 24, 200, NULL, 0, NULL, 0), HK_OK), beside_a_list(sparse, CALLS);
+    IS(hk_fib_open_whole(&whole, 16, 200, NULL, 0, NULL, 0), HK_OK), beside_a_list(whole, CALLS / 10);
     beside_readers();
     return hk_count_up("fibs");
 }

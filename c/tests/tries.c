@@ -114,10 +114,13 @@ ONCE(hkx_fib_clear)
 ONCE(hkx_fib_set_hop)
 ONCE(hkx_fib_set_port)
 ONCE(hkx_fib_publish)
+ONCE(hkx_fib_settle)
 ONCE(hkx_fib_pending)
 ONCE(hkx_fib_get)
 ONCE(hkx_fib_count)
 ONCE(hkx_fib_walk)
+ONCE(hkx_forward_hold)
+ONCE(hkx_forward_release)
 ONCE(hkx_forward_lookup)
 ONCE(hkx_forward_lookup_bulk)
 ONCE(hkx_forward_frame)
@@ -283,6 +286,7 @@ static void tables_that_change(void) {
     hk_next_hop hop = {0, {0}};
     hk_fib_route route;
     BOTH(hk_fib_open(&another, 16, 1, &port, 1, &hop, 1));
+    BOTH(hk_fib_open_whole(&another, 16, 1, &port, 1, &hop, 1));
     BOTH(hk_fib_share(fib, &second));
     BOTH(hk_fib_add(fib, 0, 8, 1));
     BOTH(hk_fib_remove(fib, 0, 8));
@@ -295,6 +299,8 @@ static void tables_that_change(void) {
     BOTH(hk_fib_get(fib, 0, 8));
     BOTH(hk_fib_count(fib));
     BOTH(hk_fib_walk(fib, 0, 0, &route));
+    BOTH(hk_forward_hold(forward));
+    BOTH(hk_forward_release(forward));
     BOTH(hk_forward_lookup(forward, 0));
     BOTH(hk_forward_lookup_bulk(forward, numbers, numbers, 0));
     IS(second == NULL && another == NULL, 1);

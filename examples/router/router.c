@@ -365,10 +365,7 @@ int main(int argc, char **argv) {
     for (uint32_t p = 0; p < now.ports; p++) start(&rxs[p], rx, pool, p);
     fprintf(stderr, "router: %u routes\n", now.routes);
     for (int signal = 0; signal != SIGINT && signal != SIGTERM;) {
-        signal = sigtimedwait(&set, NULL, &(struct timespec){0, 100000000});
-        /* shows the last publish to workers that were in a burst then */
-        int64_t code = hk_fib_settle(fib);
-        if (code != HK_E_PENDING) need(code, "settle");
+        signal = sigwaitinfo(&set, NULL);
         if (signal == SIGHUP) reload(argv[1]);
         if (signal == SIGUSR1) report();
         if (signal == SIGUSR2) atomic_fetch_xor(&held_up, 1);

@@ -107,6 +107,15 @@ extern "C" {
         hops: *const Hop,
         hop_count: usize,
     ) -> i64;
+    pub fn hk_fib_open_whole(
+        out: *mut *mut Fib,
+        bits: u32,
+        groups: u32,
+        ports: *const Port,
+        port_count: usize,
+        hops: *const Hop,
+        hop_count: usize,
+    ) -> i64;
     pub fn hk_fib_share(fib: *mut Fib, out: *mut *mut Forward) -> i64;
     pub fn hk_fib_add(fib: *mut Fib, address: u32, depth: u32, hop: u32) -> i64;
     pub fn hk_fib_remove(fib: *mut Fib, address: u32, depth: u32) -> i64;
@@ -120,6 +129,8 @@ extern "C" {
     pub fn hk_fib_count(fib: *mut Fib) -> i64;
     pub fn hk_fib_walk(fib: *mut Fib, address: u32, depth: u32, route: *mut FibRoute) -> i64;
     pub fn hk_fib_free(fib: *mut Fib);
+    pub fn hk_forward_hold(forward: *mut Forward) -> i64;
+    pub fn hk_forward_release(forward: *mut Forward) -> i64;
     pub fn hk_forward_lookup(forward: *mut Forward, address: u32) -> i64;
     pub fn hk_forward_lookup_bulk(forward: *mut Forward, addresses: *const u32, hops: *mut u32, n: usize) -> i64;
     pub fn hk_forward_frame(forward: *mut Forward, bytes: *mut u8, held: usize, wire: usize) -> i64;
@@ -135,6 +146,10 @@ extern "C" {
     pub fn hk_reorder_skip(window: *mut Window, number: u64) -> i64;
     pub fn hk_reorder_free(window: *mut Window);
 }
+
+/// `hk_fib_open` or `hk_fib_open_whole`.
+pub type OpenFib =
+    unsafe extern "C" fn(*mut *mut Fib, u32, u32, *const Port, usize, *const Hop, usize) -> i64;
 
 /// What `hk_reorder_pop` returns if the word hasn't arrived.
 pub const NOTHING: i64 = -27;

@@ -29,7 +29,7 @@ unsafe impl Send for Fib {}
 
 impl Fib {
     /// A table without routes, with up to 256 ports and 2^24 next hops, and at most `groups` groups of entries below
-    /// the first level. There are two copies of it.
+    /// the first level. There are two copies of it, which take memory only for the parts that a route covers.
     ///
     /// # Errors
     ///
@@ -53,11 +53,31 @@ impl Fib {
     /// # }
     /// ```
     pub fn new(first: FirstLevel, groups: u32, ports: &[Port], hops: &[NextHop]) -> Result<Self, Error> {
+        Fib::open(ffi::hk_fib_open, first, groups, ports, hops)
+    }
+
+    /// The same, with the first level of both copies written when the table is made, 4 bytes for each entry in each
+    /// copy. Lookups of routed addresses are a little faster.
+    ///
+    /// # Errors
+    ///
+    /// As [`new`](Fib::new).
+    pub fn whole(first: FirstLevel, groups: u32, ports: &[Port], hops: &[NextHop]) -> Result<Self, Error> {
+        Fib::open(ffi::hk_fib_open_whole, first, groups, ports, hops)
+    }
+
+    fn open(
+        call: ffi::OpenFib,
+        first: FirstLevel,
+        groups: u32,
+        ports: &[Port],
+        hops: &[NextHop],
+    ) -> Result<Self, Error> {
         let ports: Vec<_> = ports.iter().map(Port::plan).collect();
         let hops: Vec<_> = hops.iter().map(NextHop::plan).collect();
         let (bits, mut at) = (first.bits(), null_mut());
         let (first, second) = (ports.as_ptr(), hops.as_ptr());
-        answer(unsafe { ffi::hk_fib_open(&mut at, bits, groups, first, ports.len(), second, hops.len()) })?;
+        answer(unsafe { call(&mut at, bits, groups, first, ports.len(), second, hops.len()) })?;
         Ok(Fib(NonNull::new(at).ok_or(Error::Null)?, PhantomData))
     }
 
@@ -117,22 +137,23 @@ impl Fib {
         answer(unsafe { ffi::hk_fib_set_port(self.0.as_ptr(), number, &port.plan()) }).map(drop)
     }
 
-    /// Publishes all that is drawn up at once. A reader that is in no call sees it from its next call on; one that is in
-    /// a call, once [`settle`](Fib::settle) or a change has returned `Ok`.
+    /// Publishes all that is drawn up at once. Each reader sees it from its next call on, or, if it holds what was
+    /// published before, once it lets that go.
     ///
     /// # Errors
     ///
-    /// `Pending`, `Memory`.
+    /// `Pending`: the publish before isn't settled; `Memory`.
     pub fn publish(&mut self) -> Result<(), Error> {
         answer(unsafe { ffi::hk_fib_publish(self.0.as_ptr()) }).map(drop)
     }
 
-    /// Shows what was published last to the readers that were in a call then. Once it returns `Ok`, each reader sees it
-    /// from its next call on.
+    /// Settles the last publish: takes back the copy that readers had before, and repeats the changes in it. Each call
+    /// that draws up a change does so first. Once it returns `Ok`, changes can be made.
     ///
     /// # Errors
     ///
-    /// `Pending`: a reader is still in such a call, or memory was refused. Call again.
+    /// `Pending`: a reader is still in a call that began before the publish, or holds what was published before;
+    /// `Memory`. Call again.
     pub fn settle(&mut self) -> Result<(), Error> {
         answer(unsafe { ffi::hk_fib_settle(self.0.as_ptr()) }).map(drop)
     }

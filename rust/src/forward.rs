@@ -120,7 +120,8 @@ impl fmt::Debug for Frame<'_> {
 }
 
 /// A reader of a [`Fib`](crate::Fib): it looks addresses up, and forwards Ethernet frames with IPv4 packets where they
-/// lie. Each call is answered by one publish, no older than any that this reader saw. It neither waits nor takes memory.
+/// lie. Each call is answered by one publish, no older than any that this reader saw: the last one, or the one that it
+/// holds. It neither waits nor takes memory.
 pub struct Forwarder(NonNull<ffi::Forward>, PhantomData<*mut u8>);
 
 // A handle may go to another thread. It isn't `Sync`: no two calls overlap.
@@ -129,6 +130,32 @@ unsafe impl Send for Forwarder {}
 impl Forwarder {
     pub(crate) fn of(at: *mut ffi::Forward) -> Result<Self, Error> {
         Ok(Forwarder(NonNull::new(at).ok_or(Error::Null)?, PhantomData))
+    }
+
+    /// Holds what was published last: the calls by way of what is returned are answered by it, and cost less. A later
+    /// publish can't be settled meanwhile ([`settle`](crate::Fib::settle) returns `Pending`), so drop it every few bursts
+    /// and before the thread waits.
+    ///
+    /// ```
+    /// use hokhtura::{Fib, FirstLevel};
+    /// use std::net::Ipv4Addr;
+    ///
+    /// # fn main() -> Result<(), hokhtura::Error> {
+    /// let mut fib = Fib::new(FirstLevel::Bits16, 1, &[], &[])?;
+    /// let mut reader = fib.reader()?;
+    /// let held = reader.hold();
+    /// fib.add(Ipv4Addr::new(10, 0, 0, 0), 8, 7)?;
+    /// fib.publish()?;
+    /// assert_eq!(held.lookup(Ipv4Addr::new(10, 1, 2, 3)), None);
+    /// drop(held);
+    /// assert_eq!(reader.lookup(Ipv4Addr::new(10, 1, 2, 3)), Some(7));
+    /// # Ok(())
+    /// # }
+    /// ```
+    pub fn hold(&mut self) -> Held<'_> {
+        // it can't fail: the handle has a reader
+        let _ = unsafe { ffi::hk_forward_hold(self.0.as_ptr()) };
+        Held(self)
     }
 
     /// The number of the next hop of the longest published route that covers an address.
@@ -204,6 +231,24 @@ impl Forwarder {
 
 fn verdict(number: usize) -> Verdict {
     Verdict::of(number as u32)
+}
+
+/// A reader that holds a publish until this is dropped.
+#[derive(Debug)]
+pub struct Held<'a>(&'a Forwarder);
+
+impl std::ops::Deref for Held<'_> {
+    type Target = Forwarder;
+
+    fn deref(&self) -> &Forwarder {
+        self.0
+    }
+}
+
+impl Drop for Held<'_> {
+    fn drop(&mut self) {
+        let _ = unsafe { ffi::hk_forward_release(self.0 .0.as_ptr()) };
+    }
 }
 
 impl Drop for Forwarder {

@@ -32,7 +32,7 @@ mod word;
 
 pub use error::Error;
 pub use fib::{Fib, Route};
-pub use forward::{Addressed, Forwarder, Frame, NextHop, Port, Reason, Verdict, FORWARD_MOST};
+pub use forward::{Addressed, Forwarder, Frame, Held, NextHop, Port, Reason, Verdict, FORWARD_MOST};
 pub use hand::Mode;
 pub use pool::{Pool, POOL_MOST};
 pub use reorder::{InTurn, Reorder};

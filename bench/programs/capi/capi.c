@@ -125,16 +125,21 @@ static __attribute__((noinline)) uint64_t read_bulk(hk_forward *reader, const ui
 	return sum;
 }
 
-static hk_fib *fib_of(const struct route *routes, unsigned n, const hk_port *ports, size_t port_count,
-	const hk_next_hop *hops, size_t hop_count)
+static hk_fib *with_routes(hk_fib *fib, const struct route *routes, unsigned n)
 {
-	hk_fib *fib;
-	if (hk_fib_open(&fib, 24, 8192, ports, port_count, hops, hop_count) < 0) exit(1);
 	for (unsigned i = 0; i < n; i++) {
 		if (hk_fib_add(fib, routes[i].address, routes[i].depth, routes[i].hop) < 0) exit(1);
 		if (i % 1000 == 999 && hk_fib_publish(fib) < 0) exit(1);
 	}
 	return fib;
+}
+
+static hk_fib *fib_of(const struct route *routes, unsigned n, const hk_port *ports, size_t port_count,
+	const hk_next_hop *hops, size_t hop_count)
+{
+	hk_fib *fib;
+	if (hk_fib_open(&fib, 24, 8192, ports, port_count, hops, hop_count) < 0) exit(1);
+	return with_routes(fib, routes, n);
 }
 
 static hk_forward *reader_of(hk_fib *fib)
@@ -144,18 +149,35 @@ static hk_forward *reader_of(hk_fib *fib)
 	return reader;
 }
 
-/* The same addresses by a reader of a forwarding table. */
+/* Lists of addresses by a reader. */
+static void reads_of(hk_forward *reader, const uint32_t *hits, const uint32_t *anywhere, const char *which)
+{
+	char name[64];
+	double ns;
+	uint64_t sum;
+	TIMED(ns, ADDRESSES, sum = read_bulk(reader, hits, ADDRESSES); KEEP(sum););
+	snprintf(name, sizeof name, "%s-hits-bulk-1k", which);
+	report(name, ns, "ns/lookup");
+	TIMED(ns, ADDRESSES, sum = read_bulk(reader, anywhere, ADDRESSES); KEEP(sum););
+	snprintf(name, sizeof name, "%s-anywhere-bulk-1k", which);
+	report(name, ns, "ns/lookup");
+}
+
+/* The same addresses by readers of forwarding tables: by one that takes the last publish at each call, and by one that
+ * holds it. */
 static void reads(void)
 {
 	struct route *routes = make_routes(1000);
 	const uint32_t *hits = make_hits(routes, 1000, ADDRESSES), *anywhere = make_anywhere(ADDRESSES);
-	hk_forward *reader = reader_of(fib_of(routes, 1000, NULL, 0, NULL, 0));
-	double ns;
-	uint64_t sum;
-	TIMED(ns, ADDRESSES, sum = read_bulk(reader, hits, ADDRESSES); KEEP(sum););
-	report("reader-hits-bulk-1k", ns, "ns/lookup");
-	TIMED(ns, ADDRESSES, sum = read_bulk(reader, anywhere, ADDRESSES); KEEP(sum););
-	report("reader-anywhere-bulk-1k", ns, "ns/lookup");
+	hk_fib *whole;
+	if (hk_fib_open_whole(&whole, 24, 8192, NULL, 0, NULL, 0) < 0) exit(1);
+	hk_forward *readers[2] = {reader_of(fib_of(routes, 1000, NULL, 0, NULL, 0)), reader_of(with_routes(whole, routes, 1000))};
+	reads_of(readers[0], hits, anywhere, "reader");
+	reads_of(readers[1], hits, anywhere, "whole");
+	for (int i = 0; i < 2; i++)
+		if (hk_forward_hold(readers[i]) < 0) exit(1);
+	reads_of(readers[0], hits, anywhere, "held");
+	reads_of(readers[1], hits, anywhere, "held-whole");
 }
 
 static void pin(unsigned cpu)

@@ -191,6 +191,15 @@ pub record IsPublished (answer : Result (Unit {0}) LiveFault) (r s : State) : Ty
 abbrev pub Publishes : Outcome → State → State → Type 0
 Publishes outcome r s = (answer : Result (Unit {0}) LiveFault) × (outcome ≡ done_of answer) × IsPublished answer r s
 
+-- for one that goes on with the last publish
+pub record IsSettled (answer : Result (Unit {0}) LiveFault) (r s : State) : Type 0 where
+  pub ok : OnOk answer (s ≡ record r { settled = true })
+  pub err : OnErr answer ((s ≡ r) × (r.settled ≡ false))
+  pub why : IfErr answer (λ why. (why ≡ live.Pending) ⊎ (why ≡ live.Memory))
+
+abbrev pub Settles : Outcome → State → State → Type 0
+Settles outcome r s = (answer : Result (Unit {0}) LiveFault) × (outcome ≡ done_of answer) × IsSettled answer r s
+
 -- the next hop's number of exactly this route among those that are drawn up, or why there is none
 abbrev pub got_of : Result ℕ RouteFault → Outcome
 got_of (Ok hop) = Ok hop

@@ -1,5 +1,5 @@
 -- What calls on a reader of a forwarding table do: lookups and forwarding
-use Rattle.std.specs.Prelude.{◌≡◌, ◌<◌, ◌≤◌, ℕ, All, List, length, map, Option, None, Some, Ok, Err}
+use Rattle.std.specs.Prelude.{◌≡◌, ◌<◌, ◌≤◌, ℕ, true, false, All, List, length, map, Option, None, Some, Ok, Err}
 use Rattle.ipv4.specs.declared.ports.Hop.{Hop}
 use Rattle.live_routes.specs.Forwarding.{Forwarding}
 use Rattle.live_value.specs.Lanes.{Glance}
@@ -26,16 +26,34 @@ HasForward (Some (object.Pool p)) holds = ⊥
 HasForward (Some (object.Routes t)) holds = ⊥
 HasForward (Some (object.Reorder w)) holds = ⊥
 
--- a call of a reader: it is answered by one publish, which is no older than any that this handle saw
+-- a call of a reader: what it does
+abbrev pub AtReader : Option Object → Option Object → Outcome
+    → (Glance (Forwarding Hop Port) → Glance (Forwarding Hop Port) → Type 0) → Type 0
+AtReader None new outcome does = IsEmpty outcome new
+AtReader (Some (object.Forward f)) new outcome does = HasForward new (does f)
+AtReader (Some (object.Fib r)) new outcome does = IsOther outcome (object.Fib r) new
+AtReader (Some (object.Hand m)) new outcome does = IsOther outcome (object.Hand m) new
+AtReader (Some (object.Rest r)) new outcome does = IsOther outcome (object.Rest r) new
+AtReader (Some (object.Pool p)) new outcome does = IsOther outcome (object.Pool p) new
+AtReader (Some (object.Routes t)) new outcome does = IsOther outcome (object.Routes t) new
+AtReader (Some (object.Reorder w)) new outcome does = IsOther outcome (object.Reorder w) new
+
+-- the reader saw nothing older than before, and nothing else than before if it held a publish, which it holds still
+abbrev pub IsRead : Glance (Forwarding Hop Port) → Glance (Forwarding Hop Port) → Type 0
+IsRead f g = IsLater g.seen f.seen × ((f.inside ≡ true) → (g.seen ≡ f.seen)) × (g.inside ≡ f.inside)
+
+-- a call that is answered by one publish: the one that the reader holds, or the last one
 abbrev pub AtForward : Option Object → Option Object → Outcome → (Forwarding Hop Port → Type 0) → Type 0
-AtForward None new outcome does = IsEmpty outcome new
-AtForward (Some (object.Forward f)) new outcome does = HasForward new (λ g. IsLater g.seen f.seen × does g.seen.latest)
-AtForward (Some (object.Fib r)) new outcome does = IsOther outcome (object.Fib r) new
-AtForward (Some (object.Hand m)) new outcome does = IsOther outcome (object.Hand m) new
-AtForward (Some (object.Rest r)) new outcome does = IsOther outcome (object.Rest r) new
-AtForward (Some (object.Pool p)) new outcome does = IsOther outcome (object.Pool p) new
-AtForward (Some (object.Routes t)) new outcome does = IsOther outcome (object.Routes t) new
-AtForward (Some (object.Reorder w)) new outcome does = IsOther outcome (object.Reorder w) new
+AtForward old new outcome does = AtReader old new outcome (λ f g. IsRead f g × does g.seen.latest)
+
+-- a publish is held, which is no older than any that this handle saw; one that was held is held still
+abbrev pub Holds : Outcome → Glance (Forwarding Hop Port) → Glance (Forwarding Hop Port) → Type 0
+Holds outcome f g =
+    (outcome ≡ Ok 0) × IsLater g.seen f.seen × ((f.inside ≡ true) → (g.seen ≡ f.seen)) × (g.inside ≡ true)
+
+-- none is held
+abbrev pub LetsGo : Outcome → Glance (Forwarding Hop Port) → Glance (Forwarding Hop Port) → Type 0
+LetsGo outcome f g = (outcome ≡ Ok 0) × (g.seen ≡ f.seen) × (g.inside ≡ false)
 
 -- a frame was forwarded: its bytes before and after; or it had more bytes than on the wire, and is as it was
 abbrev pub Forwards : Outcome → ℕ → List ℕ → List ℕ → Forwarding Hop Port → Type 0

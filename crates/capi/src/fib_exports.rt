@@ -4,11 +4,11 @@ ghost use Rattle.std.specs.Prelude.{◌≡◌, ◌⊎◌, IfErr, Ok};
 ghost use Rattle.std.specs.FinMap as map_of;
 ghost use Rattle.capi.specs.Codes.{Answers};
 ghost use Rattle.capi.specs.Fibs.{Adds, AtFib, Clears, Gets, OpensFib, Publishes, Removes, SetsHop, SetsPort};
-ghost use Rattle.capi.specs.Fibs.{SharesAt, Walks, count_of};
+ghost use Rattle.capi.specs.Fibs.{Settles, SharesAt, Walks, count_of};
 
 use crate::fibs::{
-    FibRoute, add, clear, count, get, made, pending, publish, remove, set_hop, set_port, share,
-    walk,
+    FibRoute, add, clear, count, get, made, pending, publish, remove, set_hop, set_port, settle,
+    share, walk,
 };
 use crate::handle::Handle;
 use crate::keeping::{borrow, give, is_used};
@@ -16,11 +16,13 @@ use crate::object::Object;
 use crate::rings::{Fault, answer};
 use forwarder::Port;
 use ipv4::Hop;
+use live_routes::Form;
 use std::alloc::Global;
 
 fn open_at(
     alloc: Global,
     h: &mut Handle,
+    form: Form,
     bits: u32,
     groups: u32,
     ports: &[Port],
@@ -31,7 +33,7 @@ fn open_at(
     if is_used(alloc, h) {
         return Err(Fault::Used);
     }
-    match made(alloc, bits, groups, ports, hops) {
+    match made(alloc, form, bits, groups, ports, hops) {
         Ok(writer) => give(alloc, Object::Fib(writer), h),
         Err(why) => Err(why),
     }
@@ -121,6 +123,17 @@ fn publish_at(alloc: Global, h: &mut Handle) -> Result<u32, Fault>
     outcome
 }
 
+fn settle_at(alloc: Global, h: &mut Handle) -> Result<u32, Fault>
+    ensures { AtFib h.old.value h.new.value result (Settles result) }
+{
+    let Some(mut slot) = borrow(alloc, h) else {
+        return Err(Fault::Empty);
+    };
+    let outcome = settle(&mut slot);
+    *h = Handle::of(slot);
+    outcome
+}
+
 fn pending_at(alloc: Global, h: &mut Handle) -> Result<u32, Fault>
     ensures { AtFib h.old.value h.new.value result (λ r s. (s ≡ r) × (result ≡ Ok (count_of r.pending))) }
 {
@@ -174,11 +187,13 @@ fn walk_at(
 }
 
 /// Opens a forwarding table without routes, with these ports and next hops: the first level of the routes has 2^`bits`
-/// entries, 16 or 24, and they may have `groups` groups. Nothing is drawn up.
+/// entries, 16 or 24, and they may have `groups` groups. Both copies are whole, or both are sparse. Nothing is drawn
+/// up.
 #[unsafe(no_mangle)]
 pub extern "C" fn hkx_fib_open(
     alloc: Global,
     h: &mut Handle,
+    whole: bool,
     bits: u32,
     groups: u32,
     ports: &[Port],
@@ -187,7 +202,8 @@ pub extern "C" fn hkx_fib_open(
     ensures { Answers result
         (λ outcome. OpensFib outcome bits groups ports.now hops.now h.old.value h.new.value) }
 {
-    answer(open_at(alloc, h, bits, groups, ports, hops))
+    let form = if whole { Form::Whole } else { Form::Sparse };
+    answer(open_at(alloc, h, form, bits, groups, ports, hops))
 }
 
 /// Gives a second handle a reader, which may go to another thread.
@@ -252,6 +268,15 @@ pub extern "C" fn hkx_fib_publish(alloc: Global, h: &mut Handle) -> i64
     ensures { Answers result (λ outcome. AtFib h.old.value h.new.value outcome (Publishes outcome)) }
 {
     answer(publish_at(alloc, h))
+}
+
+/// Shows what was published last to the readers that were in a call then, and repeats its changes in the second copy.
+/// Where it isn't done, it is called again.
+#[unsafe(no_mangle)]
+pub extern "C" fn hkx_fib_settle(alloc: Global, h: &mut Handle) -> i64
+    ensures { Answers result (λ outcome. AtFib h.old.value h.new.value outcome (Settles outcome)) }
+{
+    answer(settle_at(alloc, h))
 }
 
 /// How many changes readers don't see yet.

@@ -3,7 +3,7 @@
 ghost use Rattle.std.specs.Prelude.{◌≡◌, ◌⊎◌, IfErr, IfOk, Ok};
 ghost use Rattle.std.specs.FinMap as map_of;
 ghost use Rattle.capi.specs.Fibs.{Adds, AtFib, Clears, FindsReader, Gets, IsImpossible, IsOpened, Publishes, Removes, SetsHop};
-ghost use Rattle.capi.specs.Fibs.{SetsPort, Walks, count_of, depth_of, done_of, got_of, live_fault_of};
+ghost use Rattle.capi.specs.Fibs.{SetsPort, Settles, Walks, count_of, depth_of, done_of, got_of, live_fault_of};
 ghost use Rattle.forwarder.specs.Ports.{IsPossible};
 
 use crate::object::Object;
@@ -11,7 +11,7 @@ use crate::rings::Fault;
 use crate::route_tables::fault;
 use forwarder::{Port, is_port, is_possible};
 use ipv4::Hop;
-use live_routes::{LiveFault, RouteReader, RouteWriter};
+use live_routes::{Form, LiveFault, RouteReader, RouteWriter};
 use lpm::RouteFault;
 use std::alloc::Global;
 
@@ -70,10 +70,11 @@ fn count_of(count: usize) -> u32
     count.min(0xffff_ffff) as u32
 }
 
-/// A table without routes, with these ports and next hops. Errors: `Plan` unless `bits` is 16 or 24 and there can be
-/// such ports and next hops; `Memory`.
+/// A table of this form without routes, with these ports and next hops. Errors: `Plan` unless `bits` is 16 or 24 and
+/// there can be such ports and next hops; `Memory`.
 pub(crate) fn made(
     alloc: Global,
+    form: Form,
     bits: u32,
     groups: u32,
     ports: &[Port],
@@ -93,7 +94,7 @@ pub(crate) fn made(
     if !is_possible(ports, hops) {
         return Err(Fault::Plan);
     }
-    match RouteWriter::open(alloc, first, groups, hops, ports) {
+    match RouteWriter::open(alloc, form, first, groups, hops, ports) {
         Ok(writer) => Ok(writer),
         Err(_) => Err(Fault::Memory),
     }
@@ -188,6 +189,17 @@ pub(crate) fn publish(slot: &mut Option<Object>) -> Result<u32, Fault>
 {
     match slot {
         Some(Object::Fib(writer)) => done(writer.publish()),
+        Some(_) => Err(Fault::Kind),
+        None => Err(Fault::Empty),
+    }
+}
+
+/// Goes on with the last publish.
+pub(crate) fn settle(slot: &mut Option<Object>) -> Result<u32, Fault>
+    ensures { AtFib slot.old slot.new result (Settles result) }
+{
+    match slot {
+        Some(Object::Fib(writer)) => done(writer.settle()),
         Some(_) => Err(Fault::Kind),
         None => Err(Fault::Empty),
     }

@@ -3,15 +3,39 @@
 ghost use Rattle.std.specs.Prelude.{◌≡◌, IfErr};
 ghost use Rattle.lpm.specs.Match.{lookup_in};
 ghost use Rattle.capi.specs.Codes.{Answers};
-ghost use Rattle.capi.specs.Forwards.{AtForward, Forwards, ForwardsAll, Judges, TellsAddressed};
+ghost use Rattle.capi.specs.Forwards.{AtForward, AtReader, Forwards, ForwardsAll, Holds, Judges, LetsGo, TellsAddressed};
 ghost use Rattle.capi.specs.Tables.{LooksUpAll, hop_found};
 
-use crate::forwarders::{addressed, forward, forward_burst, look_up, look_up_all, verdict};
+use crate::forwarders::{
+    addressed, forward, forward_burst, hold, look_up, look_up_all, release, verdict,
+};
 use crate::handle::Handle;
 use crate::keeping::borrow;
 use crate::rings::{Fault, answer};
 use forwarder::Frame;
 use std::alloc::Global;
+
+fn hold_at(alloc: Global, h: &mut Handle) -> Result<u32, Fault>
+    ensures { AtReader h.old.value h.new.value result (Holds result) }
+{
+    let Some(mut slot) = borrow(alloc, h) else {
+        return Err(Fault::Empty);
+    };
+    let outcome = hold(&mut slot);
+    *h = Handle::of(slot);
+    outcome
+}
+
+fn release_at(alloc: Global, h: &mut Handle) -> Result<u32, Fault>
+    ensures { AtReader h.old.value h.new.value result (LetsGo result) }
+{
+    let Some(mut slot) = borrow(alloc, h) else {
+        return Err(Fault::Empty);
+    };
+    let outcome = release(&mut slot);
+    *h = Handle::of(slot);
+    outcome
+}
 
 fn look_up_at(alloc: Global, h: &mut Handle, address: u32) -> Result<u32, Fault>
     ensures { AtForward h.old.value h.new.value result
@@ -93,6 +117,22 @@ fn addressed_at(alloc: Global, h: &mut Handle, port: usize, frame: &[u8]) -> Res
     let outcome = addressed(&mut slot, port, frame);
     *h = Handle::of(slot);
     outcome
+}
+
+/// Holds what was published last for the calls that follow. What is held already stays.
+#[unsafe(no_mangle)]
+pub extern "C" fn hkx_forward_hold(alloc: Global, h: &mut Handle) -> i64
+    ensures { Answers result (λ outcome. AtReader h.old.value h.new.value outcome (Holds outcome)) }
+{
+    answer(hold_at(alloc, h))
+}
+
+/// Lets go what is held, if anything is.
+#[unsafe(no_mangle)]
+pub extern "C" fn hkx_forward_release(alloc: Global, h: &mut Handle) -> i64
+    ensures { Answers result (λ outcome. AtReader h.old.value h.new.value outcome (LetsGo outcome)) }
+{
+    answer(release_at(alloc, h))
 }
 
 /// The next hop of the longest published route that covers an address.

@@ -1,8 +1,9 @@
 //! Calls on a reader of a forwarding table. Each is answered by what was published last, and neither waits nor takes
 //! memory.
-ghost use Rattle.std.specs.Prelude.{◌≡◌, ◌↔◌, IfErr, IsTrue};
+ghost use Rattle.std.specs.Prelude.{◌≡◌, ◌↔◌, true, IfErr, IsTrue};
 ghost use Rattle.lpm.specs.Match.{lookup_in};
-ghost use Rattle.capi.specs.Forwards.{AtForward, Forwards, ForwardsAll, IsBurst, Judges, TellsAddressed};
+ghost use Rattle.live_value.specs.Pasts.{IsLater};
+ghost use Rattle.capi.specs.Forwards.{AtForward, AtReader, Forwards, ForwardsAll, Holds, IsBurst, Judges, LetsGo, TellsAddressed};
 ghost use Rattle.capi.specs.Tables.{LooksUpAll, hop_found};
 
 use crate::object::Object;
@@ -10,7 +11,62 @@ use crate::rings::Fault;
 use crate::route_tables::look_up_in;
 use forwarder::{Frame, MOST, Port, addressed_at, fits};
 use ipv4::Hop;
-use live_routes::Fib;
+use live_routes::{Fib, RouteReader};
+
+type Reader = RouteReader<Hop, Port>;
+
+/// Takes what was published last in hand for one call, unless the program holds something. Whether it does.
+#[inline]
+fn begin(reader: &mut Reader) -> bool
+    ensures held { result ≡ reader.old.inside }
+    ensures inside { reader.new.inside ≡ true }
+    ensures later { IsLater reader.new.seen reader.old.seen }
+    ensures kept { reader.old.inside ≡ true → reader.new.seen ≡ reader.old.seen }
+{
+    let held = reader.is_inside();
+    reader.enter();
+    held
+}
+
+/// Lets it go, unless the program holds it.
+#[inline]
+fn end(reader: &mut Reader, held: bool)
+    requires { reader.old.inside ≡ true }
+    ensures inside { reader.new.inside ≡ held }
+    ensures seen { reader.new.seen ≡ reader.old.seen }
+{
+    if !held {
+        reader.leave();
+    }
+}
+
+/// Holds what was published last for the calls that follow.
+pub(crate) fn hold(slot: &mut Option<Object>) -> Result<u32, Fault>
+    ensures { AtReader slot.old slot.new result (Holds result) }
+{
+    match slot {
+        Some(Object::Forward(reader)) => {
+            reader.enter();
+            Ok(0)
+        }
+        Some(_) => Err(Fault::Kind),
+        None => Err(Fault::Empty),
+    }
+}
+
+/// Lets it go.
+pub(crate) fn release(slot: &mut Option<Object>) -> Result<u32, Fault>
+    ensures { AtReader slot.old slot.new result (LetsGo result) }
+{
+    match slot {
+        Some(Object::Forward(reader)) => {
+            reader.leave();
+            Ok(0)
+        }
+        Some(_) => Err(Fault::Kind),
+        None => Err(Fault::Empty),
+    }
+}
 
 /// The next hop for an address.
 #[inline]
@@ -39,9 +95,9 @@ pub(crate) fn look_up_all(
 {
     match slot {
         Some(Object::Forward(reader)) => {
-            reader.enter();
+            let held = begin(reader);
             let outcome = look_up_in(reader.fib().table(), addresses, hops);
-            reader.leave();
+            end(reader, held);
             outcome
         }
         Some(_) => Err(Fault::Kind),
@@ -71,9 +127,9 @@ pub(crate) fn forward(
 {
     match slot {
         Some(Object::Forward(reader)) => {
-            reader.enter();
+            let held = begin(reader);
             let outcome = forward_in(reader.fib(), frame, wire);
-            reader.leave();
+            end(reader, held);
             outcome
         }
         Some(_) => Err(Fault::Kind),
@@ -98,9 +154,9 @@ pub(crate) fn verdict(slot: &mut Option<Object>, frame: &[u8], wire: usize) -> R
 {
     match slot {
         Some(Object::Forward(reader)) => {
-            reader.enter();
+            let held = begin(reader);
             let outcome = verdict_in(reader.fib(), frame, wire);
-            reader.leave();
+            end(reader, held);
             outcome
         }
         Some(_) => Err(Fault::Kind),
@@ -143,9 +199,9 @@ pub(crate) fn forward_burst(
 {
     match slot {
         Some(Object::Forward(reader)) => {
-            reader.enter();
+            let held = begin(reader);
             let outcome = burst_in(reader.fib(), frames, verdicts);
-            reader.leave();
+            end(reader, held);
             outcome
         }
         Some(_) => Err(Fault::Kind),
@@ -168,9 +224,9 @@ pub(crate) fn addressed(slot: &mut Option<Object>, port: usize, frame: &[u8]) ->
 {
     match slot {
         Some(Object::Forward(reader)) => {
-            reader.enter();
+            let held = begin(reader);
             let outcome = addressed_in(reader.fib(), port, frame);
-            reader.leave();
+            end(reader, held);
             outcome
         }
         Some(_) => Err(Fault::Kind),

@@ -9,6 +9,7 @@ ghost use Rattle.lpm.specs.Listing.{IsFirstFrom, NoneFrom};
 ghost use Rattle.lpm.specs.Routes.{LacksRoute};
 ghost use Rattle.live_routes.specs.Forwarding.{opening, routes_of};
 
+use crate::form::Form;
 use lpm::{NextHop, Route, RouteFault, Table};
 use std::alloc::{AllocError, Global};
 use std::marker::Model;
@@ -41,10 +42,11 @@ impl<H: Copy, P: Copy> Model for Fib<H, P> {
 }
 
 impl<H: Copy, P: Copy> Fib<H, P> {
-    /// No routes, and these next hops and ports. The routes' table is sparse, with a first level of 2^`bits` entries
+    /// No routes, and these next hops and ports. The routes' table has this form, a first level of 2^`bits` entries
     /// and at most `groups` groups. Returns `Err` only if out of memory.
     pub fn new(
         alloc: Global,
+        form: Form,
         bits: u8,
         groups: u32,
         hops: &[H],
@@ -53,7 +55,10 @@ impl<H: Copy, P: Copy> Fib<H, P> {
         requires { (bits ≡ 16) ⊎ (bits ≡ 24) }
         ensures { IfOk result (λ f. f ≡ opening bits groups hops.now ports.now) }
     {
-        let table = Table::sparse(alloc, bits, groups)?;
+        let table = match form {
+            Form::Whole => Table::new(alloc, bits, groups)?,
+            Form::Sparse => Table::sparse(alloc, bits, groups)?,
+        };
         let mut own_hops = Vec::new(alloc);
         own_hops.extend_from_slice(hops)?;
         let mut own_ports = Vec::new(alloc);

@@ -36,12 +36,21 @@ impl<H: Copy, P: Copy> RouteReader<H, P> {
         RouteReader { reader }
     }
 
+    /// Whether something is in hand: `enter` was called, and `leave` not since then.
+    #[inline]
+    pub fn is_inside(&self) -> bool
+        ensures { result ≡ self.now.inside }
+    {
+        self.reader.is_inside()
+    }
+
     /// The number of the next hop for an address, in what was published last, which is no older than anything that this
     /// reader saw. Between `enter` and `leave` it is in what the reader has in hand.
     #[inline]
     pub fn lookup(&mut self, addr: u32) -> Option<u32>
         ensures answer { result ≡ lookup_in self.new.seen.latest.members addr }
         ensures later { IsLater self.new.seen self.old.seen }
+        ensures kept { self.old.inside ≡ true → self.new.seen ≡ self.old.seen }
         ensures inside { self.new.inside ≡ self.old.inside }
     {
         if self.reader.is_inside() {
@@ -59,6 +68,7 @@ impl<H: Copy, P: Copy> RouteReader<H, P> {
         requires { length addresses.now ≡ length hops.old }
         ensures answers { hops.new ≡ map (lookup_in self.new.seen.latest.members) addresses.now }
         ensures later { IsLater self.new.seen self.old.seen }
+        ensures kept { self.old.inside ≡ true → self.new.seen ≡ self.old.seen }
         ensures inside { self.new.inside ≡ self.old.inside }
     {
         if self.reader.is_inside() {
@@ -76,6 +86,7 @@ impl<H: Copy, P: Copy> RouteReader<H, P> {
     pub fn enter(&mut self)
         ensures inside { self.new.inside ≡ true }
         ensures later { IsLater self.new.seen self.old.seen }
+        ensures kept { self.old.inside ≡ true → self.new.seen ≡ self.old.seen }
     {
         if !self.reader.is_inside() {
             self.reader.enter();

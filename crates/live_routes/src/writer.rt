@@ -7,6 +7,7 @@ ghost use Rattle.live_routes.specs.Forwarding.{opening};
 use crate::change::Change;
 use crate::fault::LiveFault;
 use crate::fib::Fib;
+use crate::form::Form;
 use crate::reader::RouteReader;
 use crate::settling::catch_up;
 use live_value::Publisher;
@@ -48,10 +49,11 @@ impl<H: Copy, P: Copy> Model for RouteWriter<H, P> {
 }
 
 impl<H: Copy, P: Copy> RouteWriter<H, P> {
-    /// Publishes no routes, and these next hops and ports. Both tables are sparse, with a first level of 2^`bits`
+    /// Publishes no routes, and these next hops and ports. Both copies have this form, a first level of 2^`bits`
     /// entries and at most `groups` groups. Returns `Err` only if out of memory.
     pub fn open(
         alloc: Global,
+        form: Form,
         bits: u8,
         groups: u32,
         hops: &[H],
@@ -62,8 +64,8 @@ impl<H: Copy, P: Copy> RouteWriter<H, P> {
         ensures drawn { IfOk result (λ w. w.drawn ≡ opening bits groups hops.now ports.now) }
         ensures settled { IfOk result (λ w. (w.settled ≡ true) × (w.pending ≡ 0)) }
     {
-        let first = Fib::new(alloc, bits, groups, hops, ports)?;
-        let second = Fib::new(alloc, bits, groups, hops, ports)?;
+        let first = Fib::new(alloc, form, bits, groups, hops, ports)?;
+        let second = Fib::new(alloc, form, bits, groups, hops, ports)?;
         let publisher = Publisher::new(alloc, first)?;
         Ok(RouteWriter {
             publisher,
@@ -107,9 +109,9 @@ impl<H: Copy, P: Copy> RouteWriter<H, P> {
         }
     }
 
-    /// Goes on with the last publish: shows it to readers that are in no call, takes the copy before it back, and makes
-    /// the changes on it too. Errors: 7 `Pending` while a reader is in a call that began before, 4 `Memory` where the
-    /// second copy is refused memory for a change. Then it is to be called again; nothing that callers see has changed.
+    /// Goes on with the last publish: takes the copy before it back, and makes the changes on it too. Errors: 7 `Pending`
+    /// while a reader is in a call that began before, 4 `Memory` where the second copy is refused memory for a change.
+    /// Then it is to be called again; nothing that callers see has changed.
     pub fn settle(&mut self) -> Result<(), LiveFault>
         ensures ok { OnOk result (self.new ≡ record self.old { settled = true }) }
         ensures err { OnErr result ((self.new ≡ self.old) × (self.old.settled ≡ false)) }
@@ -132,10 +134,9 @@ impl<H: Copy, P: Copy> RouteWriter<H, P> {
         }
     }
 
-    /// Publishes what is drawn up. `settle`, which is tried here once, shows it to the readers that are in no call, and
-    /// to the others later: each takes it at its next call. It also gets the copy before it back for the writer.
-    /// Errors: 7 `Pending` where the publish before isn't settled, 4 `Memory`. An error changes nothing that callers
-    /// see but `settled`.
+    /// Publishes what is drawn up: each reader takes it at its next call. `settle`, which is tried here once, gets the
+    /// copy before it back for the writer. Errors: 7 `Pending` where the publish before isn't settled, 4 `Memory`. An
+    /// error changes nothing that callers see but `settled`.
     pub fn publish(&mut self) -> Result<(), LiveFault>
         ensures ok { OnOk result ((self.new.seen ≡ followed self.old.seen self.old.drawn)
             × (self.new.drawn ≡ self.old.drawn) × (self.new.pending ≡ 0)) }

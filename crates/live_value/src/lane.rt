@@ -1,8 +1,9 @@
 //! What the writer shares with one reader: two slots for the value, and a word that says which of them is the reader's.
 //!
-//! The word is the slot that the reader takes next, 0 or 1, or 2 more while it has it. Only the writer changes the slot
-//! of the word, and only while the reader hasn't it; the other slot is the writer's. So the reader's two steps are an
-//! add and a store, which never fail, and the writer's one step fails while the reader has the slot.
+//! Bit 0 of the word is the slot that the reader takes next. The other bits count: the reader adds 2 when it takes a slot
+//! and 2 when it gives it back, so bit 1 is set while it has one. The other slot is the writer's. The writer shows a
+//! value by filling its slot and changing bit 0, at any time. Then the slot that was the reader's is the writer's: at
+//! once if the reader had none, and otherwise when the word has changed since. So no step of either end ever fails.
 ghost use Rattle.std.specs.Prelude.{◌≡◌, IfOk};
 
 use crate::history::History;
@@ -20,8 +21,10 @@ pub enum Role {
     Opens,
     /// The same, with the empty slot.
     Holds,
-    /// The writer. The reader takes this slot next.
+    /// The writer, with the other slot. The reader takes this one next.
     Writes(u64),
+    /// The writer, with no slot. The reader takes this one next, and had the other when the word became this.
+    Awaits(u64, u64),
     /// The reader, between two calls.
     Waits,
     /// The reader, with this slot.
@@ -87,7 +90,7 @@ impl<T> Play<Slot<T>, Doing<T>> for Leaves {
     ghost then = { leaves };
 }
 
-/// The writer's slot becomes the reader's.
+/// The writer's slot becomes the reader's next.
 pub struct Shows;
 
 impl<T> Play<Slot<T>, Doing<T>> for Shows {
@@ -95,6 +98,15 @@ impl<T> Play<Slot<T>, Doing<T>> for Shows {
     ghost use Rattle.live_value.specs.Lanes.{shows};
 
     ghost then = { shows arc_value };
+}
+
+/// The writer takes the slot that the reader has given back.
+pub struct Collects;
+
+impl<T> Play<Slot<T>, Doing<T>> for Collects {
+    ghost use Rattle.live_value.specs.Lanes.{collects};
+
+    ghost then = { collects };
 }
 
 pub type Lane<T> = Table<Slot<T>, Doing<T>, History<T>, OneReader, Global>;

@@ -2,7 +2,7 @@
 ghost use Rattle.std.specs.Prelude.{◌≡◌, true, false, All, IsTrue};
 ghost use Rattle.std.specs.Arc.{arc_value};
 ghost use Rattle.live_value.specs.Pasts.{followed};
-ghost use Rattle.live_value.specs.Lines.{IsShown};
+ghost use Rattle.live_value.specs.Lines.{IsDone, IsShown};
 
 use crate::history::History;
 use crate::showing::Showing;
@@ -17,28 +17,25 @@ pub struct Line<T: Drop> {
 }
 
 impl<T: Drop> Line<T> {
-    /// Shows the reader what was published last, if it isn't shown yet and the reader isn't in a call. Whether it is
-    /// shown now.
+    /// Shows the reader what was published last, if it isn't shown yet. Whether the value before it is back.
     fn catch_up(&mut self, shown: &Arc<T, Global>, history: &History<T>) -> bool
         requires shown { history.now.latest ≡ arc_value shown.now }
         requires was { IsShown history.now true self.old }
         ensures line { IsShown history.now true self.new }
-        ensures done { IsTrue result → self.new.is_late ≡ false }
+        ensures done { IsTrue result → IsDone self.new }
     {
-        if !self.is_late {
-            return true;
-        }
-        let Ok(value) = Arc::try_clone(shown) else {
-            return false;
-        };
-        if self.showing.show(value) {
+        if self.is_late {
+            let Ok(value) = Arc::try_clone(shown) else {
+                return false;
+            };
+            self.showing.show(value);
             self.is_late = false;
         }
-        !self.is_late
+        self.showing.collect()
     }
 }
 
-/// The same for each line. Whether it is shown to all readers now.
+/// The same for each line. Whether the value before is back from all readers.
 pub fn catch_up<T: Drop>(
     lines: &mut [Line<T>],
     shown: &Arc<T, Global>,
@@ -47,7 +44,7 @@ pub fn catch_up<T: Drop>(
     requires shown { history.now.latest ≡ arc_value shown.now }
     requires was { All (IsShown history.now true) lines.old }
     ensures lines { All (IsShown history.now true) lines.new }
-    ensures done { IsTrue result → All (λ line. line.is_late ≡ false) lines.new }
+    ensures done { IsTrue result → All IsDone lines.new }
 {
     let mut done = true;
     for i in 0..lines.len() {

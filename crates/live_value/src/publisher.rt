@@ -72,8 +72,8 @@ impl<T: Drop> Publisher<T> {
         Ok(reader)
     }
 
-    /// Publishes a value. Readers that are in no call are shown it by the next `settle`, and the others by a later one.
-    /// Where memory is refused, the value comes back, and nothing has changed.
+    /// Publishes a value. The next `settle` shows it to the readers. Where memory is refused, the value comes back, and
+    /// nothing has changed.
     pub fn publish(&mut self, value: T) -> Result<(), T>
         requires { self.old.behind ≡ None }
         ensures ok { OnOk result ((self.new.seen ≡ followed self.old.seen value)
@@ -91,8 +91,9 @@ impl<T: Drop> Publisher<T> {
         Ok(())
     }
 
-    /// Shows what was published last to the readers that are in no call, and gives back the value before it once all
-    /// readers have left that. `None` where a reader is still in a call that began before: try again. Takes no memory.
+    /// Shows what was published last to the readers: each takes it at its next call. Gives back the value before it once
+    /// all readers have let that go. `None` where a reader is still in a call that began before: try again. Takes no
+    /// memory.
     pub fn settle(&mut self) -> Option<T>
         ensures settled { IfSome result (λ value. (self.old.behind ≡ Some value) × (self.new.behind ≡ None)) }
         ensures pending { IfNone result (self.new ≡ self.old) }

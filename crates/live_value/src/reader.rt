@@ -64,7 +64,7 @@ impl<T: Drop> Reader<T> {
         ensures later { IsLater self.new.seen self.old.seen }
     {
         let lane = &*self.lane;
-        let side = lane.shared.fetch_add::<Enters>(&mut self.end, 0, 2);
+        let side = lane.shared.fetch_add::<Enters>(&mut self.end, 0, 2) % 2;
         self.held = lane.shared.exchange(&mut self.end, side as usize, None);
         self.side = side;
     }
@@ -90,6 +90,6 @@ impl<T: Drop> Reader<T> {
         let held = self.held.take();
         lane.shared
             .exchange(&mut self.end, self.side as usize, held);
-        lane.shared.store::<Leaves>(&mut self.end, 0, self.side);
+        lane.shared.fetch_add::<Leaves>(&mut self.end, 0, 2);
     }
 }

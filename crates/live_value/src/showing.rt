@@ -2,12 +2,12 @@
 ghost use Rattle.std.specs.Prelude.{◌≡◌, false, [], IfOk};
 ghost use Rattle.std.specs.Bool.{OnTrue, OnFalse};
 ghost use Rattle.std.specs.Arc.{arc_value};
-ghost use Rattle.live_value.specs.Lanes.{IsSized, doing};
+ghost use Rattle.live_value.specs.Lanes.{IsSized, doing, turn};
 ghost use Rattle.live_value.specs.Pasts.{followed};
 ghost use Rattle.live_value.specs.declared.lane.Role.TheVariants.{Opens};
 
 use crate::history::History;
-use crate::lane::{End, Lane, Parts, Shows, Takes};
+use crate::lane::{Collects, End, Lane, Parts, Shows, Takes};
 use crate::reader::Reader;
 use atomic_table::Table;
 use std::alloc::{AllocError, Global};
@@ -33,24 +33,33 @@ fn laid<T: Drop>(
     }
 }
 
-/// What one reader is shown. Contracts see the values that were shown to it, oldest first.
+/// What is added to the word of a lane to change the slot that is next.
+fn turn_of(next: u64) -> u64
+    ensures { result ≡ turn next }
+{
+    if next == 0 { 1 } else { u64::MAX }
+}
+
+/// What one reader is shown. Contracts see the values that were shown to it, oldest first (`seen`), and whether it may
+/// still have the one before the last (`owed`).
 #[derive(Drop)]
 pub struct Showing<T: Drop> {
     lane: Arc<Lane<T>, Global>,
     end: End<T>,
     side: u64,
+    /// What the word became when the last value was shown, while the reader had the one before it.
+    awaited: Option<u64>,
 }
 
 impl<T: Drop> Model for Showing<T> {
     ghost use Rattle.std.specs.Arc.{arc_value};
-    ghost use Rattle.live_value.specs.declared.past.Past.{Past};
-    ghost use Rattle.live_value.specs.Lanes.{IsWriter};
+    ghost use Rattle.live_value.specs.Lanes.{IsWriter, Shown, is_some};
 
-    ghost Value = { Past T };
+    ghost Value = { Shown T };
 
-    ghost view = { λ s. s.end.me.0.past };
+    ghost view = { λ s. record { seen = s.end.me.0.past; owed = is_some s.awaited } };
 
-    ghost invariant = { λ s. IsWriter (arc_value s.lane).shared.table_id s.end.table_id s.end.me s.side };
+    ghost invariant = { λ s. IsWriter (arc_value s.lane).shared.table_id s.end.table_id s.end.me s.awaited s.side };
 }
 
 impl<T: Drop> Showing<T> {
@@ -62,7 +71,7 @@ impl<T: Drop> Showing<T> {
         history: &History<T>,
     ) -> Result<(Showing<T>, Reader<T>), AllocError>
         requires { history.now.latest ≡ arc_value shown }
-        ensures writer { IfOk result (λ r. r.0 ≡ history.now) }
+        ensures writer { IfOk result (λ r. (r.0.seen ≡ history.now) × (r.0.owed ≡ false)) }
         ensures reader { IfOk result (λ r. (r.1.seen ≡ history.now) × (r.1.inside ≡ false)) }
     {
         let (table, mut end) = laid(alloc, shown, history)?;
@@ -71,7 +80,12 @@ impl<T: Drop> Showing<T> {
         let shared = &lane.shared;
         shared.load::<Takes>(&mut end, 0);
         let reads = shared.split_seat::<Parts>(&mut end);
-        let showing = Showing { lane, end, side: 0 };
+        let showing = Showing {
+            lane,
+            end,
+            side: 0,
+            awaited: None,
+        };
         Ok((showing, Reader::at(theirs, reads)))
     }
 
@@ -80,26 +94,42 @@ impl<T: Drop> Showing<T> {
         Arc::strong_count(&self.lane) == 1
     }
 
-    /// Shows the reader one more value, if it isn't in a call. Whether it did: the value before it is then let go.
-    pub fn show(&mut self, value: Arc<T, Global>) -> bool
-        ensures shown { OnTrue result (self.new ≡ followed self.old (arc_value value)) }
-        ensures same { OnFalse result (self.new ≡ self.old) }
+    /// Shows the reader one more value: it takes this one at its next call.
+    pub fn show(&mut self, value: Arc<T, Global>)
+        requires { self.old.owed ≡ false }
+        ensures { self.new.seen ≡ followed self.old.seen (arc_value value) }
     {
         let lane = &*self.lane;
         let side = self.side;
         let other = 1 - side;
         lane.shared
             .exchange(&mut self.end, other as usize, Some(value));
-        let found = lane
-            .shared
-            .compare_exchange::<Shows>(&mut self.end, 0, side, other);
-        if found == side {
+        let turn = turn_of(side);
+        let found = lane.shared.fetch_add::<Shows>(&mut self.end, 0, turn);
+        if found % 4 < 2 {
             lane.shared.exchange(&mut self.end, side as usize, None);
-            self.side = other;
-            true
         } else {
-            lane.shared.exchange(&mut self.end, other as usize, None);
-            false
+            self.awaited = Some(found.wrapping_add(turn));
         }
+        self.side = other;
+    }
+
+    /// Whether the reader has let go the value before the last, which is then dropped here.
+    pub fn collect(&mut self) -> bool
+        ensures back { OnTrue result ((self.new.seen ≡ self.old.seen) × (self.new.owed ≡ false)) }
+        ensures same { OnFalse result (self.new ≡ self.old) }
+    {
+        let Some(word) = self.awaited else {
+            return true;
+        };
+        let lane = &*self.lane;
+        let found = lane.shared.load::<Collects>(&mut self.end, 0);
+        if found == word {
+            return false;
+        }
+        let other = 1 - self.side;
+        lane.shared.exchange(&mut self.end, other as usize, None);
+        self.awaited = None;
+        true
     }
 }

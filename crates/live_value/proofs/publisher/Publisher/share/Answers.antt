@@ -10,7 +10,11 @@ invariant_of-self-2 g c =
     let P = IsShown c.self.inside.history (is_some c.self.inside.former) in
     let swept : All P c.reserve.new.self.items = search rules in
     let line : P record { showing = c.in_ok-showing.showing; is_late = false } =
-    record { all = λ _. search rules; late = λ e. absurd (false≢true e); none = λ _. refl } in
+    record {
+      all = λ _. search rules;
+      late = λ e. absurd (false≢true e);
+      none = λ _. record { shown = refl; back = search rules };
+    } in
     record {
       last = c.self.invariant.last;
       each = All-same P _ _ c.push_reserved.ensures.items (All-push P _ _ swept line);

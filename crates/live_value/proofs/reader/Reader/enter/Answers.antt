@@ -11,4 +11,4 @@ fetch_add-side-requires g c = (
 
 pub exchange-requires : goal.exchange-requires
 exchange-requires g c = let took = c.fetch_add-side.ensures.2 in
-    (search rules, (_, front _ _ _ _ (ap (λ m. m.1) took.5)))
+    (search rules, (_, front _ _ _ _ (ap (λ m. m.1) took.4)))
