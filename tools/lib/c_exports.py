@@ -18,7 +18,7 @@ ITEMS = {"Asked": "hk_ring_plan", "Word64": "uint64_t", "Number": "uint32_t", "P
          "Frame": "hk_frame", "FibRoute": "hk_fib_route", **NUMBERS}
 WRAPPED = {"Word64": ("capi/src/rings/word64.rt", "uint64_t"), "Number": ("capi/src/pools/member.rt", "uint32_t")}
 # Structs whose fields are compared one by one; arrays and slices in them are read, too.
-FIELDS = {"Port": "forwarder/src/ports.rt", "Hop": "ipv4/src/ports.rt", "Frame": "forwarder/src/frame.rt",
+FIELDS = {"Port": "live_routes/src/ports.rt", "Hop": "ipv4/src/ports.rt", "Frame": "live_routes/src/frame.rt",
           "FibRoute": "capi/src/fibs.rt"}
 # A code of C whose name isn't that of the fault in capital letters.
 RENAMED = {"EMPTY": "NULL"}
@@ -26,11 +26,11 @@ RENAMED = {"EMPTY": "NULL"}
 OF_C = {"HK_OK", "HK_E_NOTHING"}
 LIMITS = {"HK_MOST": [("capi/src/rings/member.rt", "MOST"), ("capi/src/reorder_windows.rt", "MOST")],
           "HK_POOL_MOST": [("capi/src/pools/member.rt", "MOST_NUMBERS")],
-          "HK_MOST_PORTS": [("forwarder/src/ports.rt", "MAX_PORTS")],
-          "HK_MOST_HOPS": [("forwarder/src/ports.rt", "MAX_HOPS")],
-          "HK_FORWARD_MOST": [("forwarder/src/bursts.rt", "MOST")],
-          "HK_TAGGED": [("forwarder/src/frame.rt", "TAGGED")],
-          "HK_DROP": [("forwarder/src/frame.rt", "DROP")]}
+          "HK_MOST_PORTS": [("live_routes/src/ports.rt", "MAX_PORTS")],
+          "HK_MOST_HOPS": [("live_routes/src/ports.rt", "MAX_HOPS")],
+          "HK_FORWARD_MOST": [("live_routes/src/bursts.rt", "MOST")],
+          "HK_TAGGED": [("live_routes/src/frame.rt", "TAGGED")],
+          "HK_DROP": [("live_routes/src/frame.rt", "DROP")]}
 
 
 def read(path):

@@ -8,7 +8,7 @@ use Rattle.reorder.specs.declared.fault.InsertFault.TheVariants.{Late, Early, Do
 use Rattle.ipv4.specs.declared.ports.Hop.{Hop}
 use Rattle.live_routes.specs.Forwarding.{Forwarding}
 use Rattle.live_routes.specs.declared.fault.LiveFault.TheVariants as live
-use Rattle.forwarder.specs.declared.ports.Port.{Port}
+use Rattle.live_routes.specs.declared.ports.Port.{Port}
 use Rattle.capi.specs.Fibs.{count_of, depth_of, live_fault_of}
 use Rattle.capi.specs.Forwards.{Forwards, IsBurst, Judges}
 use Rattle.capi.specs.Tables.{LooksUpAll, RefusesTable, fault_of, hop_found, hop_word}

@@ -13,8 +13,8 @@ use Rattle.live_routes.specs.declared.fault.LiveFault.{LiveFault}
 use Rattle.live_routes.specs.declared.fault.LiveFault.TheVariants as live
 use Rattle.live_value.specs.Lanes.{Glance}
 use Rattle.live_value.specs.Pasts.{followed, only}
-use Rattle.forwarder.specs.Ports.{IsPossible}
-use Rattle.forwarder.specs.declared.ports.Port.{Port}
+use Rattle.live_routes.specs.Ports.{IsPossible}
+use Rattle.live_routes.specs.declared.ports.Port.{Port}
 use Rattle.capi.specs.Codes.{Outcome}
 use Rattle.capi.specs.Forwards.{HasForward}
 use Rattle.capi.specs.Handles.{IsEmpty, IsOther}

@@ -4,11 +4,11 @@ use Rattle.ipv4.specs.declared.ports.Hop.{Hop}
 use Rattle.live_routes.specs.Forwarding.{Forwarding}
 use Rattle.live_value.specs.Lanes.{Glance}
 use Rattle.live_value.specs.Pasts.{IsLater}
-use Rattle.forwarder.specs.Addressed.{TellsOf, bits_of}
-use Rattle.forwarder.specs.Frames.{IsWhole, forwarded_in, left, number_of_verdict, sent_count, verdict_by}
-use Rattle.forwarder.specs.declared.addressed.Addressed.{Addressed}
-use Rattle.forwarder.specs.declared.frame.Frame.{Frame}
-use Rattle.forwarder.specs.declared.ports.Port.{Port}
+use Rattle.live_routes.specs.Addressed.{TellsOf, bits_of}
+use Rattle.live_routes.specs.Frames.{IsWhole, forwarded_in, left, number_of_verdict, sent_count, verdict_by}
+use Rattle.live_routes.specs.declared.addressed.Addressed.{Addressed}
+use Rattle.live_routes.specs.declared.frame.Frame.{Frame}
+use Rattle.live_routes.specs.declared.ports.Port.{Port}
 use Rattle.capi.specs.Codes.{Outcome}
 use Rattle.capi.specs.declared.rings.fault.Fault.TheVariants as fault
 use Rattle.capi.specs.Handles.{IsEmpty, IsOther}

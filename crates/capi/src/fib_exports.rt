@@ -14,9 +14,8 @@ use crate::handle::Handle;
 use crate::keeping::{borrow, give, is_used};
 use crate::object::Object;
 use crate::rings::{Fault, answer};
-use forwarder::Port;
 use ipv4::Hop;
-use live_routes::Form;
+use live_routes::{Form, Port};
 use std::alloc::Global;
 
 fn open_at(

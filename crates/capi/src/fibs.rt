@@ -4,14 +4,13 @@ ghost use Rattle.std.specs.Prelude.{◌≡◌, ◌⊎◌, IfErr, IfOk, Ok};
 ghost use Rattle.std.specs.FinMap as map_of;
 ghost use Rattle.capi.specs.Fibs.{Adds, AtFib, Clears, FindsReader, Gets, IsImpossible, IsOpened, Publishes, Removes, SetsHop};
 ghost use Rattle.capi.specs.Fibs.{SetsPort, Settles, Walks, count_of, depth_of, done_of, got_of, live_fault_of};
-ghost use Rattle.forwarder.specs.Ports.{IsPossible};
+ghost use Rattle.live_routes.specs.Ports.{IsPossible};
 
 use crate::object::Object;
 use crate::rings::Fault;
 use crate::route_tables::fault;
-use forwarder::{Port, is_port, is_possible};
 use ipv4::Hop;
-use live_routes::{Form, LiveFault, RouteReader, RouteWriter};
+use live_routes::{Form, LiveFault, Port, RouteReader, RouteWriter, is_port, is_possible};
 use lpm::RouteFault;
 use std::alloc::Global;
 

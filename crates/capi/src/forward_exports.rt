@@ -12,7 +12,7 @@ use crate::forwarders::{
 use crate::handle::Handle;
 use crate::keeping::borrow;
 use crate::rings::{Fault, answer};
-use forwarder::Frame;
+use live_routes::Frame;
 use std::alloc::Global;
 
 fn hold_at(alloc: Global, h: &mut Handle) -> Result<u32, Fault>

@@ -9,9 +9,8 @@ ghost use Rattle.capi.specs.Tables.{LooksUpAll, hop_found};
 use crate::object::Object;
 use crate::rings::Fault;
 use crate::route_tables::look_up_in;
-use forwarder::{Frame, MOST, Port, addressed_at, fits};
 use ipv4::Hop;
-use live_routes::{Fib, RouteReader};
+use live_routes::{Fib, Frame, MOST, Port, RouteReader, addressed_at, fits};
 
 type Reader = RouteReader<Hop, Port>;
 
@@ -112,7 +111,7 @@ fn forward_in(fib: &Fib<Hop, Port>, frame: &mut [u8], wire: usize) -> Result<u32
     if frame.len() > wire {
         return Err(Fault::Count);
     }
-    Ok(forwarder::forward(fib, frame, wire))
+    Ok(live_routes::forward(fib, frame, wire))
 }
 
 /// Forwards a frame.
@@ -144,7 +143,7 @@ fn verdict_in(fib: &Fib<Hop, Port>, frame: &[u8], wire: usize) -> Result<u32, Fa
     if frame.len() > wire {
         return Err(Fault::Count);
     }
-    Ok(forwarder::verdict(fib, frame, wire))
+    Ok(live_routes::verdict(fib, frame, wire))
 }
 
 /// The verdict on a frame.
@@ -184,7 +183,7 @@ fn burst_in(
     if !is_burst(frames, verdicts) {
         return Err(Fault::Count);
     }
-    Ok(forwarder::forward_burst(fib, frames, verdicts) as u32)
+    Ok(live_routes::forward_burst(fib, frames, verdicts) as u32)
 }
 
 /// Forwards a burst, all frames by the same publish.

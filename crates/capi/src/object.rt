@@ -1,9 +1,8 @@
 //! The kinds of objects.
 use crate::pools::PoolMember;
 use crate::rings::{Member, Rest};
-use forwarder::Port;
 use ipv4::Hop;
-use live_routes::{RouteReader, RouteWriter};
+use live_routes::{Port, RouteReader, RouteWriter};
 use lpm::Table;
 use reorder::Window;
 use std::sync::Arc;

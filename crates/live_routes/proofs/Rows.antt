@@ -1,10 +1,9 @@
 -- Worked cases, which the checker computes: what a list of changes makes of routes, next hops and ports.
-use Rattle.std.proofs.Common.{◌≡◌, ℕ, List, [], ◌∷◌, fold, refl}
+use Rattle.std.proofs.Common.{◌≡◌, ℕ, [], ◌∷◌, fold, refl}
 use Rattle.std.specs.FinMap as map
 use Rattle.lpm.specs.Prefixes.{prefix_of}
 use Rattle.live_routes.specs.Forwarding.{Forwarding, opening}
 use Rattle.live_routes.specs.Changes.{applied}
-use Rattle.live_routes.specs.declared.change.Change.{Change}
 use Rattle.live_routes.specs.declared.change.Change.TheVariants.{Add, Remove, Clear, SetHop, SetPort}
 
 abbrev start : Forwarding ℕ ℕ

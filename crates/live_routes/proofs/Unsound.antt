@@ -1,12 +1,10 @@
 -- States of a writer that are none: each breaks one field of `IsRouting` alone.
-use Rattle.std.proofs.Common.{◌≡◌, ℕ, Bool, true, false, List, [], ◌∷◌, Option, Some, None, refl, ap, arith}
+use Rattle.std.proofs.Common.{ℕ, true, false, List, [], ◌∷◌, Option, Some, None, refl, ap, arith}
 use Rattle.std.proofs.lemmas.Bool.{false≢true}
 use Rattle.live_value.specs.Pasts.{only, followed}
 use Rattle.live_value.specs.Publishing.{Publishing}
 use Rattle.live_routes.specs.Forwarding.{Forwarding, opening}
 use Rattle.live_routes.specs.Routing.{IsRouting}
-use Rattle.live_routes.specs.declared.change.Change.{Change}
-use Rattle.live_routes.specs.declared.change.Change.TheVariants.{SetHop}
 
 -- one next hop, and no routes
 abbrev with : ℕ → Forwarding ℕ ℕ

@@ -1,18 +1,32 @@
-//! Routes, next hops and ports that one writer changes and publishes while readers look up. No call waits.
+//! Routes, next hops and ports that one writer changes and publishes while readers look up, and forwarding by them. No
+//! call waits.
+//!
+//! `writer` and `reader` are the two ends, over two copies of a `fib`. `forwarding` forwards frames where they lie by what
+//! a reader has in hand, one frame (`frame`) or a burst (`bursts`), and `addressed` tells what a frame is addressed to.
 #![tactic(auto)]
 
+mod addressed;
+mod bursts;
 mod change;
 mod example;
 mod fault;
 mod fib;
 mod form;
+mod forwarding;
+mod frame;
+mod ports;
 mod reader;
 mod settling;
 mod writer;
 
+pub use addressed::{Addressed, addressed_to};
+pub use bursts::MOST;
 pub use change::Change;
 pub use fault::LiveFault;
 pub use fib::Fib;
 pub use form::Form;
+pub use forwarding::{addressed_at, forward, forward_burst, verdict};
+pub use frame::{DROP, Frame, TAGGED, fits};
+pub use ports::{MAX_HOPS, MAX_PORTS, Port, is_port, is_possible};
 pub use reader::RouteReader;
 pub use writer::RouteWriter;

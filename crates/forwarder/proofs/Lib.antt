@@ -1,3 +1,0 @@
-pub mod Founds
-pub mod Places
-mod Rows

@@ -1,9 +1,0 @@
-use Rattle.std.proofs.Common.{subst, sym}
-use Rattle.forwarder.specs.Frames.{HasSmallPort}
-use Rattle.forwarder.proofs.Founds.{small_way}
-use Rattle.forwarder.proofs.forwarding.forward.Goals as goal
-
-pub verdict_number-requires : goal.verdict_number-requires
-verdict_number-requires c =
-    subst HasSmallPort (sym c.forward_along.ensures.verdict)
-    (small_way c.args.fib.now.hops c.args.fib.now.ports _ c.args.frame.now c.args.wire _ c.way_for-way.ensures)
