@@ -1,8 +1,8 @@
 //! Routes, next hops and ports that one writer changes and publishes while readers look up, and forwarding by them. No
 //! call waits.
 //!
-//! `writer` and `reader` are the two ends, over two copies of a `fib`. `forwarding` forwards frames where they lie by what
-//! a reader has in hand, one frame (`frame`) or a burst (`bursts`), and `addressed` tells what a frame is addressed to.
+//! `writer` and `reader` are the two ends, over two copies of a `fib`. `forwarding` forwards frames where they lie by
+//! what a reader has in hand: one frame (`frame`) or a burst (`bursts`). `addressed`: what a frame is addressed to.
 #![tactic(auto)]
 
 mod addressed;

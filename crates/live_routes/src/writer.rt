@@ -109,9 +109,9 @@ impl<H: Copy, P: Copy> RouteWriter<H, P> {
         }
     }
 
-    /// Goes on with the last publish: takes the copy before it back, and makes the changes on it too. Errors: 7 `Pending`
-    /// while a reader is in a call that began before, 4 `Memory` where the second copy is refused memory for a change.
-    /// Then it is to be called again; nothing that callers see has changed.
+    /// Goes on with the last publish: takes the copy before it back, and makes the changes on it too. Errors: 7
+    /// `Pending` while a reader is in a call that began before, 4 `Memory` where the second copy is refused memory for
+    /// a change. Then it is to be called again; nothing that callers see has changed.
     pub fn settle(&mut self) -> Result<(), LiveFault>
         ensures ok { OnOk result (self.new ≡ record self.old { settled = true }) }
         ensures err { OnErr result ((self.new ≡ self.old) × (self.old.settled ≡ false)) }

@@ -1,8 +1,8 @@
 //! What the writer shares with one reader: two slots for the value, and a word that says which of them is the reader's.
 //!
-//! Bit 0 of the word is the slot that the reader takes next. The other bits count: the reader adds 2 when it takes a slot
-//! and 2 when it gives it back, so bit 1 is set while it has one. The other slot is the writer's. The writer shows a
-//! value by filling its slot and changing bit 0, at any time. Then the slot that was the reader's is the writer's: at
+//! Bit 0 of the word is the slot that the reader takes next. The other bits count: the reader adds 2 when it takes a
+//! slot and 2 when it gives it back, so bit 1 is set while it has one. The other slot is the writer's. The writer shows
+//! a value by filling its slot and changing bit 0, at any time. Then the slot that was the reader's is the writer's: at
 //! once if the reader had none, and otherwise when the word has changed since. So no step of either end ever fails.
 ghost use Rattle.std.specs.Prelude.{◌≡◌, IfOk};
 

@@ -91,9 +91,9 @@ impl<T: Drop> Publisher<T> {
         Ok(())
     }
 
-    /// Shows what was published last to the readers: each takes it at its next call. Gives back the value before it once
-    /// all readers have let that go. `None` where a reader is still in a call that began before: try again. Takes no
-    /// memory.
+    /// Shows what was published last to the readers: each takes it at its next call. Gives back the value before it
+    /// once all readers have let that go. `None` where a reader is still in a call that began before: try again. Takes
+    /// no memory.
     pub fn settle(&mut self) -> Option<T>
         ensures settled { IfSome result (λ value. (self.old.behind ≡ Some value) × (self.new.behind ≡ None)) }
         ensures pending { IfNone result (self.new ≡ self.old) }

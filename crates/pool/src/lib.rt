@@ -5,8 +5,9 @@
 //! (`bursts`, `list_moves`), or an array of plain words, which are copied to and from slices (`words`, `stack`,
 //! `stack_moves`). These have one body for both: `cached` has the gets and puts of the cache alone, `other_rings` those
 //! on another ring of the fabric, `opening` makes a cache, and `queries` look at it. The calls by name: `lent` with a
-//! burst that is borrowed, `values` with one by value, `slices` with a slice, `tries` with a slice and tried once. Below
-//! them, `set_aside` has the hand that sets the cached buffers aside, and `ring_requests` the requests of the free ring.
+//! burst that is borrowed, `values` with one by value, `slices` with a slice, `tries` with a slice and tried once.
+//! Below them, `set_aside` has the hand that sets the cached buffers aside, and `ring_requests` the requests of the
+//! free ring.
 #![tactic(auto)]
 
 mod bursts;
