@@ -6,10 +6,8 @@ use Rattle.stages_laws.specs.Output.{Forwarding}
 use Rattle.stages_laws.specs.declared.run.Run.{Ghosts}
 use Rattle.run_one.specs.Verdicts.{IsVerdictOf}
 use Rattle.stages.specs.Passing.{Passes}
-use Rattle.run_one.specs.declared.packet.Judged.{Judged}
 use Rattle.stages.specs.declared.threads.item.RingItem.{RingItem}
 use Rattle.stages.specs.declared.threads.item.RingItem.TheVariants.{Free, Before, After, Mark}
-use Rattle.run_one.specs.declared.packet.Unjudged.{Unjudged}
 
 -- two lists of the same length, with R for each pair
 abbrev pub AllPairs : {X Y : Type 0} → (X → Y → Type 0) → List X → List Y → Type 0

@@ -19,8 +19,9 @@ use crate::threads::item::RingItem;
 use crate::threads::reader::{dismiss, feed};
 use crate::threads::reader_outcome::ReaderOutcome;
 use crate::threads::ring_access::RingAccess;
-use crate::threads::rings::{SPAN, fill, open_rings};
+use crate::threads::rings::{SPAN, open_rings};
 use crate::threads::sink::drain;
+use crate::threads::unused::Unused;
 use crate::threads::worker::{Worked, work};
 use burst::Burst;
 use fabric::{Fabric, Hand, Opened};
@@ -152,7 +153,7 @@ fn run_started<
     (device, devices, told)
 }
 
-/// Makes the rings with their segments, and runs the threads over them.
+/// Makes the rings and the segments, and runs the threads over them.
 fn over_rings<
     J: Run + Send + Sync,
     G: Gate + Sync,
@@ -180,18 +181,13 @@ fn over_rings<
         hand,
         items,
     } = opened;
-    match fill(rt, &fabric, hand, items) {
-        Ok(hand) => run_stages(
-            rt, alloc, gate, workers, &fabric, hand, reader, sink, settings,
-        ),
-        Err(fault) => {
-            let outcome = ReaderOutcome::unread(reader, RunFault::Memory);
-            (sink, outcome.with(Err(fault)))
-        }
-    }
+    let unused = Unused::new(items, workers, settings.burst as usize);
+    run_stages(
+        rt, alloc, gate, workers, &fabric, hand, reader, unused, sink, settings,
+    )
 }
 
-/// The threads of a run, over rings whose segments are all free.
+/// The threads of a run, over rings that are all empty: no segment is in use yet.
 fn run_stages<
     J: Run + Send + Sync,
     G: Gate + Sync,
@@ -206,6 +202,7 @@ fn run_stages<
     f: &Fabric<RingItem<J>, SPAN>,
     hand: Hand<RingItem<J>>,
     reader: Reader<R>,
+    unused: Unused<J>,
     sink: Sink<J, W>,
     settings: &Settings,
 ) -> (Sink<J, W>, ReaderOutcome<J, R>)
@@ -224,33 +221,28 @@ fn run_stages<
                 × GoesBy settings.now J.room J.forwarding (length J.before) }
         {
             let mut sink = sink;
-            let hand = match start_workers(scope, rt, alloc, gate, workers, f, hand, settings) {
-                Ok(hand) => hand,
+            let hands = start_workers(scope, rt, alloc, gate, workers, f, hand, settings);
+            let (mine, other) = match hands {
+                Ok(both) => both,
                 Err((hand, started, fault)) => {
                     let sink = call_off(rt, f, hand, sink, started, settings);
                     return (sink, ReaderOutcome::unread(reader, fault));
                 }
             };
-            let (mine, other) = match hand.split(alloc, f) {
-                Ok(both) => both,
-                Err((back, _)) => {
-                    let sink = call_off(rt, f, back, sink, workers, settings);
-                    return (sink, ReaderOutcome::unread(reader, RunFault::Memory));
-                }
-            };
-            let Some(thread) = start_reader(scope, rt, f, other, reader, workers, settings) else {
-                let sink = call_off(rt, f, mine, sink, workers, settings);
+            let thread = start_reader(scope, rt, f, mine, reader, unused, workers, settings);
+            let Some(thread) = thread else {
+                let sink = call_off(rt, f, other, sink, workers, settings);
                 return (sink, ReaderOutcome::lost());
             };
-            let mut access = RingAccess::new(f, mine);
+            let mut access = RingAccess::new(f, other);
             let drained = drain(rt, &mut access, &mut sink, workers, settings.burst as usize);
             (sink, thread.join(rt).with(drained))
         },
     )
 }
 
-/// Starts the workers, each with a hand of its own. If one can't be started, returns the hand, and the number of those
-/// that were.
+/// Starts the workers, each with a hand of its own, and returns two more hands: the first has all buffers. If a worker
+/// can't be started, or memory is refused, returns the hand, and the number of workers that were started.
 fn start_workers<
     's,
     E: 's,
@@ -266,11 +258,11 @@ fn start_workers<
     f: &'s Fabric<RingItem<J>, SPAN>,
     mut hand: Hand<RingItem<J>>,
     settings: &'s Settings,
-) -> Result<Hand<RingItem<J>>, (Hand<RingItem<J>>, usize, RunFault)>
+) -> Result<(Hand<RingItem<J>>, Hand<RingItem<J>>), (Hand<RingItem<J>>, usize, RunFault)>
     requires hand { IsHandOf f.now hand }
     requires rings { AreRings (rings_of f.now) }
     requires settings { GoesBy settings.now J.room J.forwarding (length J.before) }
-    ensures ok { IfOk result (λ hand. IsHandOf f.now hand) }
+    ensures ok { IfOk result (λ hands. IsHandOf f.now hands.0 × IsHandOf f.now hands.1) }
     ensures err { IfErr result (λ e. IsHandOf f.now e.0 × (e.1 ≤ workers) × ((e.2 ≡ Memory) ⊎ (e.2 ≡ Thread))) }
 {
     for started in 0..workers {
@@ -283,7 +275,10 @@ fn start_workers<
             return Err((hand, started, RunFault::Thread));
         }
     }
-    Ok(hand)
+    match hand.split(alloc, f) {
+        Ok(both) => Ok(both),
+        Err((back, _)) => Err((back, workers, RunFault::Memory)),
+    }
 }
 
 /// Starts a worker in a thread of its own. Returns whether the thread could be started.
@@ -315,7 +310,8 @@ fn start_worker<
     worker.is_ok()
 }
 
-/// Starts the reader in a thread of its own. Returns `None` if the thread couldn't be started; the reader is then lost.
+/// Starts the reader in a thread of its own, with the hand that has the unused segments. Returns `None` if the
+/// thread couldn't be started; the reader is then lost.
 fn start_reader<
     's,
     E: 's,
@@ -328,6 +324,7 @@ fn start_reader<
     f: &'s Fabric<RingItem<J>, SPAN>,
     hand: Hand<RingItem<J>>,
     reader: Reader<R>,
+    unused: Unused<J>,
     workers: usize,
     settings: &'s Settings,
 ) -> Option<JoinHandle<ReaderOutcome<J, R>>>
@@ -344,7 +341,7 @@ fn start_reader<
                 × GoesBy settings.now J.room J.forwarding (length J.before) }
         {
             let access = RingAccess::new(f, hand);
-            feed(rt, access, reader, workers, settings)
+            feed(rt, access, reader, unused, workers, settings)
         },
     );
     reader.ok()

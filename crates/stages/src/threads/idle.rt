@@ -15,6 +15,9 @@ const SPINS: u32 = 7;
 /// How many pauses the thread that the others wait for makes before it sleeps. On Linux they take some milliseconds.
 const YIELDS: u32 = 8192;
 
+/// How many sleeps a long wait has: together they take about a millisecond.
+const MANY: u64 = 16;
+
 /// The pauses of a thread that waits for others. After some of them it sleeps for a moment each time, so that a
 /// processor is left to those that have work.
 #[derive(Drop)]
@@ -73,6 +76,11 @@ impl Idle {
         let time = self.slept.get().saturating_add(1).min(LONGEST);
         self.slept.set(time);
         thread::sleep(rt, Duration::from_micros(time));
+    }
+
+    /// Whether this wait has had many sleeps. What the others need is then not on its way.
+    pub fn is_long(&self) -> bool {
+        self.slept.get() >= MANY
     }
 
     /// The next pause is the first one again.

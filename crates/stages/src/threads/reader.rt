@@ -11,6 +11,7 @@ use crate::threads::reader_outcome::ReaderOutcome;
 use crate::threads::ring_access::RingAccess;
 use crate::threads::rings::{FREE, INPUT, SPAN};
 use crate::threads::segments::link;
+use crate::threads::unused::Unused;
 use burst::Burst;
 use mbuf::Chain;
 use pcapio::Reader;
@@ -52,13 +53,39 @@ fn make_way<J: Run, T: Wait + Clock>(
     access.send(rt, INPUT, batch)
 }
 
-/// One free segment, as soon as there is one: from those taken before, or from at most `ahead` that are then taken from
-/// their ring together.
+/// Puts unused segments on the ring of free ones, if those in use are too few: at most `n`, for a record that takes
+/// `n`. Returns whether it put some.
+fn put_unused<J: Run, T: Wait + Clock>(
+    rt: &T,
+    access: &mut RingAccess<'_, RingItem<J>>,
+    unused: &mut Unused<J>,
+    n: usize,
+    short: bool,
+) -> Result<bool, StageFault>
+    requires at_most { n ≤ 64 }
+{
+    let mut list = Burst::<RingItem<J>, SPAN>::new();
+    for _i in 0..n {
+        match unused.take(n, short) {
+            Some(segment) => list.push(segment),
+            None => (),
+        }
+    }
+    if list.is_empty() {
+        return Ok(false);
+    }
+    access.send(rt, FREE, &mut list)?;
+    Ok(true)
+}
+
+/// One free segment, as soon as there is one: from those taken before, from at most `ahead` that are then taken from
+/// their ring together, or from those that are unused.
 fn obtain_one<J: Run, T: Wait + Clock>(
     rt: &T,
     access: &mut RingAccess<'_, RingItem<J>>,
     batch: &mut Burst<RingItem<J>, SPAN>,
     stock: &mut Burst<RingItem<J>, SPAN>,
+    unused: &mut Unused<J>,
     ahead: usize,
 ) -> Result<Chain, StageFault> {
     let idle = Idle::new();
@@ -70,19 +97,25 @@ fn obtain_one<J: Run, T: Wait + Clock>(
         }
         access.receive(rt, FREE, ahead, stock)?;
         if stock.is_empty() {
-            make_way(rt, access, batch, &idle)?;
+            match unused.take(1, idle.is_long()) {
+                Some(segment) => stock.push(segment),
+                None => make_way(rt, access, batch, &idle)?,
+            }
         }
     }
     unreachable!()
 }
 
-/// `n` free segments, linked to one chain, as soon as their ring has that many.
+/// `n` free segments, linked to one chain, as soon as their ring has that many; unused ones may be put there.
 fn obtain_many<J: Run, T: Wait + Clock>(
     rt: &T,
     access: &mut RingAccess<'_, RingItem<J>>,
     batch: &mut Burst<RingItem<J>, SPAN>,
+    unused: &mut Unused<J>,
     n: usize,
-) -> Result<Chain, StageFault> {
+) -> Result<Chain, StageFault>
+    requires at_most { n ≤ 64 }
+{
     let idle = Idle::new();
     let mut got = Burst::<RingItem<J>, SPAN>::new();
     for _ in rt.forever() {
@@ -90,7 +123,9 @@ fn obtain_many<J: Run, T: Wait + Clock>(
         if access.get(rt, n, &mut got)? {
             return link(&mut got).ok_or(StageFault::Window);
         }
-        make_way(rt, access, batch, &idle)?;
+        if !put_unused(rt, access, unused, n, idle.is_long())? {
+            make_way(rt, access, batch, &idle)?;
+        }
     }
     unreachable!()
 }
@@ -102,6 +137,7 @@ fn obtain<J: Run, T: Wait + Clock>(
     access: &mut RingAccess<'_, RingItem<J>>,
     batch: &mut Burst<RingItem<J>, SPAN>,
     stock: &mut Burst<RingItem<J>, SPAN>,
+    unused: &mut Unused<J>,
     settings: &Settings,
     captured: usize,
 ) -> Result<Chain, StageFault>
@@ -111,9 +147,9 @@ fn obtain<J: Run, T: Wait + Clock>(
     let n = segments_of(captured, settings.room as usize);
     let found = if n == 1 {
         let ahead = (settings.cache as usize).max(1);
-        obtain_one(rt, access, batch, stock, ahead)
+        obtain_one(rt, access, batch, stock, unused, ahead)
     } else {
-        obtain_many(rt, access, batch, n)
+        obtain_many(rt, access, batch, unused, n)
     };
     let chain = found?;
     if chain.space() < captured {
@@ -146,6 +182,7 @@ fn read_all<J: Run, R: Read, T: Wait + Clock>(
     access: &mut RingAccess<'_, RingItem<J>>,
     reader: &mut Reader<R>,
     batch: &mut Burst<RingItem<J>, SPAN>,
+    unused: &mut Unused<J>,
     settings: &Settings,
 ) -> Result<InputTotals<J>, RunFault>
     requires input { HasInput R.remaining reader.old J.input J.read_failures }
@@ -165,7 +202,7 @@ fn read_all<J: Run, R: Read, T: Wait + Clock>(
             Err(fault) => return Err(fault),
         };
         let captured = head.captured as usize;
-        let chain = match obtain(rt, access, batch, &mut stock, settings, captured) {
+        let chain = match obtain(rt, access, batch, &mut stock, unused, settings, captured) {
             Ok(chain) => chain,
             Err(fault) => return Err(fault.to_run_fault()),
         };
@@ -203,6 +240,7 @@ pub(crate) fn feed<J: Run, R: Read, T: Wait + Clock>(
     rt: &T,
     mut access: RingAccess<'_, RingItem<J>>,
     mut reader: Reader<R>,
+    mut unused: Unused<J>,
     workers: usize,
     settings: &Settings,
 ) -> ReaderOutcome<J, R>
@@ -211,7 +249,14 @@ pub(crate) fn feed<J: Run, R: Read, T: Wait + Clock>(
     requires at_most { workers ≤ 16 }
 {
     let mut batch = Burst::<RingItem<J>, SPAN>::new();
-    let answer = read_all::<J, R, T>(rt, &mut access, &mut reader, &mut batch, settings);
+    let answer = read_all::<J, R, T>(
+        rt,
+        &mut access,
+        &mut reader,
+        &mut batch,
+        &mut unused,
+        settings,
+    );
     let sent = dismiss(rt, &mut access, &mut batch, workers);
     let outcome = ReaderOutcome {
         device: Some(reader.into_inner()),

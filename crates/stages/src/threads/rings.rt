@@ -1,20 +1,15 @@
 //! The rings of a run in threads, and the segments on them.
-ghost use Rattle.std.specs.Prelude.{◌≡◌, ◌<◌, [], IfOk, IfSome};
+ghost use Rattle.std.specs.Prelude.{◌≡◌, IfSome};
 ghost use Rattle.fabric.specs.Hands.{IsHandOf, rings_of};
 ghost use Rattle.stages.specs.Passing.{AreRings, AreAsked};
 
-use crate::stage_fault::StageFault;
 use crate::threads::item::RingItem;
-use crate::threads::ring_put::put_all;
-use burst::Burst;
-use fabric::{Fabric, Hand, Opened};
+use fabric::{Fabric, Opened};
 use geom::{Geometry, Mode, RingPlan};
 use mbuf::make;
 use settings::Settings;
 use stages_laws::Run;
 use std::alloc::Global;
-use std::sync::Wait;
-use std::time::Clock;
 
 /// The maximum number of items of one span on the rings.
 pub const SPAN: usize = 256;
@@ -76,53 +71,5 @@ pub(crate) fn open_rings<J: Run>(
     match Fabric::new(alloc, plans, settings.buffers, list) {
         Ok(opened) => Some(opened),
         Err(_) => None,
-    }
-}
-
-/// Puts these segments on their ring. Errors: they aren't the hand's, or the ring is worn.
-fn free_all<J: Run, T: Wait + Clock>(
-    rt: &T,
-    f: &Fabric<RingItem<J>, SPAN>,
-    mut hand: Hand<RingItem<J>>,
-    list: &mut Burst<RingItem<J>, SPAN>,
-) -> Result<Hand<RingItem<J>>, StageFault>
-    requires hand { IsHandOf f.now hand }
-    requires rings { AreRings (rings_of f.now) }
-    ensures { IfOk result (λ h. IsHandOf f.now h × (list.new ≡ [])) }
-{
-    if !hand.may_put(f, FREE, list) {
-        return Err(StageFault::Window);
-    }
-    match put_all(rt, f, hand, FREE, list) {
-        Ok(hand) => Ok(hand),
-        Err(_) => Err(StageFault::Worn),
-    }
-}
-
-/// Puts all segments on their ring.
-pub(crate) fn fill<J: Run, T: Wait + Clock>(
-    rt: &T,
-    f: &Fabric<RingItem<J>, SPAN>,
-    mut hand: Hand<RingItem<J>>,
-    items: Vec<RingItem<J>>,
-) -> Result<Hand<RingItem<J>>, StageFault>
-    requires hand { IsHandOf f.now hand }
-    requires rings { AreRings (rings_of f.now) }
-    ensures { IfOk result (IsHandOf f.now) }
-{
-    let mut list = Burst::<RingItem<J>, SPAN>::new();
-    for item in items {
-        if list.is_full() {
-            hand = match free_all(rt, f, hand, &mut list) {
-                Ok(hand) => hand,
-                Err(fault) => return Err(fault),
-            };
-        }
-        list.push(item);
-    }
-    // arm by arm, so that the proof has each case separately
-    match free_all(rt, f, hand, &mut list) {
-        Ok(hand) => Ok(hand),
-        Err(fault) => Err(fault),
     }
 }
