@@ -1,4 +1,4 @@
-/* The names and texts of codes. */
+/* The version, and the names and texts of codes. */
 #include "hokhtura.h"
 
 #define CODES(X)                                                              \
@@ -13,7 +13,6 @@
     X(HK_E_MODE, "the side is not head/tail-sync")                            \
     X(HK_E_NULL, "a null pointer")                                            \
     X(HK_E_KIND, "a handle of another kind, or closed")                       \
-    X(HK_E_USED, "the handle has something already")                          \
     X(HK_E_SHARED, "other handles share it")                                  \
     X(HK_E_MEMORY, "out of memory")                                           \
     X(HK_E_PLAN, "no such rings, pool, table, port or window can be made") \
@@ -28,6 +27,10 @@
     X(HK_E_EARLY, "the number is a whole window or more ahead")               \
     X(HK_E_DOUBLE, "a word with this number is already waiting")              \
     X(HK_E_NOTHING, "the word whose turn it is hasn't arrived")
+
+uint32_t hk_version(void) {
+    return HK_VERSION;
+}
 
 const char *hk_strerror(int64_t code) {
     switch (code > 0 ? 0 : code) {

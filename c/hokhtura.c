@@ -11,8 +11,9 @@ struct hk_cell {
     void *at;
 };
 
-/* A cell for one call. */
+/* A cell for one call, and for one that takes a const handle: what its caller sees of the handle stays the same. */
 #define CELL(handle) (&(struct hk_cell){handle})
+#define LOOK(handle) (&(struct hk_cell){(void *)(handle)})
 
 /* The exports, with the names that their parameters have there. A slice there is an array and its length here. */
 extern int64_t hkx_free(struct hk_cell *h);
@@ -244,20 +245,20 @@ int64_t hk_ring_finish_take(hk_hand *hand, size_t n) {
     return settle_take(&cell, n, hkx_ring_finish_take(&cell, n));
 }
 
-int64_t hk_hand_span(hk_hand *hand) {
-    return hkx_hand_span(CELL(hand));
+int64_t hk_hand_span(const hk_hand *hand) {
+    return hkx_hand_span(LOOK(hand));
 }
 
-int64_t hk_hand_left(hk_hand *hand) {
-    return hkx_hand_left(CELL(hand));
+int64_t hk_hand_left(const hk_hand *hand) {
+    return hkx_hand_left(LOOK(hand));
 }
 
-int64_t hk_ring_count(hk_hand *hand, size_t ring) {
-    return hkx_ring_room(CELL(hand), ring, true);
+int64_t hk_ring_count(const hk_hand *hand, size_t ring) {
+    return hkx_ring_room(LOOK(hand), ring, true);
 }
 
-int64_t hk_ring_room(hk_hand *hand, size_t ring) {
-    return hkx_ring_room(CELL(hand), ring, false);
+int64_t hk_ring_room(const hk_hand *hand, size_t ring) {
+    return hkx_ring_room(LOOK(hand), ring, false);
 }
 
 int64_t hk_hand_close(hk_hand *hand) {
@@ -316,12 +317,12 @@ int64_t hk_pool_try_flush(hk_pool *pool) {
     return hkx_pool_flush(CELL(pool));
 }
 
-int64_t hk_pool_cached(hk_pool *pool) {
-    return hkx_pool_cached(CELL(pool));
+int64_t hk_pool_cached(const hk_pool *pool) {
+    return hkx_pool_cached(LOOK(pool));
 }
 
-int64_t hk_pool_owns(hk_pool *pool, uint32_t number) {
-    return hkx_pool_owns(CELL(pool), number);
+int64_t hk_pool_owns(const hk_pool *pool, uint32_t number) {
+    return hkx_pool_owns(LOOK(pool), number);
 }
 
 int64_t hk_pool_try_send_bulk(hk_pool *pool, size_t ring, const uint32_t *numbers, size_t n) {
@@ -362,15 +363,15 @@ int64_t hk_routes_remove(hk_routes *routes, uint32_t address, uint32_t depth) {
     return hkx_routes_remove(CELL(routes), address, depth);
 }
 
-int64_t hk_routes_lookup(hk_routes *routes, uint32_t address) {
-    return hkx_routes_lookup(CELL(routes), address);
+int64_t hk_routes_lookup(const hk_routes *routes, uint32_t address) {
+    return hkx_routes_lookup(LOOK(routes), address);
 }
 
-int64_t hk_routes_lookup_bulk(hk_routes *routes, const uint32_t *addresses, uint32_t *hops, size_t n) {
+int64_t hk_routes_lookup_bulk(const hk_routes *routes, const uint32_t *addresses, uint32_t *hops, size_t n) {
     static uint32_t none[1];
     if (n > SIZE_MAX / 8) return HK_E_COUNT;
     if (n > 0 && (!addresses || !hops)) return HK_E_NULL;
-    return hkx_routes_lookup_bulk(CELL(routes), addresses ? addresses : none, n, hops ? hops : none, n);
+    return hkx_routes_lookup_bulk(LOOK(routes), addresses ? addresses : none, n, hops ? hops : none, n);
 }
 
 void hk_routes_free(hk_routes *routes) {
@@ -440,21 +441,21 @@ int64_t hk_fib_settle(hk_fib *fib) {
     return hkx_fib_settle(CELL(fib));
 }
 
-int64_t hk_fib_pending(hk_fib *fib) {
-    return hkx_fib_pending(CELL(fib));
+int64_t hk_fib_pending(const hk_fib *fib) {
+    return hkx_fib_pending(LOOK(fib));
 }
 
-int64_t hk_fib_get(hk_fib *fib, uint32_t address, uint32_t depth) {
-    return hkx_fib_get(CELL(fib), address, depth);
+int64_t hk_fib_get(const hk_fib *fib, uint32_t address, uint32_t depth) {
+    return hkx_fib_get(LOOK(fib), address, depth);
 }
 
-int64_t hk_fib_count(hk_fib *fib) {
-    return hkx_fib_count(CELL(fib));
+int64_t hk_fib_count(const hk_fib *fib) {
+    return hkx_fib_count(LOOK(fib));
 }
 
-int64_t hk_fib_walk(hk_fib *fib, uint32_t address, uint32_t depth, hk_fib_route *route) {
+int64_t hk_fib_walk(const hk_fib *fib, uint32_t address, uint32_t depth, hk_fib_route *route) {
     if (!route) return HK_E_NULL;
-    return hkx_fib_walk(CELL(fib), address, depth, route);
+    return hkx_fib_walk(LOOK(fib), address, depth, route);
 }
 
 void hk_fib_free(hk_fib *fib) {
@@ -547,18 +548,18 @@ int64_t hk_reorder_insert(hk_reorder *window, uint64_t number, uint64_t word) {
 int64_t hk_reorder_drain(hk_reorder *window, uint64_t *words, size_t n) {
     int64_t code = refused(words, n);
     if (code < 0) return code;
-    return hkx_reorder_drain(CELL(window), words ? words : no_words, n);
+    code = hkx_reorder_drain(CELL(window), words ? words : no_words, n);
+    return code == 0 && n > 0 ? HK_E_NOTHING : code;
 }
 
 int64_t hk_reorder_pop(hk_reorder *window, uint64_t *word) {
     int64_t count = hk_reorder_drain(window, word, 1);
-    if (count < 0) return count;
-    return count == 0 ? HK_E_NOTHING : HK_OK;
+    return count < 0 ? count : HK_OK;
 }
 
-int64_t hk_reorder_next(hk_reorder *window, uint64_t *number) {
+int64_t hk_reorder_next(const hk_reorder *window, uint64_t *number) {
     if (!number) return HK_E_NULL;
-    return hkx_reorder_next(CELL(window), number);
+    return hkx_reorder_next(LOOK(window), number);
 }
 
 int64_t hk_reorder_skip(hk_reorder *window, uint64_t number) {

@@ -6,6 +6,8 @@
  * Threads reach what they share, a set of rings, a pool, a table of routes or a forwarding table, through a handle for
  * each thread: `hk_hand_split`, `hk_pool_split`, `hk_routes_share`, `hk_fib_share`. To pass a handle to another thread,
  * order the two threads' calls on it by the start or the end of a thread, a lock, or a sequentially consistent atomic.
+ * A call with a const handle changes nothing that other calls on it return. It is a call on that handle all the same:
+ * two threads may not make it at the same time.
  *
  * RETURN VALUES. A call returns a count of 0 or more (HK_OK is 0), or a code below 0, `enum hk_code`. Unless a call
  * says otherwise, a code means that nothing was changed: no handle, no array, no ring. Of several mistakes a call
@@ -36,15 +38,20 @@
 extern "C" {
 #endif
 
+/* The version of this header. */
 #define HK_VERSION_MAJOR 0
 #define HK_VERSION_MINOR 1
+#define HK_VERSION_PATCH 0
+#define HK_VERSION (HK_VERSION_MAJOR * 10000 + HK_VERSION_MINOR * 100 + HK_VERSION_PATCH)
 
 #if defined(__GNUC__)
 #define HK_API __attribute__((visibility("default")))
 #define HK_CHECKED __attribute__((warn_unused_result))
+#define HK_RESTRICT __restrict__
 #else
 #define HK_API
 #define HK_CHECKED
+#define HK_RESTRICT
 #endif
 
 /* The largest number of words in one call. */
@@ -66,7 +73,6 @@ enum hk_code {
     HK_E_MODE = -8,     /* that side of the ring is not head/tail-sync */
     HK_E_NULL = -9,     /* a null pointer */
     HK_E_KIND = -10,    /* a handle of another kind, or a hand whose rings were closed */
-    HK_E_USED = -11,    /* not returned by any call of this header */
     HK_E_SHARED = -12,  /* other handles share it */
     HK_E_MEMORY = -13,  /* out of memory */
     HK_E_PLAN = -14,    /* no such rings, pool, table, port or window can be made */
@@ -83,6 +89,8 @@ enum hk_code {
     HK_E_NOTHING = -27  /* the word whose turn it is hasn't arrived */
 };
 
+/* The version of the library that the program runs with: HK_VERSION of the header it was built with. Any thread. */
+HK_API uint32_t hk_version(void);
 /* The text of a code, and its name as in "HK_E_NOROOM". Never null, and constant. A count of 1 or more has those of
  * HK_OK, and a number that is no code "no code of hokhtura". Any thread. */
 HK_API const char *hk_strerror(int64_t code);
@@ -134,8 +142,9 @@ HK_API HK_CHECKED int64_t hk_ring_try_take_burst(hk_hand *hand, size_t ring, uin
 
 /* Peeks, only on head/tail-sync sides. A put reserves up to n positions; a take shows up to n words at the front of the
  * array without taking them. Both return how many. While a peek is open, other threads' calls on that side return
- * HK_E_AGAIN. HK_E_NULL, HK_E_KIND, HK_E_RING, HK_E_MODE, HK_E_OPEN, HK_E_COUNT, HK_E_NOROOM, HK_E_WORN, HK_E_AGAIN;
- * never HK_E_PENDING. */
+ * HK_E_AGAIN. If the hand is freed before the take is finished, the words that it showed are lost: no call takes them
+ * any more, and they are only in the array. HK_E_NULL, HK_E_KIND, HK_E_RING, HK_E_MODE, HK_E_OPEN, HK_E_COUNT,
+ * HK_E_NOROOM, HK_E_WORN, HK_E_AGAIN; never HK_E_PENDING. */
 HK_API HK_CHECKED int64_t hk_ring_peek_put_bulk(hk_hand *hand, size_t ring, size_t n);
 HK_API HK_CHECKED int64_t hk_ring_peek_put_burst(hk_hand *hand, size_t ring, size_t n);
 HK_API HK_CHECKED int64_t hk_ring_peek_take_bulk(hk_hand *hand, size_t ring, uint64_t *words, size_t n);
@@ -151,16 +160,16 @@ HK_API HK_CHECKED int64_t hk_ring_finish_put(hk_hand *hand, const uint64_t *word
 HK_API HK_CHECKED int64_t hk_ring_finish_take(hk_hand *hand, size_t n);
 
 /* 0 if the hand has no open span, 1 if it has one of a put, 2 of a take. HK_E_NULL, HK_E_KIND. */
-HK_API int64_t hk_hand_span(hk_hand *hand);
+HK_API int64_t hk_hand_span(const hk_hand *hand);
 /* What the last put, take or peek left: how many more words there was room for, or how many more were queued; after
  * HK_E_NOROOM, how many in all. After HK_E_COUNT, HK_E_WORN and HK_E_AGAIN it says nothing, and other codes leave it as
  * it was. HK_E_NULL, HK_E_KIND. */
-HK_API int64_t hk_hand_left(hk_hand *hand);
+HK_API int64_t hk_hand_left(const hk_hand *hand);
 /* How many words are queued on a ring, and how many more there is room for, as found by one look. Others may have put
  * or taken since. HK_E_NULL, HK_E_KIND, HK_E_RING, HK_E_OPEN. HK_E_AGAIN: another thread's span of a head/tail-sync
  * side is open. */
-HK_API int64_t hk_ring_count(hk_hand *hand, size_t ring);
-HK_API int64_t hk_ring_room(hk_hand *hand, size_t ring);
+HK_API int64_t hk_ring_count(const hk_hand *hand, size_t ring);
+HK_API int64_t hk_ring_room(const hk_hand *hand, size_t ring);
 
 /* Closes the set of rings, by its only hand: from then on the hand is for hk_hand_drain. HK_E_NULL, HK_E_KIND,
  * HK_E_OPEN. HK_E_SHARED while there are other hands. */
@@ -208,9 +217,9 @@ HK_API HK_CHECKED int64_t hk_pool_try_put_bulk(hk_pool *pool, const uint32_t *nu
  * HK_E_AGAIN. */
 HK_API HK_CHECKED int64_t hk_pool_try_flush(hk_pool *pool);
 /* How many numbers are cached. HK_E_NULL, HK_E_KIND. */
-HK_API int64_t hk_pool_cached(hk_pool *pool);
+HK_API int64_t hk_pool_cached(const hk_pool *pool);
 /* 1 if the handle has this number, cached or not, and otherwise 0. HK_E_NULL, HK_E_KIND. */
-HK_API int64_t hk_pool_owns(hk_pool *pool, uint32_t number);
+HK_API int64_t hk_pool_owns(const hk_pool *pool, uint32_t number);
 /* Puts n numbers, 1 to HK_POOL_MOST, on a ring of the pool, 0 to rings - 1, all or none. Then the handle doesn't have
  * them any more; the handle that takes them from the ring has them. Returns n. HK_E_NULL, HK_E_KIND, HK_E_RING,
  * HK_E_COUNT, HK_E_NOTYOURS, HK_E_WORN, HK_E_AGAIN. */
@@ -237,11 +246,12 @@ HK_API HK_CHECKED int64_t hk_routes_add(hk_routes *routes, uint32_t address, uin
 /* Removes a route. HK_E_NULL, HK_E_KIND, HK_E_SHARED, HK_E_DEPTH, HK_E_NOROUTE. */
 HK_API HK_CHECKED int64_t hk_routes_remove(hk_routes *routes, uint32_t address, uint32_t depth);
 /* The next hop of the longest route that covers an address. HK_E_NULL, HK_E_KIND, HK_E_NOROUTE. */
-HK_API HK_CHECKED int64_t hk_routes_lookup(hk_routes *routes, uint32_t address);
+HK_API HK_CHECKED int64_t hk_routes_lookup(const hk_routes *routes, uint32_t address);
 /* The same for n addresses: hops[i] is the next hop for addresses[i], or HK_NO_HOP. HK_E_COUNT: n is above
  * SIZE_MAX / 8. HK_E_NULL, HK_E_KIND. */
 #define HK_NO_HOP UINT32_MAX
-HK_API HK_CHECKED int64_t hk_routes_lookup_bulk(hk_routes *routes, const uint32_t *addresses, uint32_t *hops, size_t n);
+HK_API HK_CHECKED int64_t hk_routes_lookup_bulk(const hk_routes *routes, const uint32_t *HK_RESTRICT addresses,
+                                                uint32_t *HK_RESTRICT hops, size_t n);
 /* Frees a handle, and with the last one the table; null is allowed. */
 HK_API void hk_routes_free(hk_routes *routes);
 
@@ -295,7 +305,7 @@ HK_API HK_CHECKED int64_t hk_fib_open(hk_fib **out, uint32_t bits, uint32_t grou
                                       size_t port_count, const hk_next_hop *hops, size_t hop_count);
 /* [memory] The same, with the first level of both copies written when the table is made, 4 bytes for each entry in each
  * copy. hk_fib_open's table takes memory only for the parts of it that a route covers; this one answers lookups of
- * routed addresses a little faster. */
+ * routed addresses a little faster. Codes as above. */
 HK_API HK_CHECKED int64_t hk_fib_open_whole(hk_fib **out, uint32_t bits, uint32_t groups, const hk_port *ports,
                                             size_t port_count, const hk_next_hop *hops, size_t hop_count);
 /* [memory] Makes a reader, which may go to another thread. HK_E_NULL, HK_E_KIND, HK_E_MEMORY. */
@@ -320,19 +330,19 @@ HK_API HK_CHECKED int64_t hk_fib_set_port(hk_fib *fib, uint32_t number, const hk
 HK_API HK_CHECKED int64_t hk_fib_publish(hk_fib *fib);
 /* [memory] Settles the last publish: takes back the copy that readers had before, and repeats the changes in it. Each
  * call that draws up a change does so first. HK_OK: changes can be made. HK_E_NULL, HK_E_KIND; HK_E_PENDING: a reader
- * is still in a call that began before the publish, or holds what was published before; HK_E_MEMORY. Then call again. */
+ * is still in a call that began before the publish, or holds what was published before; HK_E_MEMORY. Call again. */
 HK_API HK_CHECKED int64_t hk_fib_settle(hk_fib *fib);
 /* How many changes readers don't see yet. HK_E_NULL, HK_E_KIND. */
-HK_API HK_CHECKED int64_t hk_fib_pending(hk_fib *fib);
+HK_API HK_CHECKED int64_t hk_fib_pending(const hk_fib *fib);
 /* The number of the next hop of exactly this route, with what is drawn up. HK_E_NULL, HK_E_KIND, HK_E_DEPTH,
  * HK_E_NOROUTE. */
-HK_API HK_CHECKED int64_t hk_fib_get(hk_fib *fib, uint32_t address, uint32_t depth);
+HK_API HK_CHECKED int64_t hk_fib_get(const hk_fib *fib, uint32_t address, uint32_t depth);
 /* How many routes there are, with what is drawn up. HK_E_NULL, HK_E_KIND. */
-HK_API HK_CHECKED int64_t hk_fib_count(hk_fib *fib);
+HK_API HK_CHECKED int64_t hk_fib_count(const hk_fib *fib);
 /* Writes the first route, with what is drawn up, that isn't before this address and depth, in the order of addresses
  * and then of depths. A walk over all routes begins with 0 and 0, and goes on with the address of the route found and
  * its depth + 1. HK_E_NULL, HK_E_KIND; HK_E_NOROUTE: there is none. */
-HK_API HK_CHECKED int64_t hk_fib_walk(hk_fib *fib, uint32_t address, uint32_t depth, hk_fib_route *route);
+HK_API HK_CHECKED int64_t hk_fib_walk(const hk_fib *fib, uint32_t address, uint32_t depth, hk_fib_route *route);
 /* Frees the writer's handle; null is allowed. Readers keep what was published last. */
 HK_API void hk_fib_free(hk_fib *fib);
 
@@ -349,16 +359,16 @@ HK_API HK_CHECKED int64_t hk_forward_release(hk_forward *forward);
 HK_API HK_CHECKED int64_t hk_forward_lookup(hk_forward *forward, uint32_t address);
 /* The same for n addresses, all by one publish: hops[i] is the next hop for addresses[i], or HK_NO_HOP. HK_E_COUNT: n
  * is above SIZE_MAX / 8. HK_E_NULL, HK_E_KIND. */
-HK_API HK_CHECKED int64_t hk_forward_lookup_bulk(hk_forward *forward, const uint32_t *addresses, uint32_t *hops,
-                                                 size_t n);
+HK_API HK_CHECKED int64_t hk_forward_lookup_bulk(hk_forward *forward, const uint32_t *HK_RESTRICT addresses,
+                                                 uint32_t *HK_RESTRICT hops, size_t n);
 
 /* ---- Forwarding of frames ---------------------------------------------------------------------------------------- */
 
 /* A reader forwards Ethernet frames with IPv4 packets where they lie, by the routes, next hops and ports of one
  * publish. What becomes of a frame is decided by its bytes and its length on the wire: it is dropped for the first
- * reason of `enum hk_drop` that holds, and is unchanged then; or it is sent. A frame that is sent has the address of the
- * next hop and that of the port it leaves through, a time to live one less, and a correct checksum; every other byte is
- * as it was, and so an 802.1Q tag is kept. The caller sends it, or drops it.
+ * reason of `enum hk_drop` that holds, and is unchanged then; or it is sent. A frame that is sent has the address of
+ * the next hop and that of the port it leaves through, a time to live one less, and a correct checksum; every other
+ * byte is as it was, and so an 802.1Q tag is kept. The caller sends it, or drops it.
  *
  * What a router does beside this is the caller's: hk_forward_class tells which frames are for the router itself and
  * which must not be forwarded; the drops tell what ICMP is due for (RFC 1812 section 4.3.3); the caller compares the
@@ -398,7 +408,8 @@ HK_API HK_CHECKED int64_t hk_forward_frame(hk_forward *forward, uint8_t *bytes, 
 /* Forwards n frames, 1 to HK_FORWARD_MOST, with their lookups together: verdicts[i] is that of frames[i]. Returns how
  * many of them are sent. HK_E_NULL, also if the bytes of a frame are null; HK_E_COUNT, also if a frame has more bytes
  * than it had on the wire; HK_E_KIND. */
-HK_API HK_CHECKED int64_t hk_forward_burst(hk_forward *forward, const hk_frame *frames, uint32_t *verdicts, size_t n);
+HK_API HK_CHECKED int64_t hk_forward_burst(hk_forward *forward, const hk_frame *HK_RESTRICT frames,
+                                           uint32_t *HK_RESTRICT verdicts, size_t n);
 /* The verdict on a frame, which stays as it is. HK_E_NULL; HK_E_COUNT: `wire` is below `held`; HK_E_KIND. */
 HK_API HK_CHECKED int64_t hk_forward_verdict(hk_forward *forward, const uint8_t *bytes, size_t held, size_t wire);
 /* What a frame is addressed to that came in through a port, 0 to the number of ports - 1: the sum of the HK_TO_ bits
@@ -418,13 +429,14 @@ typedef struct hk_reorder hk_reorder;
 HK_API HK_CHECKED int64_t hk_reorder_open(hk_reorder **out, uint32_t size);
 /* Inserts a word under its number. HK_E_NULL, HK_E_KIND, HK_E_LATE, HK_E_EARLY, HK_E_DOUBLE. */
 HK_API HK_CHECKED int64_t hk_reorder_insert(hk_reorder *window, uint64_t number, uint64_t word);
-/* Takes the word whose turn it is. HK_E_NULL, HK_E_KIND; HK_E_NOTHING if it hasn't arrived. */
+/* Takes the word whose turn it is. HK_E_NULL, HK_E_KIND; HK_E_NOTHING if it hasn't arrived: the place is unchanged. */
 HK_API HK_CHECKED int64_t hk_reorder_pop(hk_reorder *window, uint64_t *word);
 /* Takes at most n words, 0 to HK_MOST, each in its turn. Returns how many are at the front of the array; its other
- * places are unchanged. HK_E_COUNT, HK_E_NULL, HK_E_KIND. */
+ * places are unchanged. HK_E_COUNT, HK_E_NULL, HK_E_KIND; HK_E_NOTHING, if n is 1 or more and the word whose turn it is
+ * hasn't arrived. */
 HK_API HK_CHECKED int64_t hk_reorder_drain(hk_reorder *window, uint64_t *words, size_t n);
 /* Writes the number whose turn it is. HK_E_NULL, HK_E_KIND. */
-HK_API HK_CHECKED int64_t hk_reorder_next(hk_reorder *window, uint64_t *number);
+HK_API HK_CHECKED int64_t hk_reorder_next(const hk_reorder *window, uint64_t *number);
 /* Stops waiting for numbers below this one: the turn moves to it, or to the lowest number of a waiting word if that is
  * lower, and never back. No word is lost. HK_E_NULL, HK_E_KIND. */
 HK_API HK_CHECKED int64_t hk_reorder_skip(hk_reorder *window, uint64_t number);

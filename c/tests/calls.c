@@ -298,6 +298,9 @@ static void reorder(void) {
     IS(hk_reorder_open(&window, 65537), HK_E_PLAN);
     IS(hk_reorder_open(&window, 4), HK_OK);
     IS(hk_reorder_pop(window, &word), HK_E_NOTHING);
+    mark();
+    IS(hk_reorder_drain(window, out, 8), HK_E_NOTHING), IS(out[0], -1);
+    IS(hk_reorder_drain(window, out, 0), 0);
     IS(hk_reorder_insert(window, 1, 11), HK_OK);
     IS(hk_reorder_insert(window, 1, 12), HK_E_DOUBLE);
     IS(hk_reorder_insert(window, 4, 14), HK_E_EARLY);
@@ -323,6 +326,7 @@ static void reorder(void) {
 }
 
 static void texts(void) {
+    IS(hk_version(), HK_VERSION), IS(HK_VERSION, HK_VERSION_MAJOR * 10000 + HK_VERSION_MINOR * 100 + HK_VERSION_PATCH);
     IS(strcmp(hk_code_name(HK_E_NOROOM), "HK_E_NOROOM"), 0);
     IS(strcmp(hk_code_name(5), "HK_OK"), 0);
     IS(strcmp(hk_strerror(0), "done"), 0);

@@ -12,7 +12,7 @@ enum { RING = 5, COUNT = 3 };
 
 static char box;
 static uint64_t words[COUNT], next;
-static uint32_t numbers[COUNT];
+static uint32_t numbers[COUNT], hops[COUNT];
 
 /* What a step answers: a code this often, and then an end. */
 struct step {
@@ -144,7 +144,7 @@ static void tried(unsigned starts, unsigned finishes, unsigned others) {
     IS(start.tried, starts), IS(finish.tried, finishes), IS(other.tried, others), IS(strange, 0);
 }
 
-static const struct step never = {0, 0, HK_E_NULL, 0};
+static const struct step never = {0, 0, HK_E_NULL, 0}, none = {0, 0, 0, 0};
 
 static struct step often(int64_t code, unsigned turns, int64_t ends) {
     return (struct step){code, turns, ends, 0};
@@ -267,11 +267,15 @@ static void tables_and_windows(void) {
     BOTH(hk_routes_add(table, 0, 8, 1));
     BOTH(hk_routes_remove(table, 0, 8));
     BOTH(hk_routes_lookup(table, 0));
-    BOTH(hk_routes_lookup_bulk(table, numbers, numbers, 0));
+    BOTH(hk_routes_lookup_bulk(table, numbers, hops, 0));
     BOTH(hk_reorder_open(&another, 4));
     BOTH(hk_reorder_insert(window, 1, 1));
     BOTH(hk_reorder_drain(window, words, COUNT));
     BOTH(hk_reorder_pop(window, words));
+    /* No word has arrived. */
+    told(never, never, none), IS(hk_reorder_drain(window, words, COUNT), HK_E_NOTHING), tried(0, 0, 1);
+    told(never, never, none), IS(hk_reorder_pop(window, words), HK_E_NOTHING), tried(0, 0, 1);
+    told(never, never, none), IS(hk_reorder_drain(window, words, 0), 0), tried(0, 0, 1);
     BOTH(hk_reorder_next(window, &next));
     BOTH(hk_reorder_skip(window, 1));
     IS(second == NULL && another == NULL, 1);
@@ -302,7 +306,7 @@ static void tables_that_change(void) {
     BOTH(hk_forward_hold(forward));
     BOTH(hk_forward_release(forward));
     BOTH(hk_forward_lookup(forward, 0));
-    BOTH(hk_forward_lookup_bulk(forward, numbers, numbers, 0));
+    BOTH(hk_forward_lookup_bulk(forward, numbers, hops, 0));
     IS(second == NULL && another == NULL, 1);
     told(never, never, never);
     IS(hk_fib_open(&another, 16, 1, &port, HK_MOST_PORTS + 1, &hop, 1), HK_E_PLAN);

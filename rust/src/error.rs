@@ -61,8 +61,6 @@ errors! {
     Null = 9, "a null pointer";
     /// A handle of another kind.
     Kind = 10, "a handle of another kind";
-    /// The handle has something already. No call of this crate returns it.
-    Used = 11, "the handle has something already";
     /// Other handles share it.
     Shared = 12, "other handles share it";
     /// Out of memory.

@@ -70,7 +70,7 @@ extern "C" {
     pub fn hk_hand_open(out: *mut *mut Hand, plans: *const Plan, count: usize) -> i64;
     pub fn hk_hand_split(hand: *mut Hand, out: *mut *mut Hand) -> i64;
     pub fn hk_hand_free(hand: *mut Hand);
-    pub fn hk_hand_left(hand: *mut Hand) -> i64;
+    pub fn hk_hand_left(hand: *const Hand) -> i64;
     pub fn hk_hand_close(hand: *mut Hand) -> i64;
     pub fn hk_hand_drain(hand: *mut Hand, ring: usize, words: *mut u64, n: usize) -> i64;
     pub fn hk_ring_try_put_bulk(hand: *mut Hand, ring: usize, words: *const u64, n: usize) -> i64;
@@ -79,24 +79,24 @@ extern "C" {
     pub fn hk_ring_try_take_burst(hand: *mut Hand, ring: usize, words: *mut u64, n: usize) -> i64;
     pub fn hk_ring_finish_put(hand: *mut Hand, words: *const u64, n: usize) -> i64;
     pub fn hk_ring_finish_take(hand: *mut Hand, n: usize) -> i64;
-    pub fn hk_ring_count(hand: *mut Hand, ring: usize) -> i64;
-    pub fn hk_ring_room(hand: *mut Hand, ring: usize) -> i64;
+    pub fn hk_ring_count(hand: *const Hand, ring: usize) -> i64;
+    pub fn hk_ring_room(hand: *const Hand, ring: usize) -> i64;
     pub fn hk_pool_open(out: *mut *mut Pool, n: u32, cache: u32, rings: u32) -> i64;
     pub fn hk_pool_split(pool: *mut Pool, out: *mut *mut Pool) -> i64;
     pub fn hk_pool_free(pool: *mut Pool);
     pub fn hk_pool_try_get_bulk(pool: *mut Pool, numbers: *mut u32, n: usize) -> i64;
     pub fn hk_pool_try_put_bulk(pool: *mut Pool, numbers: *const u32, n: usize) -> i64;
     pub fn hk_pool_try_flush(pool: *mut Pool) -> i64;
-    pub fn hk_pool_cached(pool: *mut Pool) -> i64;
-    pub fn hk_pool_owns(pool: *mut Pool, number: u32) -> i64;
+    pub fn hk_pool_cached(pool: *const Pool) -> i64;
+    pub fn hk_pool_owns(pool: *const Pool, number: u32) -> i64;
     pub fn hk_pool_try_send_bulk(pool: *mut Pool, ring: usize, numbers: *const u32, n: usize) -> i64;
     pub fn hk_pool_try_receive_bulk(pool: *mut Pool, ring: usize, numbers: *mut u32, n: usize) -> i64;
     pub fn hk_routes_open(out: *mut *mut Table, bits: u32, groups: u32) -> i64;
     pub fn hk_routes_share(routes: *mut Table, out: *mut *mut Table) -> i64;
     pub fn hk_routes_add(routes: *mut Table, address: u32, depth: u32, hop: u32) -> i64;
     pub fn hk_routes_remove(routes: *mut Table, address: u32, depth: u32) -> i64;
-    pub fn hk_routes_lookup(routes: *mut Table, address: u32) -> i64;
-    pub fn hk_routes_lookup_bulk(routes: *mut Table, addresses: *const u32, hops: *mut u32, n: usize) -> i64;
+    pub fn hk_routes_lookup(routes: *const Table, address: u32) -> i64;
+    pub fn hk_routes_lookup_bulk(routes: *const Table, addresses: *const u32, hops: *mut u32, n: usize) -> i64;
     pub fn hk_routes_free(routes: *mut Table);
     pub fn hk_fib_open(
         out: *mut *mut Fib,
@@ -124,10 +124,10 @@ extern "C" {
     pub fn hk_fib_set_port(fib: *mut Fib, number: u32, port: *const Port) -> i64;
     pub fn hk_fib_publish(fib: *mut Fib) -> i64;
     pub fn hk_fib_settle(fib: *mut Fib) -> i64;
-    pub fn hk_fib_pending(fib: *mut Fib) -> i64;
-    pub fn hk_fib_get(fib: *mut Fib, address: u32, depth: u32) -> i64;
-    pub fn hk_fib_count(fib: *mut Fib) -> i64;
-    pub fn hk_fib_walk(fib: *mut Fib, address: u32, depth: u32, route: *mut FibRoute) -> i64;
+    pub fn hk_fib_pending(fib: *const Fib) -> i64;
+    pub fn hk_fib_get(fib: *const Fib, address: u32, depth: u32) -> i64;
+    pub fn hk_fib_count(fib: *const Fib) -> i64;
+    pub fn hk_fib_walk(fib: *const Fib, address: u32, depth: u32, route: *mut FibRoute) -> i64;
     pub fn hk_fib_free(fib: *mut Fib);
     pub fn hk_forward_hold(forward: *mut Forward) -> i64;
     pub fn hk_forward_release(forward: *mut Forward) -> i64;
@@ -142,7 +142,7 @@ extern "C" {
     pub fn hk_reorder_insert(window: *mut Window, number: u64, word: u64) -> i64;
     pub fn hk_reorder_pop(window: *mut Window, word: *mut u64) -> i64;
     pub fn hk_reorder_drain(window: *mut Window, words: *mut u64, n: usize) -> i64;
-    pub fn hk_reorder_next(window: *mut Window, number: *mut u64) -> i64;
+    pub fn hk_reorder_next(window: *const Window, number: *mut u64) -> i64;
     pub fn hk_reorder_skip(window: *mut Window, number: u64) -> i64;
     pub fn hk_reorder_free(window: *mut Window);
 }
@@ -151,5 +151,5 @@ extern "C" {
 pub type OpenFib =
     unsafe extern "C" fn(*mut *mut Fib, u32, u32, *const Port, usize, *const Hop, usize) -> i64;
 
-/// What `hk_reorder_pop` returns if the word hasn't arrived.
+/// What `hk_reorder_pop` and `hk_reorder_drain` return if the word hasn't arrived.
 pub const NOTHING: i64 = -27;

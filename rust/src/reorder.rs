@@ -55,13 +55,16 @@ impl<T: Word> Reorder<T> {
     }
 
     /// Takes the words whose turn it is, at most as many as there are places. Returns how many are at the front of
-    /// the slice.
+    /// the slice: 0 if the next one hasn't arrived.
     ///
     /// # Errors
     ///
     /// `Count` if there are more than `MOST` places.
     pub fn drain(&mut self, words: &mut [T]) -> Result<usize, Error> {
-        answer(unsafe { ffi::hk_reorder_drain(self.0.as_ptr(), words.as_mut_ptr().cast(), words.len()) })
+        match unsafe { ffi::hk_reorder_drain(self.0.as_ptr(), words.as_mut_ptr().cast(), words.len()) } {
+            ffi::NOTHING => Ok(0),
+            code => answer(code),
+        }
     }
 
     /// The words whose turn it is, one after the other; each is taken as it is returned.

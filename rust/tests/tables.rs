@@ -56,6 +56,7 @@ fn words_leave_a_window_in_their_turn() -> Result<(), Error> {
     window.insert(4, 14)?;
     let mut words = [0; 4];
     assert_eq!(window.drain(&mut words), Ok(2));
+    assert_eq!(window.drain(&mut words), Ok(0));
     assert_eq!(words, [11, 12, 0, 0]);
     assert_eq!(window.next_number(), 3);
     window.skip_to(9);

@@ -24,6 +24,8 @@ FIELDS = {"Port": "live_routes/src/ports.rt", "Hop": "ipv4/src/ports.rt", "Frame
 RENAMED = {"EMPTY": "NULL"}
 # A code that the C side alone returns.
 OF_C = {"HK_OK", "HK_E_NOTHING"}
+# A fault that no call of C can meet: its handles are empty where one is made.
+UNPUBLISHED = {"HK_E_USED"}
 LIMITS = {"HK_MOST": [("capi/src/rings/member.rt", "MOST"), ("capi/src/reorder_windows.rt", "MOST")],
           "HK_POOL_MOST": [("capi/src/pools/member.rt", "MOST_NUMBERS")],
           "HK_MOST_PORTS": [("live_routes/src/ports.rt", "MAX_PORTS")],
@@ -132,6 +134,7 @@ def numbers(header):
     there = {}
     for name, number in re.findall(r"(\w+) = (\d+),", body):
         there[f"HK_E_{RENAMED.get(name.upper(), name.upper())}"] = -int(number)
+    there = {name: number for name, number in there.items() if name not in UNPUBLISHED}
     here = {name: number for name, number in c_header.codes(header).items() if name not in OF_C}
     for name in sorted(here.keys() | there.keys()):
         if here.get(name) != there.get(name):

@@ -19,8 +19,8 @@ class Call:
 
 
 def type_and_name(text):
-    """`const uint64_t *words` as ("const uint64_t *", "words")."""
-    found = re.fullmatch(r"(.*?)(\w+)", " ".join(text.split()))
+    """`const uint64_t *HK_RESTRICT words` as ("const uint64_t *", "words")."""
+    found = re.fullmatch(r"(.*?)(\w+)", " ".join(text.replace("HK_RESTRICT", "").split()))
     return found[1].strip(), found[2]
 
 
@@ -31,6 +31,11 @@ def parameters_of(text):
 def read():
     with open(HEADER, encoding="utf-8") as file:
         return file.read()
+
+
+def version(text):
+    """The version, as `0.1.0`."""
+    return ".".join(re.search(rf"#define HK_VERSION_{part} (\d+)", text)[1] for part in ("MAJOR", "MINOR", "PATCH"))
 
 
 def calls(text):

@@ -84,7 +84,7 @@ class Entry:
         words = list(self.arguments)
         for row in rows:
             kind = self.call.parameters[row.place][0]
-            cast = f"({kind})" if TYPE.get(row.value, kind) != kind else ""
+            cast = f"({kind})" if TYPE.get(row.value, kind) != kind.removeprefix("const ") else ""
             words[row.place] = "NULL" if row.value == "null" else cast + row.value
         return f"{self.call.name}({', '.join(words)})"
 
@@ -125,7 +125,7 @@ def most(name):
 def wanted(entry, place):
     """The values of an argument that the table has to have, by its type and name."""
     kind, name = entry.call.parameters[place]
-    if kind in HANDLES:
+    if kind.removeprefix("const ") in HANDLES:
         return {"null", *TYPE} - {entry.arguments[place]}
     if kind.endswith("*"):
         return {"null"}
