@@ -4,6 +4,7 @@
  * A handle is the address of a box of the proved side. An export takes a cell that holds this address: it empties the
  * cell, works, and puts the same address back. So a cell lives for one call. */
 #include "hokhtura.h"
+#include "hk_marks.h"
 
 #include <stdbool.h>
 
@@ -105,6 +106,7 @@ int64_t hk_hand_split(hk_hand *hand, hk_hand **out) {
 }
 
 void hk_hand_free(hk_hand *hand) {
+    gives(HK_MARK_END);
     (void)hkx_free(CELL(hand));
 }
 
@@ -175,10 +177,12 @@ static inline int64_t put(hk_hand *hand, size_t ring, const uint64_t *words, siz
 }
 
 int64_t hk_ring_try_put_bulk(hk_hand *hand, size_t ring, const uint64_t *words, size_t n) {
+    give_words(words, n);
     return put(hand, ring, words, n, true);
 }
 
 int64_t hk_ring_try_put_burst(hk_hand *hand, size_t ring, const uint64_t *words, size_t n) {
+    give_words(words, n);
     return put(hand, ring, words, n, false);
 }
 
@@ -192,11 +196,11 @@ static inline int64_t take(hk_hand *hand, size_t ring, uint64_t *words, size_t n
 }
 
 int64_t hk_ring_try_take_bulk(hk_hand *hand, size_t ring, uint64_t *words, size_t n) {
-    return take(hand, ring, words, n, true);
+    return got_words(words, n, take(hand, ring, words, n, true));
 }
 
 int64_t hk_ring_try_take_burst(hk_hand *hand, size_t ring, uint64_t *words, size_t n) {
-    return take(hand, ring, words, n, false);
+    return got_words(words, n, take(hand, ring, words, n, false));
 }
 
 static inline int64_t peek_put(hk_hand *hand, size_t ring, size_t n, bool bulk) {
@@ -225,16 +229,17 @@ static inline int64_t peek_take(hk_hand *hand, size_t ring, uint64_t *words, siz
 }
 
 int64_t hk_ring_peek_take_bulk(hk_hand *hand, size_t ring, uint64_t *words, size_t n) {
-    return peek_take(hand, ring, words, n, true);
+    return got_words(words, n, peek_take(hand, ring, words, n, true));
 }
 
 int64_t hk_ring_peek_take_burst(hk_hand *hand, size_t ring, uint64_t *words, size_t n) {
-    return peek_take(hand, ring, words, n, false);
+    return got_words(words, n, peek_take(hand, ring, words, n, false));
 }
 
 int64_t hk_ring_finish_put(hk_hand *hand, const uint64_t *words, size_t n) {
     int64_t code = refused(words, n);
     if (code < 0) return code;
+    give_words(words, n);
     struct hk_cell cell = {hand};
     if (!words) words = no_words;
     return settle_put(&cell, words, n, hkx_ring_finish_put(&cell, words, n));
@@ -262,13 +267,13 @@ int64_t hk_ring_room(const hk_hand *hand, size_t ring) {
 }
 
 int64_t hk_hand_close(hk_hand *hand) {
-    return hkx_hand_close(CELL(hand));
+    return saw(HK_MARK_END, hkx_hand_close(CELL(hand)));
 }
 
 int64_t hk_hand_drain(hk_hand *hand, size_t ring, uint64_t *words, size_t n) {
     int64_t code = refused(words, n);
     if (code < 0) return code;
-    return hkx_hand_drain(CELL(hand), ring, words ? words : no_words, n);
+    return got_words(words, n, hkx_hand_drain(CELL(hand), ring, words ? words : no_words, n));
 }
 
 /* ---- Pools ---- */
@@ -304,12 +309,13 @@ void hk_pool_free(hk_pool *pool) {
 int64_t hk_pool_try_get_bulk(hk_pool *pool, uint32_t *numbers, size_t n) {
     int64_t code = refused_numbers(numbers, n);
     if (code < 0) return code;
-    return hkx_pool_get(CELL(pool), numbers ? numbers : no_numbers, n);
+    return got_numbers(numbers, hkx_pool_get(CELL(pool), numbers ? numbers : no_numbers, n));
 }
 
 int64_t hk_pool_try_put_bulk(hk_pool *pool, const uint32_t *numbers, size_t n) {
     int64_t code = refused_numbers(numbers, n);
     if (code < 0) return code;
+    give_numbers(numbers, n);
     return hkx_pool_put(CELL(pool), numbers ? numbers : no_numbers, n);
 }
 
@@ -328,13 +334,14 @@ int64_t hk_pool_owns(const hk_pool *pool, uint32_t number) {
 int64_t hk_pool_try_send_bulk(hk_pool *pool, size_t ring, const uint32_t *numbers, size_t n) {
     int64_t code = refused_numbers(numbers, n);
     if (code < 0) return code;
+    give_numbers(numbers, n);
     return hkx_pool_send(CELL(pool), ring, numbers ? numbers : no_numbers, n);
 }
 
 int64_t hk_pool_try_receive_bulk(hk_pool *pool, size_t ring, uint32_t *numbers, size_t n) {
     int64_t code = refused_numbers(numbers, n);
     if (code < 0) return code;
-    return hkx_pool_receive(CELL(pool), ring, numbers ? numbers : no_numbers, n);
+    return got_numbers(numbers, hkx_pool_receive(CELL(pool), ring, numbers ? numbers : no_numbers, n));
 }
 
 /* ---- Routes ---- */
@@ -356,11 +363,11 @@ int64_t hk_routes_share(hk_routes *routes, hk_routes **out) {
 }
 
 int64_t hk_routes_add(hk_routes *routes, uint32_t address, uint32_t depth, uint32_t hop) {
-    return hkx_routes_add(CELL(routes), address, depth, hop);
+    return saw(HK_MARK_END, hkx_routes_add(CELL(routes), address, depth, hop));
 }
 
 int64_t hk_routes_remove(hk_routes *routes, uint32_t address, uint32_t depth) {
-    return hkx_routes_remove(CELL(routes), address, depth);
+    return saw(HK_MARK_END, hkx_routes_remove(CELL(routes), address, depth));
 }
 
 int64_t hk_routes_lookup(const hk_routes *routes, uint32_t address) {
@@ -375,6 +382,7 @@ int64_t hk_routes_lookup_bulk(const hk_routes *routes, const uint32_t *addresses
 }
 
 void hk_routes_free(hk_routes *routes) {
+    gives(HK_MARK_END);
     (void)hkx_free(CELL(routes));
 }
 
@@ -412,33 +420,34 @@ int64_t hk_fib_share(hk_fib *fib, hk_forward **out) {
 }
 
 int64_t hk_fib_add(hk_fib *fib, uint32_t address, uint32_t depth, uint32_t hop) {
-    return hkx_fib_add(CELL(fib), address, depth, hop);
+    return saw(HK_MARK_LET_GO, hkx_fib_add(CELL(fib), address, depth, hop));
 }
 
 int64_t hk_fib_remove(hk_fib *fib, uint32_t address, uint32_t depth) {
-    return hkx_fib_remove(CELL(fib), address, depth);
+    return saw(HK_MARK_LET_GO, hkx_fib_remove(CELL(fib), address, depth));
 }
 
 int64_t hk_fib_clear(hk_fib *fib) {
-    return hkx_fib_clear(CELL(fib));
+    return saw(HK_MARK_LET_GO, hkx_fib_clear(CELL(fib)));
 }
 
 int64_t hk_fib_set_hop(hk_fib *fib, uint32_t number, const hk_next_hop *hop) {
     if (!hop) return HK_E_NULL;
-    return hkx_fib_set_hop(CELL(fib), number, hop);
+    return saw(HK_MARK_LET_GO, hkx_fib_set_hop(CELL(fib), number, hop));
 }
 
 int64_t hk_fib_set_port(hk_fib *fib, uint32_t number, const hk_port *port) {
     if (!port) return HK_E_NULL;
-    return hkx_fib_set_port(CELL(fib), number, port);
+    return saw(HK_MARK_LET_GO, hkx_fib_set_port(CELL(fib), number, port));
 }
 
 int64_t hk_fib_publish(hk_fib *fib) {
-    return hkx_fib_publish(CELL(fib));
+    gives(HK_MARK_PUBLISH);
+    return saw(HK_MARK_LET_GO, hkx_fib_publish(CELL(fib)));
 }
 
 int64_t hk_fib_settle(hk_fib *fib) {
-    return hkx_fib_settle(CELL(fib));
+    return saw(HK_MARK_LET_GO, hkx_fib_settle(CELL(fib)));
 }
 
 int64_t hk_fib_pending(const hk_fib *fib) {
@@ -464,22 +473,24 @@ void hk_fib_free(hk_fib *fib) {
 }
 
 int64_t hk_forward_hold(hk_forward *forward) {
-    return hkx_forward_hold(CELL(forward));
+    return saw(HK_MARK_PUBLISH, hkx_forward_hold(CELL(forward)));
 }
 
 int64_t hk_forward_release(hk_forward *forward) {
+    gives(HK_MARK_LET_GO);
     return hkx_forward_release(CELL(forward));
 }
 
 int64_t hk_forward_lookup(hk_forward *forward, uint32_t address) {
-    return hkx_forward_lookup(CELL(forward), address);
+    return saw(HK_MARK_PUBLISH, hkx_forward_lookup(CELL(forward), address));
 }
 
 int64_t hk_forward_lookup_bulk(hk_forward *forward, const uint32_t *addresses, uint32_t *hops, size_t n) {
     static uint32_t none[1];
     if (n > SIZE_MAX / 8) return HK_E_COUNT;
     if (n > 0 && (!addresses || !hops)) return HK_E_NULL;
-    return hkx_forward_lookup_bulk(CELL(forward), addresses ? addresses : none, n, hops ? hops : none, n);
+    return saw(HK_MARK_PUBLISH, hkx_forward_lookup_bulk(CELL(forward), addresses ? addresses : none, n,
+                                                        hops ? hops : none, n));
 }
 
 /* ---- Forwarding of frames ---- */
@@ -493,13 +504,13 @@ static inline int64_t refused_frame(const hk_forward *forward, const void *bytes
 int64_t hk_forward_frame(hk_forward *forward, uint8_t *bytes, size_t held, size_t wire) {
     int64_t code = refused_frame(forward, bytes, held, wire);
     if (code < 0) return code;
-    return hkx_forward_frame(CELL(forward), bytes, held, wire);
+    return saw(HK_MARK_PUBLISH, hkx_forward_frame(CELL(forward), bytes, held, wire));
 }
 
 int64_t hk_forward_verdict(hk_forward *forward, const uint8_t *bytes, size_t held, size_t wire) {
     int64_t code = refused_frame(forward, bytes, held, wire);
     if (code < 0) return code;
-    return hkx_forward_verdict(CELL(forward), bytes, held, wire);
+    return saw(HK_MARK_PUBLISH, hkx_forward_verdict(CELL(forward), bytes, held, wire));
 }
 
 /* Checks the frames of a burst. */
@@ -518,15 +529,16 @@ int64_t hk_forward_burst(hk_forward *forward, const hk_frame *frames, uint32_t *
     if (!forward || (n > 0 && (!frames || !verdicts))) return HK_E_NULL;
     int64_t code = refused_frames(frames, n);
     if (code < 0) return code;
-    return hkx_forward_burst(CELL(forward), (hk_frame *)frames, n, verdicts, n);
+    return saw(HK_MARK_PUBLISH, hkx_forward_burst(CELL(forward), (hk_frame *)frames, n, verdicts, n));
 }
 
 int64_t hk_forward_class(hk_forward *forward, size_t port, const uint8_t *bytes, size_t held) {
     if (!forward || !bytes) return HK_E_NULL;
-    return hkx_forward_class(CELL(forward), port, bytes, held);
+    return saw(HK_MARK_PUBLISH, hkx_forward_class(CELL(forward), port, bytes, held));
 }
 
 void hk_forward_free(hk_forward *forward) {
+    gives(HK_MARK_LET_GO);
     struct hk_cell cell = {forward};
     (void)hkx_free(&cell);
 }

@@ -9,6 +9,10 @@
  * A call with a const handle changes nothing that other calls on it return. It is a call on that handle all the same:
  * two threads may not make it at the same time.
  *
+ * WHAT THREADS SEE. What a thread did before it put a word, or put or sent a number of a pool, is seen by the thread
+ * that takes that word, or gets or receives that number; what it did before hk_fib_publish, by a reader whose call is
+ * answered by that publish; what a reader did before hk_forward_release, by the writer once hk_fib_settle returns HK_OK.
+ *
  * RETURN VALUES. A call returns a count of 0 or more (HK_OK is 0), or a code below 0, `enum hk_code`. Unless a call
  * says otherwise, a code means that nothing was changed: no handle, no array, no ring. Of several mistakes a call
  * returns the first of these: HK_E_COUNT, if it is given an array of words, numbers, addresses or frames and a count

@@ -10,7 +10,7 @@
 enum { SENDERS = 2, TAKERS = 2, LONGEST = 32 };
 
 static uint64_t each = 5000000;
-static _Atomic unsigned char *met;
+static unsigned char *met;
 static _Atomic uint64_t gone, pending, wrong;
 
 struct job {
@@ -89,7 +89,7 @@ static void cross(uint32_t put, uint32_t take, size_t burst) {
     IS(hk_ring_count(hand, 0), 0);
     IS(hk_hand_close(hand), HK_OK);
     hk_hand_free(hand);
-    free((void *)met);
+    free(met);
 }
 
 int main(int argc, char **argv) {
