@@ -26,7 +26,8 @@
     X(HK_E_LATE, "the number's turn has passed")                              \
     X(HK_E_EARLY, "the number is a whole window or more ahead")               \
     X(HK_E_DOUBLE, "a word with this number is already waiting")              \
-    X(HK_E_NOTHING, "the word whose turn it is hasn't arrived")
+    X(HK_E_NOTHING, "the word whose turn it is hasn't arrived")               \
+    X(HK_E_BEGUN, "memory was asked for already, or an allocator is set")
 
 uint32_t hk_version(void) {
     return HK_VERSION;

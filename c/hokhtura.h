@@ -11,7 +11,8 @@
  *
  * WHAT THREADS SEE. What a thread did before it put a word, or put or sent a number of a pool, is seen by the thread
  * that takes that word, or gets or receives that number; what it did before hk_fib_publish, by a reader whose call is
- * answered by that publish; what a reader did before hk_forward_release, by the writer once hk_fib_settle returns HK_OK.
+ * answered by that publish; what a reader did before hk_forward_release, by the writer once hk_fib_settle returns
+ * HK_OK.
  *
  * RETURN VALUES. A call returns a count of 0 or more (HK_OK is 0), or a code below 0, `enum hk_code`. Unless a call
  * says otherwise, a code means that nothing was changed: no handle, no array, no ring. Of several mistakes a call
@@ -24,14 +25,14 @@
  * that finishes only the second. If other threads come first, a call tries each of its steps 1,024 times at most, the
  * first try included, with a pause of the processor before each further one.
  *
- * MEMORY. Only calls marked [memory] allocate memory, with aligned_alloc of the C library: a block begins on a cache
- * line. If they return HK_E_MEMORY, nothing was changed. Freeing a handle frees its memory; freeing the last one also
+ * MEMORY. Only calls marked [memory] allocate memory, with aligned_alloc of the C library or with what
+ * hk_set_allocator was given: a block begins on a cache line. If they return HK_E_MEMORY, nothing was changed. Freeing a handle frees its memory; freeing the last one also
  * frees what they share.
  *
  * WHAT A CALL CAN'T SEE, and the caller must avoid: a handle that was freed; one handle in two calls at once; an array
  * with fewer places than the count that is given, or that overlaps another argument; a frame that overlaps another one
- * of the same call; a call from a signal handler, or in the child of a process with threads after fork. Everything else
- * returns a code. */
+ * of the same call; an allocator that doesn't do what is said of it; a call from a signal handler, or in the child of a
+ * process with threads after fork. Everything else returns a code. */
 #ifndef HOKHTURA_H
 #define HOKHTURA_H 1
 
@@ -90,7 +91,8 @@ enum hk_code {
     HK_E_LATE = -24,    /* the number's turn has passed */
     HK_E_EARLY = -25,   /* the number is a whole window or more ahead, or is 2^64 - 1 */
     HK_E_DOUBLE = -26,  /* a word with this number is already waiting */
-    HK_E_NOTHING = -27  /* the word whose turn it is hasn't arrived */
+    HK_E_NOTHING = -27, /* the word whose turn it is hasn't arrived */
+    HK_E_BEGUN = -28    /* memory was asked for already, or the program's own allocator is set */
 };
 
 /* The version of the library that the program runs with: HK_VERSION of the header it was built with. Any thread. */
@@ -99,6 +101,27 @@ HK_API uint32_t hk_version(void);
  * HK_OK, and a number that is no code "no code of hokhtura". Any thread. */
 HK_API const char *hk_strerror(int64_t code);
 HK_API const char *hk_code_name(int64_t code);
+
+/* ---- Memory of the program's own --------------------------------------------------------------------------------- */
+
+/* An allocator, for huge pages or the memory of one NUMA node. Any thread may call it, and several at once.
+ *
+ * `allocate` returns a block of `size` bytes, or null. `size` is a multiple of 64, a cache line, and each block should
+ * begin on a line; it has to begin at a multiple of 16.
+ * `resize` returns such a block whose first `kept` bytes are those of the block `at`, and releases `at`; or null, and
+ * leaves `at` as it is. `kept` is at most `size`. It may be a null pointer: then blocks are allocated, copied and
+ * released.
+ * `release` takes back a block of the other two. */
+typedef struct hk_allocator {
+    void *(*allocate)(size_t size);
+    void *(*resize)(void *at, size_t kept, size_t size);
+    void (*release)(void *at);
+} hk_allocator;
+
+/* Sets the allocator of all handles, which is copied: once, before the first call marked [memory]. Without it memory
+ * comes from aligned_alloc and goes back by free. Any thread. HK_E_NULL, also if `allocate` or `release` is null;
+ * HK_E_BEGUN. */
+HK_API HK_CHECKED int64_t hk_set_allocator(const hk_allocator *allocator);
 
 /* ---- Rings ------------------------------------------------------------------------------------------------------- */
 

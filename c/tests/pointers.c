@@ -1,7 +1,7 @@
 /* Pointers pass over rings, with plain memory behind them: two threads lend out messages, two answer them and send
  * them back over a second ring. A message is with one thread at a time, so nothing of it is atomic, and no other atomic
- * orders the threads. In each pair of modes by puts and takes, and by peeks on head/tail-sync sides. The sanitizers have
- * to find nothing. An argument is another number of messages for all threads together. */
+ * orders the threads. In each pair of modes by puts and takes, and by peeks on head/tail-sync sides. The sanitizers
+ * have to find nothing. An argument is another number of messages for all threads together. */
 #include "tests.h"
 
 #include <pthread.h>

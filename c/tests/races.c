@@ -1,6 +1,6 @@
 /* Programs with a race, which ThreadSanitizer has to report. With the argument `ring` a buffer is written by the thread
- * that put its pointer on a ring, and with `pool` by the thread that sent its number; with `ahead` a buffer is used by a
- * thread that took another one. With `none` there is no race. */
+ * that put its pointer on a ring, and with `pool` by the thread that sent its number; with `ahead` a buffer is used by
+ * a thread that took another one. With `none` there is no race. */
 #include "tests.h"
 
 #include <pthread.h>

@@ -37,6 +37,12 @@ static const hk_port one_port[1] = {{0x0a000001, {2, 0, 0, 0, 0, 1}, 24, 0}};
 static const hk_next_hop one_hop[1] = {{0, {2, 0, 0, 0, 0, 2}}};
 static hk_fib_route found;
 
+/* Allocators that come too late, and two that lack a call. */
+#define ALLOCATOR(first, last) ((hk_allocator){first, NULL, last})
+#define NO_ALLOCATE ALLOCATOR(NULL, free)
+#define NO_RELEASE ALLOCATOR(malloc, NULL)
+static const hk_allocator late = {malloc, NULL, free};
+
 /* Numbers of the pool: two that its handle got, and pairs with one that may not be put. */
 static uint32_t own[2], free_ones[2], twice[2], cached[2], high[2], highest[2];
 

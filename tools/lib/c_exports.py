@@ -23,7 +23,7 @@ FIELDS = {"Port": "live_routes/src/ports.rt", "Hop": "ipv4/src/ports.rt", "Frame
 # A code of C whose name isn't that of the fault in capital letters.
 RENAMED = {"EMPTY": "NULL"}
 # A code that the C side alone returns.
-OF_C = {"HK_OK", "HK_E_NOTHING"}
+OF_C = {"HK_OK", "HK_E_NOTHING", "HK_E_BEGUN"}
 # A fault that no call of C can meet: its handles are empty where one is made.
 UNPUBLISHED = {"HK_E_USED"}
 LIMITS = {"HK_MOST": [("capi/src/rings/member.rt", "MOST"), ("capi/src/reorder_windows.rt", "MOST")],
