@@ -26,8 +26,8 @@
  * first try included, with a pause of the processor before each further one.
  *
  * MEMORY. Only calls marked [memory] allocate memory, with aligned_alloc of the C library or with what
- * hk_set_allocator was given: a block begins on a cache line. If they return HK_E_MEMORY, nothing was changed. Freeing a handle frees its memory; freeing the last one also
- * frees what they share.
+ * hk_set_allocator was given: a block begins on a cache line. If they return HK_E_MEMORY, nothing was changed.
+ * Freeing a handle frees its memory; freeing the last one also frees what they share.
  *
  * WHAT A CALL CAN'T SEE, and the caller must avoid: a handle that was freed; one handle in two calls at once; an array
  * with fewer places than the count that is given, or that overlaps another argument; a frame that overlaps another one

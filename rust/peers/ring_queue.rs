@@ -110,7 +110,7 @@ impl<T> RingQueue<T> {
 
     pub fn len(&self) -> usize {
         loop {
-            match self.with(|hand| hand.count()) {
+            match self.with(|hand| hand.len()) {
                 Ok(count) => return count,
                 Err(_) => std::hint::spin_loop(),
             }

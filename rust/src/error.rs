@@ -1,5 +1,5 @@
 //! Why a call did nothing.
-use std::fmt;
+use core::fmt;
 
 macro_rules! errors {
     ($($(#[$doc:meta])* $name:ident = $number:literal, $text:literal;)*) => {
@@ -14,6 +14,7 @@ macro_rules! errors {
 
         impl Error {
             /// The number of the code in `hokhtura.h`, which is below 0.
+            #[must_use]
             pub fn code(self) -> i64 {
                 match self {
                     $(Error::$name => -$number,)*
@@ -89,7 +90,7 @@ errors! {
     Double = 26, "a word with this number is already waiting";
 }
 
-impl std::error::Error for Error {}
+impl core::error::Error for Error {}
 
 /// The count that a call returned, or its error.
 #[inline]

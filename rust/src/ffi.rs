@@ -148,8 +148,7 @@ extern "C" {
 }
 
 /// `hk_fib_open` or `hk_fib_open_whole`.
-pub type OpenFib =
-    unsafe extern "C" fn(*mut *mut Fib, u32, u32, *const Port, usize, *const Hop, usize) -> i64;
+pub type OpenFib = unsafe extern "C" fn(*mut *mut Fib, u32, u32, *const Port, usize, *const Hop, usize) -> i64;
 
 /// What `hk_reorder_pop` and `hk_reorder_drain` return if the word hasn't arrived.
 pub const NOTHING: i64 = -27;

@@ -3,10 +3,12 @@ use crate::error::{answer, Error};
 use crate::ffi;
 use crate::forward::{Forwarder, NextHop, Port};
 use crate::routes::FirstLevel;
-use std::fmt;
-use std::marker::PhantomData;
-use std::net::Ipv4Addr;
-use std::ptr::{null_mut, NonNull};
+use alloc::vec::Vec;
+use core::fmt;
+use core::iter::FusedIterator;
+use core::marker::PhantomData;
+use core::net::Ipv4Addr;
+use core::ptr::{null_mut, NonNull};
 
 /// A route: the first `depth` bits of an address, whose other bits are 0, and the number of its next hop.
 #[derive(Clone, Copy, Debug, PartialEq, Eq, Hash)]
@@ -77,7 +79,7 @@ impl Fib {
         let hops: Vec<_> = hops.iter().map(NextHop::plan).collect();
         let (bits, mut at) = (first.bits(), null_mut());
         let (first, second) = (ports.as_ptr(), hops.as_ptr());
-        answer(unsafe { call(&mut at, bits, groups, first, ports.len(), second, hops.len()) })?;
+        answer(unsafe { call(&raw mut at, bits, groups, first, ports.len(), second, hops.len()) })?;
         Ok(Fib(NonNull::new(at).ok_or(Error::Null)?, PhantomData))
     }
 
@@ -88,7 +90,7 @@ impl Fib {
     /// `Memory`.
     pub fn reader(&mut self) -> Result<Forwarder, Error> {
         let mut at = null_mut();
-        answer(unsafe { ffi::hk_fib_share(self.0.as_ptr(), &mut at) })?;
+        answer(unsafe { ffi::hk_fib_share(self.0.as_ptr(), &raw mut at) })?;
         Forwarder::of(at)
     }
 
@@ -159,6 +161,7 @@ impl Fib {
     }
 
     /// How many changes readers don't see yet.
+    #[must_use]
     pub fn pending(&self) -> usize {
         answer(unsafe { ffi::hk_fib_pending(self.0.as_ptr()) }).unwrap_or(0)
     }
@@ -168,29 +171,34 @@ impl Fib {
     /// # Errors
     ///
     /// `Depth`, `NoRoute`.
+    #[allow(clippy::cast_possible_truncation)] // a hop is below 2^24
     pub fn get(&self, address: Ipv4Addr, depth: u32) -> Result<u32, Error> {
         answer(unsafe { ffi::hk_fib_get(self.0.as_ptr(), address.into(), depth) }).map(|hop| hop as u32)
     }
 
     /// How many routes there are, with what is drawn up.
+    #[must_use]
     pub fn len(&self) -> usize {
         answer(unsafe { ffi::hk_fib_count(self.0.as_ptr()) }).unwrap_or(0)
     }
 
     /// Whether there is none.
+    #[must_use]
     pub fn is_empty(&self) -> bool {
         self.len() == 0
     }
 
     /// All routes, with what is drawn up, in the order of addresses and then of depths.
-    pub fn iter(&self) -> impl Iterator<Item = Route> + '_ {
+    #[must_use]
+    pub fn iter(&self) -> impl FusedIterator<Item = Route> + '_ {
         let mut from = (0, 0);
-        std::iter::from_fn(move || {
+        core::iter::from_fn(move || {
             let mut found = ffi::FibRoute { address: 0, depth: 0, hop: 0 };
-            answer(unsafe { ffi::hk_fib_walk(self.0.as_ptr(), from.0, from.1, &mut found) }).ok()?;
+            answer(unsafe { ffi::hk_fib_walk(self.0.as_ptr(), from.0, from.1, &raw mut found) }).ok()?;
             from = (found.address, found.depth + 1);
             Some(Route { address: found.address.into(), depth: found.depth, hop: found.hop })
         })
+        .fuse()
     }
 }
 

@@ -1,10 +1,10 @@
 //! Forwarding of frames in place.
 use crate::error::{answer, Error};
 use crate::ffi;
-use std::fmt;
-use std::marker::PhantomData;
-use std::net::Ipv4Addr;
-use std::ptr::NonNull;
+use core::fmt;
+use core::marker::PhantomData;
+use core::net::Ipv4Addr;
+use core::ptr::NonNull;
 
 /// The largest number of frames in one burst.
 pub const FORWARD_MOST: usize = 64;
@@ -77,8 +77,9 @@ pub enum Verdict {
 }
 
 impl Verdict {
+    #[allow(clippy::cast_possible_truncation)] // a port is below 2^16
     fn of(number: u32) -> Verdict {
-        use Reason::*;
+        use Reason::{BadChecksum, BadHeader, BadLength, Expired, NoRoute, NotIpv4, Short};
         if number < DROP {
             return Verdict::Send { port: (number % TAGGED) as u16, tagged: number >= TAGGED };
         }
@@ -89,6 +90,7 @@ impl Verdict {
 
 /// What a frame is addressed to; the last three are false if it has no IPv4 packet.
 #[derive(Clone, Copy, Debug, PartialEq, Eq, Hash)]
+#[allow(clippy::struct_excessive_bools)] // they are the bits of `hk_forward_class`
 pub struct Addressed {
     /// The hardware address of the port that it came in through.
     pub port: bool,
@@ -159,6 +161,7 @@ impl Forwarder {
     }
 
     /// The number of the next hop of the longest published route that covers an address.
+    #[must_use]
     pub fn lookup(&self, address: Ipv4Addr) -> Option<u32> {
         u32::try_from(unsafe { ffi::hk_forward_lookup(self.0.as_ptr(), address.into()) }).ok()
     }
@@ -229,6 +232,7 @@ impl Forwarder {
     }
 }
 
+#[allow(clippy::cast_possible_truncation)] // a verdict has 32 bits
 fn verdict(number: usize) -> Verdict {
     Verdict::of(number as u32)
 }
@@ -237,7 +241,7 @@ fn verdict(number: usize) -> Verdict {
 #[derive(Debug)]
 pub struct Held<'a>(&'a Forwarder);
 
-impl std::ops::Deref for Held<'_> {
+impl core::ops::Deref for Held<'_> {
     type Target = Forwarder;
 
     fn deref(&self) -> &Forwarder {

@@ -2,8 +2,8 @@
 use crate::error::{answer, Error};
 use crate::ffi;
 use crate::word::Word;
-use std::marker::PhantomData;
-use std::ptr::{null_mut, NonNull};
+use core::marker::PhantomData;
+use core::ptr::{null_mut, NonNull};
 
 /// How calls on one side of a ring share it.
 #[derive(Clone, Copy, Debug, PartialEq, Eq, Hash)]
@@ -23,8 +23,8 @@ impl Mode {
     }
 }
 
-/// A hand on a ring of words. The marker makes it neither `Send` nor `Sync` by itself.
-pub(crate) struct Hand<T>(NonNull<ffi::Hand>, PhantomData<(T, *mut u8)>);
+/// A hand on a ring of words, and how many the ring holds. The marker makes it neither `Send` nor `Sync` by itself.
+pub(crate) struct Hand<T>(NonNull<ffi::Hand>, usize, PhantomData<(T, *mut u8)>);
 
 // A hand may go to another thread with the words that it may take. It isn't `Sync`: no two calls overlap.
 unsafe impl<T: Send> Send for Hand<T> {}
@@ -39,14 +39,14 @@ impl<T: Word> Hand<T> {
         let size = u32::try_from(capacity).map_err(|_| Error::Plan)?;
         let plan = ffi::Plan { size, exact: 1, put: put.number(), take: take.number() };
         let mut at = null_mut();
-        let code = unsafe { ffi::hk_hand_open(&mut at, &plan, 1) };
-        Ok(Hand(made(at, code)?, PhantomData))
+        let code = unsafe { ffi::hk_hand_open(&raw mut at, &raw const plan, 1) };
+        Ok(Hand(made(at, code)?, capacity, PhantomData))
     }
 
     pub(crate) fn split(&mut self) -> Result<Self, Error> {
         let mut at = null_mut();
-        let code = unsafe { ffi::hk_hand_split(self.0.as_ptr(), &mut at) };
-        Ok(Hand(made(at, code)?, PhantomData))
+        let code = unsafe { ffi::hk_hand_split(self.0.as_ptr(), &raw mut at) };
+        Ok(Hand(made(at, code)?, self.1, PhantomData))
     }
 
     pub(crate) fn put(&mut self, words: &[T], bulk: bool) -> Result<usize, Error> {
@@ -79,6 +79,10 @@ impl<T: Word> Hand<T> {
 
     pub(crate) fn finish_take(&mut self, n: usize) -> Result<usize, Error> {
         answer(unsafe { ffi::hk_ring_finish_take(self.0.as_ptr(), n) })
+    }
+
+    pub(crate) fn capacity(&self) -> usize {
+        self.1
     }
 
     pub(crate) fn left(&self) -> usize {

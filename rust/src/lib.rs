@@ -16,8 +16,20 @@
 //! # Ok(())
 //! # }
 //! ```
+//!
+//! The crate is `no_std` and needs `alloc`. With the feature `std`, which is on by default, iterators that wait let
+//! other threads run; without it they spin.
+//!
+//! The memory orders of the library's atomics aren't explored by loom or another model checker here: every atomic
+//! step is on the proved side, which is proved for sequentially consistent atomics, and this crate has none of its
+//! own.
+#![no_std]
 #![deny(missing_docs)]
-#![warn(unsafe_op_in_unsafe_fn)]
+#![warn(unsafe_op_in_unsafe_fn, clippy::pedantic)]
+
+extern crate alloc;
+#[cfg(feature = "std")]
+extern crate std;
 
 mod error;
 mod ffi;
@@ -25,6 +37,7 @@ mod fib;
 mod forward;
 mod hand;
 mod pool;
+mod queue;
 mod reorder;
 mod ring;
 mod routes;
@@ -35,6 +48,7 @@ pub use fib::{Fib, Route};
 pub use forward::{Addressed, Forwarder, Frame, Held, NextHop, Port, Reason, Verdict, FORWARD_MOST};
 pub use hand::Mode;
 pub use pool::{Pool, POOL_MOST};
+pub use queue::Queue;
 pub use reorder::{InTurn, Reorder};
 pub use ring::{Consumer, Left, Producer, Ring, Taken};
 pub use routes::{FirstLevel, Routes};
@@ -42,3 +56,11 @@ pub use word::Word;
 
 /// The largest number of words in one call.
 pub const MOST: usize = 1024;
+
+/// What a thread does that waits for another one.
+pub(crate) fn relax() {
+    #[cfg(feature = "std")]
+    std::thread::yield_now();
+    #[cfg(not(feature = "std"))]
+    core::hint::spin_loop();
+}

@@ -1,9 +1,9 @@
 //! A pool of numbers, with a cache for each thread.
 use crate::error::{answer, Error};
 use crate::ffi;
-use std::fmt;
-use std::marker::PhantomData;
-use std::ptr::{null_mut, NonNull};
+use core::fmt;
+use core::marker::PhantomData;
+use core::ptr::{null_mut, NonNull};
 
 /// The largest count of numbers in one call on a pool.
 pub const POOL_MOST: usize = 512;
@@ -42,7 +42,7 @@ impl Pool {
     pub fn new(n: usize, cache: usize, rings: usize) -> Result<Self, Error> {
         let part = |size: usize| u32::try_from(size).map_err(|_| Error::Plan);
         let mut at = null_mut();
-        answer(unsafe { ffi::hk_pool_open(&mut at, part(n)?, part(cache)?, part(rings)?) })?;
+        answer(unsafe { ffi::hk_pool_open(&raw mut at, part(n)?, part(cache)?, part(rings)?) })?;
         Ok(Pool(NonNull::new(at).ok_or(Error::Null)?, PhantomData))
     }
 
@@ -53,7 +53,7 @@ impl Pool {
     /// `Parts`, `Memory`.
     pub fn split(&mut self) -> Result<Self, Error> {
         let mut at = null_mut();
-        answer(unsafe { ffi::hk_pool_split(self.0.as_ptr(), &mut at) })?;
+        answer(unsafe { ffi::hk_pool_split(self.0.as_ptr(), &raw mut at) })?;
         Ok(Pool(NonNull::new(at).ok_or(Error::Null)?, PhantomData))
     }
 
@@ -85,11 +85,13 @@ impl Pool {
     }
 
     /// How many numbers are cached.
+    #[must_use]
     pub fn cached(&self) -> usize {
         answer(unsafe { ffi::hk_pool_cached(self.0.as_ptr()) }).unwrap_or(0)
     }
 
     /// Whether this handle has a number, cached or not.
+    #[must_use]
     pub fn owns(&self, number: u32) -> bool {
         unsafe { ffi::hk_pool_owns(self.0.as_ptr(), number) == 1 }
     }

@@ -2,9 +2,10 @@
 use crate::error::{answer, Error};
 use crate::ffi;
 use crate::word::{bits, of_bits, Word};
-use std::fmt;
-use std::marker::PhantomData;
-use std::ptr::{null_mut, NonNull};
+use core::fmt;
+use core::iter::FusedIterator;
+use core::marker::PhantomData;
+use core::ptr::{null_mut, NonNull};
 
 /// Words that wait for their turn, each with its number.
 pub struct Reorder<T: Word>(NonNull<ffi::Window>, PhantomData<(T, *mut u8)>);
@@ -32,7 +33,7 @@ impl<T: Word> Reorder<T> {
     pub fn new(size: usize) -> Result<Self, Error> {
         let size = u32::try_from(size).map_err(|_| Error::Plan)?;
         let mut at = null_mut();
-        answer(unsafe { ffi::hk_reorder_open(&mut at, size) })?;
+        answer(unsafe { ffi::hk_reorder_open(&raw mut at, size) })?;
         Ok(Reorder(NonNull::new(at).ok_or(Error::Null)?, PhantomData))
     }
 
@@ -48,7 +49,7 @@ impl<T: Word> Reorder<T> {
     /// Takes the word whose turn it is, if it has arrived.
     pub fn pop(&mut self) -> Option<T> {
         let mut word = 0;
-        let code = unsafe { ffi::hk_reorder_pop(self.0.as_ptr(), &mut word) };
+        let code = unsafe { ffi::hk_reorder_pop(self.0.as_ptr(), &raw mut word) };
         debug_assert!(code == 0 || code == ffi::NOTHING);
         // A word of the window was inserted as a `T`.
         (code == 0).then(|| unsafe { of_bits(word) })
@@ -73,9 +74,10 @@ impl<T: Word> Reorder<T> {
     }
 
     /// The number whose turn it is.
+    #[must_use]
     pub fn next_number(&self) -> u64 {
         let mut number = 0;
-        let code = unsafe { ffi::hk_reorder_next(self.0.as_ptr(), &mut number) };
+        let code = unsafe { ffi::hk_reorder_next(self.0.as_ptr(), &raw mut number) };
         debug_assert!(code == 0);
         number
     }
@@ -104,6 +106,8 @@ impl<T: Word> fmt::Debug for Reorder<T> {
 pub struct InTurn<'w, T: Word> {
     window: &'w mut Reorder<T>,
 }
+
+impl<T: Word> FusedIterator for InTurn<'_, T> {}
 
 impl<T: Word> Iterator for InTurn<'_, T> {
     type Item = T;

@@ -1,8 +1,10 @@
 //! A ring of words, and the two ends of it.
 use crate::error::Error;
 use crate::hand::{Hand, Mode};
+use crate::relax;
 use crate::word::{of_bits, Word};
-use std::fmt;
+use core::fmt;
+use core::iter::FusedIterator;
 
 /// A ring of words, with this thread's hand on it. Other threads use hands that are split off.
 pub struct Ring<T: Word> {
@@ -31,7 +33,11 @@ macro_rules! puts {
             self.hand.put(words, true)
         }
 
-        /// Puts as many words as there is room for, from the front. Returns how many. Errors: those of `try_put_bulk`.
+        /// Puts as many words as there is room for, from the front. Returns how many.
+        ///
+        /// # Errors
+        ///
+        /// Those of `try_put_bulk`.
         pub fn try_put_burst(&mut self, words: &[T]) -> Result<usize, Error> {
             self.hand.put(words, false)
         }
@@ -46,6 +52,10 @@ macro_rules! puts {
         }
 
         /// How many more words there is room for. Others may have put or taken some since.
+        ///
+        /// # Errors
+        ///
+        /// `Open`: a call is pending. `Again`: another thread was in the middle of a call on a head/tail-sync side.
         pub fn room(&self) -> Result<usize, Error> {
             self.hand.room()
         }
@@ -65,7 +75,11 @@ macro_rules! takes {
         }
 
         /// Takes as many words as are queued and have a place, the oldest first. Returns how many are at the front of
-        /// the slice. Errors: those of `try_take_bulk`.
+        /// the slice.
+        ///
+        /// # Errors
+        ///
+        /// Those of `try_take_bulk`.
         pub fn try_take_burst(&mut self, words: &mut [T]) -> Result<usize, Error> {
             self.hand.take(words, false)
         }
@@ -79,15 +93,56 @@ macro_rules! takes {
             self.hand.finish_take(n)
         }
 
-        /// How many words are queued. Others may have put or taken some since.
-        pub fn count(&self) -> Result<usize, Error> {
-            self.hand.count()
-        }
-
         /// The words that are queued, one after the other, until none is left or other threads come first. Each is
         /// taken as it is returned. It waits for a thread that is at work on the same side.
         pub fn taken(&mut self) -> Taken<'_, T> {
-            Taken { hand: &mut self.hand }
+            Taken { hand: &mut self.hand, ended: false }
+        }
+    };
+}
+
+macro_rules! both {
+    () => {
+        /// How many words are queued. Others may have put or taken some since.
+        ///
+        /// # Errors
+        ///
+        /// `Open`: a call is pending. `Again`: another thread was in the middle of a call on a head/tail-sync side.
+        pub fn len(&self) -> Result<usize, Error> {
+            self.hand.count()
+        }
+
+        /// Whether no word is queued. Others may have put some since.
+        ///
+        /// # Errors
+        ///
+        /// Those of `len`.
+        pub fn is_empty(&self) -> Result<bool, Error> {
+            self.len().map(|count| count == 0)
+        }
+
+        /// How many words the ring holds.
+        #[must_use]
+        pub fn capacity(&self) -> usize {
+            self.hand.capacity()
+        }
+
+        /// What the last call found besides what it did: how much more room there was, or how many more words.
+        #[must_use]
+        pub fn left(&self) -> usize {
+            self.hand.left()
+        }
+
+        /// Closes the ring, by its only hand, and returns the words that are left.
+        ///
+        /// # Errors
+        ///
+        /// `Shared` while there are other hands; `Open`. The hand is returned with the error.
+        pub fn close(mut self) -> Result<Left<T>, (Self, Error)> {
+            match self.hand.close() {
+                Ok(_) => Ok(Left { hand: self.hand }),
+                Err(error) => Err((self, error)),
+            }
         }
     };
 }
@@ -103,6 +158,10 @@ impl<T: Word> Ring<T> {
     }
 
     /// The same with a mode for each side.
+    ///
+    /// # Errors
+    ///
+    /// `Plan`, `Memory`.
     pub fn with_modes(capacity: usize, put: Mode, take: Mode) -> Result<Self, Error> {
         Ok(Ring { hand: Hand::open(capacity, put, take)? })
     }
@@ -137,27 +196,12 @@ impl<T: Word> Ring<T> {
 
     puts!();
     takes!();
-
-    /// What the last call found besides what it did: how much more room there was, or how many more words.
-    pub fn left(&self) -> usize {
-        self.hand.left()
-    }
-
-    /// Closes the ring, by its only hand, and returns the words that are left.
-    ///
-    /// # Errors
-    ///
-    /// `Shared` while there are other hands; `Open`. The ring is returned with the error.
-    pub fn close(mut self) -> Result<Left<T>, (Self, Error)> {
-        match self.hand.close() {
-            Ok(_) => Ok(Left { hand: self.hand }),
-            Err(error) => Err((self, error)),
-        }
-    }
+    both!();
 }
 
 impl<T: Word> Producer<T> {
     puts!();
+    both!();
 
     /// A producer for another thread.
     ///
@@ -171,6 +215,7 @@ impl<T: Word> Producer<T> {
 
 impl<T: Word> Consumer<T> {
     takes!();
+    both!();
 
     /// A consumer for another thread.
     ///
@@ -182,27 +227,36 @@ impl<T: Word> Consumer<T> {
     }
 }
 
-/// The words of a ring, as they are taken one by one.
+/// The words of a ring, as they are taken one by one. Once it returned `None` it takes no more.
+#[must_use]
 pub struct Taken<'r, T: Word> {
     hand: &'r mut Hand<T>,
+    ended: bool,
 }
 
 impl<T: Word> Iterator for Taken<'_, T> {
     type Item = T;
 
     fn next(&mut self) -> Option<T> {
+        if self.ended {
+            return None;
+        }
         let mut word = 0;
         let mut taken = self.hand.take_one(&mut word);
         while taken == Err(Error::Pending) {
-            std::thread::yield_now();
+            relax();
             taken = self.hand.finish_take(1);
         }
+        self.ended = taken != Ok(1);
         // A word that was taken was put as a `T`.
-        (taken == Ok(1)).then(|| unsafe { of_bits(word) })
+        (!self.ended).then(|| unsafe { of_bits(word) })
     }
 }
 
+impl<T: Word> FusedIterator for Taken<'_, T> {}
+
 /// The words that were left on a ring when it was closed, the oldest first.
+#[must_use]
 pub struct Left<T: Word> {
     hand: Hand<T>,
 }
@@ -218,6 +272,8 @@ impl<T: Word> Iterator for Left<T> {
     }
 }
 
+impl<T: Word> FusedIterator for Left<T> {}
+
 macro_rules! debugs {
     ($($name:ident),*) => {
         $(impl<T: Word> fmt::Debug for $name<T> {
@@ -229,3 +285,9 @@ macro_rules! debugs {
 }
 
 debugs!(Ring, Producer, Consumer, Left);
+
+impl<T: Word> fmt::Debug for Taken<'_, T> {
+    fn fmt(&self, f: &mut fmt::Formatter<'_>) -> fmt::Result {
+        f.debug_struct("Taken").field("ended", &self.ended).finish_non_exhaustive()
+    }
+}

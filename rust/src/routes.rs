@@ -1,10 +1,10 @@
 //! Routes by longest prefix.
 use crate::error::{answer, Error};
 use crate::ffi;
-use std::fmt;
-use std::marker::PhantomData;
-use std::net::Ipv4Addr;
-use std::ptr::{null_mut, NonNull};
+use core::fmt;
+use core::marker::PhantomData;
+use core::net::Ipv4Addr;
+use core::ptr::{null_mut, NonNull};
 
 /// How many of an address's first bits select an entry of the first level.
 #[derive(Clone, Copy, Debug, PartialEq, Eq, Hash)]
@@ -51,7 +51,7 @@ impl Routes {
     /// ```
     pub fn new(first: FirstLevel, groups: u32) -> Result<Self, Error> {
         let mut at = null_mut();
-        answer(unsafe { ffi::hk_routes_open(&mut at, first.bits(), groups) })?;
+        answer(unsafe { ffi::hk_routes_open(&raw mut at, first.bits(), groups) })?;
         Ok(Routes(NonNull::new(at).ok_or(Error::Null)?, PhantomData))
     }
 
@@ -62,7 +62,7 @@ impl Routes {
     /// `Memory`.
     pub fn share(&self) -> Result<Self, Error> {
         let mut at = null_mut();
-        answer(unsafe { ffi::hk_routes_share(self.0.as_ptr(), &mut at) })?;
+        answer(unsafe { ffi::hk_routes_share(self.0.as_ptr(), &raw mut at) })?;
         Ok(Routes(NonNull::new(at).ok_or(Error::Null)?, PhantomData))
     }
 
@@ -85,6 +85,7 @@ impl Routes {
     }
 
     /// The next hop of the longest route that covers an address.
+    #[must_use]
     pub fn lookup(&self, address: Ipv4Addr) -> Option<u32> {
         u32::try_from(unsafe { ffi::hk_routes_lookup(self.0.as_ptr(), address.into()) }).ok()
     }

@@ -1,5 +1,5 @@
 //! What rings and windows carry.
-use std::ptr::NonNull;
+use core::ptr::NonNull;
 
 /// A value of 64 bits, which a ring copies as it is.
 ///
@@ -29,7 +29,7 @@ unsafe impl<T> Word for &'static T {}
 pub(crate) fn bits<T: Word>(word: T) -> u64 {
     const { assert!(size_of::<T>() == 8 && align_of::<T>() == 8) };
     // A `Word` has as many bits as a `u64`, and no padding.
-    unsafe { std::mem::transmute_copy(&word) }
+    unsafe { core::mem::transmute_copy(&word) }
 }
 
 /// The word that has these bits.
@@ -40,5 +40,5 @@ pub(crate) fn bits<T: Word>(word: T) -> u64 {
 pub(crate) unsafe fn of_bits<T: Word>(bits: u64) -> T {
     const { assert!(size_of::<T>() == 8) };
     // The caller has them from a ring or a window of this type.
-    unsafe { std::mem::transmute_copy(&bits) }
+    unsafe { core::mem::transmute_copy(&bits) }
 }

@@ -1,6 +1,6 @@
 //! Forwarding of frames. What becomes of each kind of frame is tested from C; here that the crate passes it on.
-use hokhtura::{Addressed, Error, Fib, FirstLevel, Forwarder, Frame, NextHop, Port, Reason, Route, Verdict};
 use hokhtura::FORWARD_MOST;
+use hokhtura::{Addressed, Error, Fib, FirstLevel, Forwarder, Frame, NextHop, Port, Reason, Route, Verdict};
 use std::net::Ipv4Addr;
 use std::thread;
 

@@ -15,7 +15,7 @@ fn bulk_moves_all_or_none_and_burst_what_there_is() -> Result<(), Error> {
             assert_eq!(ring.left(), 6);
             assert_eq!(ring.try_put_bulk(&[1, 2, 3, 4]), Ok(4));
             assert_eq!(ring.try_put_burst(&[5, 6, 7]), Ok(2));
-            assert_eq!((ring.count(), ring.room()), (Ok(6), Ok(0)));
+            assert_eq!((ring.len(), ring.room()), (Ok(6), Ok(0)));
             assert_eq!(ring.try_take_bulk(&mut words[..7]), Err(Error::NoRoom));
             assert_eq!(ring.try_take_burst(&mut words), Ok(6));
             assert_eq!(words, [1, 2, 3, 4, 5, 6, 0, 0]);
@@ -45,7 +45,7 @@ fn words_keep_their_bits() -> Result<(), Error> {
     assert_eq!(numbers.taken().map(f64::to_bits).collect::<Vec<_>>(), [(-0.0f64).to_bits(), f64::INFINITY.to_bits()]);
     let places = [10u8, 20, 30];
     let mut pointers = Ring::<*const u8>::new(4)?;
-    pointers.try_put_bulk(&[&places[2], &places[0]])?;
+    pointers.try_put_bulk(&[&raw const places[2], &raw const places[0]])?;
     let read: Vec<u8> = pointers.taken().map(|at| unsafe { *at }).collect();
     assert_eq!(read, [30, 10]);
     Ok(())
@@ -103,5 +103,35 @@ fn each_word_crosses_once_and_in_order() -> Result<(), Error> {
             }
         });
     }
+    Ok(())
+}
+
+#[test]
+fn both_ends_say_what_the_ring_holds_and_either_closes_it() -> Result<(), Error> {
+    let (mut producer, mut consumer) = Ring::<u64>::new(5)?.split()?;
+    assert_eq!((producer.capacity(), consumer.capacity()), (5, 5));
+    assert_eq!((producer.is_empty(), consumer.len()), (Ok(true), Ok(0)));
+    producer.try_put_bulk(&[1, 2, 3])?;
+    assert_eq!((producer.len(), consumer.is_empty(), producer.left()), (Ok(3), Ok(false), 2));
+    let mut taken = consumer.taken();
+    assert_eq!((taken.next(), taken.by_ref().count(), taken.next()), (Some(1), 2, None));
+    producer.try_put_bulk(&[4])?;
+    let (consumer, error) = consumer.close().expect_err("the producer is there");
+    assert_eq!(error, Error::Shared);
+    drop(consumer);
+    let mut left = producer.close().map_err(|refused| refused.1)?;
+    assert_eq!((left.next(), left.next(), left.next()), (Some(4), None, None));
+    Ok(())
+}
+
+/// Once `taken` returned `None` it takes no more, whatever is put meanwhile.
+#[test]
+fn what_was_taken_ends_once() -> Result<(), Error> {
+    let (mut producer, mut consumer) = Ring::<u64>::new(5)?.split()?;
+    let mut taken = consumer.taken();
+    assert_eq!(taken.next(), None);
+    producer.try_put_bulk(&[1])?;
+    assert_eq!(taken.next(), None);
+    assert_eq!(consumer.taken().next(), Some(1));
     Ok(())
 }

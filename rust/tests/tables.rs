@@ -20,7 +20,7 @@ fn the_longest_route_is_found() -> Result<(), Error> {
         assert_eq!(routes.lookup(ip("10.1.2.4")), Some(7));
         assert_eq!(routes.lookup(ip("11.0.0.0")), None);
         let mut hops = [0; 3];
-        routes.lookup_bulk(&[0x0a010203, 0x0b000000, 0x0a010204], &mut hops)?;
+        routes.lookup_bulk(&[0x0a01_0203, 0x0b00_0000, 0x0a01_0204], &mut hops)?;
         assert_eq!(hops, [9, u32::MAX, 7]);
         assert_eq!(routes.lookup_bulk(&[1], &mut hops), Err(Error::Count));
         routes.remove(ip("10.1.2.0"), 30)?;

@@ -1,0 +1,168 @@
+/* Calls of hokhtura.h that wait until they are done, for programs that have nothing else to do meanwhile. Each is a
+ * loop over a `try` call: it tries, finishes what is pending, and relaxes between two tries. It ends when the call is
+ * done, or with a code that time doesn't cure, which then means what it means for the `try` call.
+ *
+ * All of it is inline here: the library has none of these names, and none of its own calls waits. */
+#ifndef HOKHTURA_WAIT_H
+#define HOKHTURA_WAIT_H 1
+
+#include "hokhtura.h"
+
+#include <sched.h>
+
+#ifdef __cplusplus
+extern "C" {
+#endif
+
+/* What a loop does between two tries. It returns 0 to go on. With any other number the loop ends at once and returns
+ * the code of the last try: HK_E_NOROOM, HK_E_AGAIN, or HK_E_PENDING, and then the span is still open and to be
+ * finished. It may be a null pointer, for a pause of the processor. It isn't called if the first try is enough. */
+typedef int (*hk_relax)(void);
+
+/* Lets other threads run. */
+static inline int hk_relax_yield(void) {
+    (void)sched_yield();
+    return 0;
+}
+
+static inline int hk_goes_on(hk_relax relax) {
+    if (relax) return relax() == 0;
+#if defined(__x86_64__)
+    __builtin_ia32_pause();
+#endif
+    return 1;
+}
+
+/* Tries again while the code is one that time cures. */
+#define HK_UNTIL(code, is_early, relax, call) \
+    while ((is_early) && hk_goes_on(relax)) (code) = (call)
+
+#define HK_IS_EARLY(code) ((code) == HK_E_NOROOM || (code) == HK_E_AGAIN)
+
+/* Goes on with the put or the take that the hand has open, after a call on it returned a code. */
+static inline int64_t hk_finish_put_after(hk_hand *hand, const uint64_t *words, size_t n, int64_t code,
+                                          hk_relax relax) {
+    HK_UNTIL(code, code == HK_E_PENDING, relax, hk_ring_finish_put(hand, words, n));
+    return code;
+}
+
+static inline int64_t hk_finish_take_after(hk_hand *hand, size_t n, int64_t code, hk_relax relax) {
+    HK_UNTIL(code, code == HK_E_PENDING, relax, hk_ring_finish_take(hand, n));
+    return code;
+}
+
+/* Puts n words, 1 to HK_MOST, next to each other on a ring, once there is room for all. Returns n. On a ring that holds
+ * fewer it waits until relax ends it. */
+static inline int64_t hk_ring_put_bulk(hk_hand *hand, size_t ring, const uint64_t *words, size_t n, hk_relax relax) {
+    int64_t code = hk_ring_try_put_bulk(hand, ring, words, n);
+    HK_UNTIL(code, HK_IS_EARLY(code), relax, hk_ring_try_put_bulk(hand, ring, words, n));
+    return hk_finish_put_after(hand, words, n, code, relax);
+}
+
+/* Puts as many words as there is room for, of n, 1 to HK_MOST, once there is room for one. Returns how many. */
+static inline int64_t hk_ring_put_burst(hk_hand *hand, size_t ring, const uint64_t *words, size_t n, hk_relax relax) {
+    int64_t code = hk_ring_try_put_burst(hand, ring, words, n);
+    HK_UNTIL(code, HK_IS_EARLY(code), relax, hk_ring_try_put_burst(hand, ring, words, n));
+    return hk_finish_put_after(hand, words, n, code, relax);
+}
+
+/* Takes n words, 1 to HK_MOST, once as many are queued. Returns n. On a ring that holds fewer it waits until relax ends
+ * it. */
+static inline int64_t hk_ring_take_bulk(hk_hand *hand, size_t ring, uint64_t *words, size_t n, hk_relax relax) {
+    int64_t code = hk_ring_try_take_bulk(hand, ring, words, n);
+    HK_UNTIL(code, HK_IS_EARLY(code), relax, hk_ring_try_take_bulk(hand, ring, words, n));
+    return hk_finish_take_after(hand, n, code, relax);
+}
+
+/* Takes as many words as are queued, at most n, 1 to HK_MOST, once there is one. Returns how many. */
+static inline int64_t hk_ring_take_burst(hk_hand *hand, size_t ring, uint64_t *words, size_t n, hk_relax relax) {
+    int64_t code = hk_ring_try_take_burst(hand, ring, words, n);
+    HK_UNTIL(code, HK_IS_EARLY(code), relax, hk_ring_try_take_burst(hand, ring, words, n));
+    return hk_finish_take_after(hand, n, code, relax);
+}
+
+/* Puts n words, any number from 1 on, in their order, as there is room; other threads' words may come between them.
+ * Returns n. If it ends before that, it returns how many were put, or the code if none was; hk_hand_span says whether a
+ * put is pending then: that of the next words, HK_MOST of them or as many as there are. */
+static inline int64_t hk_ring_put(hk_hand *hand, size_t ring, const uint64_t *words, size_t n, hk_relax relax) {
+    size_t done = 0;
+    int64_t code = HK_OK;
+    do {
+        size_t next = n - done < HK_MOST ? n - done : HK_MOST;
+        code = hk_ring_put_burst(hand, ring, words ? words + done : words, next, relax);
+        if (code > 0) done += (size_t)code;
+    } while (code > 0 && done < n);
+    return done > 0 ? (int64_t)done : code;
+}
+
+/* Takes n words, any number from 1 on, as they come. Returns n. If it ends before that, it returns how many were taken,
+ * or the code if none was; hk_hand_span says whether a take is pending then, for the next places of the array, HK_MOST
+ * of them or as many as there are. */
+static inline int64_t hk_ring_take(hk_hand *hand, size_t ring, uint64_t *words, size_t n, hk_relax relax) {
+    size_t done = 0;
+    int64_t code = HK_OK;
+    do {
+        size_t next = n - done < HK_MOST ? n - done : HK_MOST;
+        code = hk_ring_take_burst(hand, ring, words ? words + done : words, next, relax);
+        if (code > 0) done += (size_t)code;
+    } while (code > 0 && done < n);
+    return done > 0 ? (int64_t)done : code;
+}
+
+/* Gets n numbers, 1 to HK_POOL_MOST, once cache and free ring have as many. Returns n. */
+static inline int64_t hk_pool_get_bulk(hk_pool *pool, uint32_t *numbers, size_t n, hk_relax relax) {
+    int64_t code = hk_pool_try_get_bulk(pool, numbers, n);
+    HK_UNTIL(code, HK_IS_EARLY(code), relax, hk_pool_try_get_bulk(pool, numbers, n));
+    return code;
+}
+
+/* Puts n numbers back, 1 to HK_POOL_MOST. Returns n. */
+static inline int64_t hk_pool_put_bulk(hk_pool *pool, const uint32_t *numbers, size_t n, hk_relax relax) {
+    int64_t code = hk_pool_try_put_bulk(pool, numbers, n);
+    HK_UNTIL(code, HK_IS_EARLY(code), relax, hk_pool_try_put_bulk(pool, numbers, n));
+    return code;
+}
+
+/* Puts all that is cached on the free ring. Returns how many. */
+static inline int64_t hk_pool_flush(hk_pool *pool, hk_relax relax) {
+    int64_t code = hk_pool_try_flush(pool);
+    HK_UNTIL(code, HK_IS_EARLY(code), relax, hk_pool_try_flush(pool));
+    return code;
+}
+
+/* Puts n numbers, 1 to HK_POOL_MOST, on a ring of the pool. Returns n. */
+static inline int64_t hk_pool_send_bulk(hk_pool *pool, size_t ring, const uint32_t *numbers, size_t n, hk_relax relax) {
+    int64_t code = hk_pool_try_send_bulk(pool, ring, numbers, n);
+    HK_UNTIL(code, HK_IS_EARLY(code), relax, hk_pool_try_send_bulk(pool, ring, numbers, n));
+    return code;
+}
+
+/* Takes n numbers, 1 to HK_POOL_MOST, from a ring of the pool, once as many are there. Returns n. */
+static inline int64_t hk_pool_receive_bulk(hk_pool *pool, size_t ring, uint32_t *numbers, size_t n, hk_relax relax) {
+    int64_t code = hk_pool_try_receive_bulk(pool, ring, numbers, n);
+    HK_UNTIL(code, HK_IS_EARLY(code), relax, hk_pool_try_receive_bulk(pool, ring, numbers, n));
+    return code;
+}
+
+/* Settles the last publish, once no reader is in a call that began before it or holds what was published before. Until
+ * the next publish no change is answered HK_E_PENDING then. */
+static inline int64_t hk_fib_settle_wait(hk_fib *fib, hk_relax relax) {
+    int64_t code = hk_fib_settle(fib);
+    HK_UNTIL(code, code == HK_E_PENDING, relax, hk_fib_settle(fib));
+    return code;
+}
+
+/* Publishes all that is drawn up, once the publish before is settled. */
+static inline int64_t hk_fib_publish_wait(hk_fib *fib, hk_relax relax) {
+    int64_t code = hk_fib_publish(fib);
+    HK_UNTIL(code, code == HK_E_PENDING, relax, hk_fib_publish(fib));
+    return code;
+}
+
+#undef HK_UNTIL
+#undef HK_IS_EARLY
+
+#ifdef __cplusplus
+}
+#endif
+#endif

@@ -1,0 +1,154 @@
+//! A ring of values that own what they have.
+use crate::error::Error;
+use crate::hand::{Hand, Mode};
+use alloc::boxed::Box;
+use alloc::sync::Arc;
+use core::fmt;
+
+/// One thread's handle on a ring of values of any type. Each value is in a box while it is on the ring, and it is owned
+/// by one side at a time: a put moves it in, a take moves it out. Where the last handle is dropped, the values that are
+/// left on the ring are dropped, too.
+///
+/// Both sides are head/tail-sync, so no call is pending: it is done, or nothing is changed.
+///
+/// ```
+/// use hokhtura::{Error, Queue};
+///
+/// # fn main() -> Result<(), Error> {
+/// let mut sender = Queue::new(100)?;
+/// let mut receiver = sender.try_clone()?;
+/// let thread = std::thread::spawn(move || sender.try_put(String::from("a value")).is_ok());
+/// assert!(thread.join().unwrap());
+/// assert_eq!(receiver.try_take()?, "a value");
+/// assert_eq!(receiver.try_take(), Err(Error::NoRoom));
+/// # Ok(())
+/// # }
+/// ```
+pub struct Queue<T> {
+    // It is dropped before `rest`.
+    hand: Hand<*mut T>,
+    rest: Arc<Rest<T>>,
+}
+
+// A handle may go to another thread with the values that it may take. It isn't `Sync`: no two calls overlap.
+unsafe impl<T: Send> Send for Queue<T> {}
+
+/// What all handles share: a hand that is used only at the end. Each handle drops its own hand before it gives this up,
+/// so the kept hand is the only one then.
+struct Rest<T> {
+    kept: Hand<*mut T>,
+}
+
+/// A value that was taken off the ring.
+#[allow(clippy::unnecessary_box_returns)] // a caller may keep the box
+fn value<T>(at: *mut T) -> Box<T> {
+    // Each pointer on the ring is that of a box that was given up to it, and is taken once.
+    unsafe { Box::from_raw(at) }
+}
+
+impl<T> Drop for Rest<T> {
+    fn drop(&mut self) {
+        let mut word = [0];
+        if self.kept.close().is_err() {
+            return;
+        }
+        while self.kept.drain(&mut word) == Ok(1) {
+            // A word that is left was put as a pointer.
+            drop(value(unsafe { crate::word::of_bits::<*mut T>(word[0]) }));
+        }
+    }
+}
+
+impl<T: Send> Queue<T> {
+    /// A ring that holds `capacity` values, 1 to 2^20 - 1.
+    ///
+    /// # Errors
+    ///
+    /// `Plan`, `Memory`.
+    pub fn new(capacity: usize) -> Result<Self, Error> {
+        let mut kept = Hand::open(capacity, Mode::Hts, Mode::Hts)?;
+        let hand = kept.split()?;
+        Ok(Queue { hand, rest: Arc::new(Rest { kept }) })
+    }
+
+    /// Another handle on the same ring, for another thread.
+    ///
+    /// # Errors
+    ///
+    /// `Memory`, `Parts`.
+    pub fn try_clone(&mut self) -> Result<Self, Error> {
+        Ok(Queue { hand: self.hand.split()?, rest: Arc::clone(&self.rest) })
+    }
+
+    /// Puts a value.
+    ///
+    /// # Errors
+    ///
+    /// `NoRoom`, `Again`, `Worn`. The value is returned with the error.
+    pub fn try_put(&mut self, value: T) -> Result<(), (T, Error)> {
+        self.try_put_box(Box::new(value)).map_err(|(value, error)| (*value, error))
+    }
+
+    /// Puts a value that is in a box already, and takes no memory.
+    ///
+    /// # Errors
+    ///
+    /// `NoRoom`, `Again`, `Worn`. The value is returned with the error.
+    pub fn try_put_box(&mut self, boxed: Box<T>) -> Result<(), (Box<T>, Error)> {
+        let at = Box::into_raw(boxed);
+        match self.hand.put(&[at], true) {
+            Ok(_) => Ok(()),
+            // It isn't on the ring.
+            Err(error) => Err((value(at), error)),
+        }
+    }
+
+    /// Takes the oldest value.
+    ///
+    /// # Errors
+    ///
+    /// `NoRoom` if there is none, `Again`, `Worn`.
+    pub fn try_take(&mut self) -> Result<T, Error> {
+        self.try_take_box().map(|boxed| *boxed)
+    }
+
+    /// Takes the oldest value in its box.
+    ///
+    /// # Errors
+    ///
+    /// `NoRoom` if there is none, `Again`, `Worn`.
+    pub fn try_take_box(&mut self) -> Result<Box<T>, Error> {
+        let mut at = [core::ptr::null_mut()];
+        self.hand.take(&mut at, true).map(|_| value(at[0]))
+    }
+
+    /// How many values are queued. Others may have put or taken some since.
+    ///
+    /// # Errors
+    ///
+    /// `Again`: another thread was in the middle of a call.
+    pub fn len(&self) -> Result<usize, Error> {
+        self.hand.count()
+    }
+
+    /// Whether no value is queued. Others may have put some since.
+    ///
+    /// # Errors
+    ///
+    /// `Again`: another thread was in the middle of a call.
+    pub fn is_empty(&self) -> Result<bool, Error> {
+        self.len().map(|count| count == 0)
+    }
+
+    /// How many values the ring holds.
+    #[must_use]
+    pub fn capacity(&self) -> usize {
+        self.hand.capacity()
+    }
+}
+
+impl<T> fmt::Debug for Queue<T> {
+    fn fmt(&self, f: &mut fmt::Formatter<'_>) -> fmt::Result {
+        f.debug_struct("Queue").field("capacity", &self.hand.capacity()).finish_non_exhaustive()
+    }
+}
