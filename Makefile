@@ -12,7 +12,7 @@ LIBRARY ?= out/c/libhokhtura.a
 BIN = $(DESTDIR)$(PREFIX)/bin
 SHARE = $(DESTDIR)$(PREFIX)/share
 
-.PHONY: help run try compare test build lib router install uninstall install-lib uninstall-lib bench
+.PHONY: help run try compare test build lib router install uninstall install-lib uninstall-lib dist deb bench
 
 # The first of all targets is what `make` alone does.
 help:
@@ -23,7 +23,9 @@ help:
 	@echo 'make lib        proves the C library and what it stands on, and leaves it in out/c: 20 to 50 minutes'
 	@echo 'make router     builds the router of docs/ROUTER.md over the C library, which is made if it is not there'
 	@echo 'make install    make build and lib; program, library, man page, completions go below PREFIX ($(PREFIX)): seconds'
-	@echo 'make install-lib  the library alone: its header, its archives and hokhtura.pc'
+	@echo 'make install-lib  the library alone: its headers, its archives, hokhtura.pc, manual pages'
+	@echo 'make dist       packs what make build and make lib left into out/hokhtura-VERSION-x86_64-linux.tar.gz: seconds'
+	@echo 'make deb        the same as Debian packages, in out: seconds'
 	@echo 'make uninstall  removes these again: at once'
 	@echo 'make test       the merge gate: every proof from nothing, must-fail edits, tests, programs, documents: some hours'
 	@echo 'make bench      measures one part beside its yardstick, NAME=$(NAME): minutes, on a quiet machine'
@@ -56,13 +58,14 @@ compare:
 
 # The merge gate: the tests, built without proofs; every proof from nothing, the must-fail edits and the programs; then
 # that there is what refuses each wrong body of the table; the C library over what was proved, and its tests from C, C++
-# and Rust; and, with the program that was proved there, the cases of tests/transcripts, runs over large captures, runs
-# that are refused memory, and the commands of the documents.
+# and Rust; the packages; and, with the program that was proved there, the cases of tests/transcripts, runs over large
+# captures, runs that are refused memory, and the commands of the documents.
 test:
 	tools/try-tests
 	tools/build-capi rt ci
 	tools/try-bodies
 	ARCHIVE=$(CURDIR)/out/libcapi.a tools/try-capi
+	ARCHIVE=$(CURDIR)/out/libcapi.a tools/try-dist
 	PKTKIT=$(CURDIR)/crates/pktkit/out/pktkit tools/try-transcripts
 	PKTKIT=$(CURDIR)/crates/pktkit/out/pktkit tools/try-runs
 	PKTKIT=$(CURDIR)/crates/pktkit/out/pktkit tools/try-memory
@@ -106,6 +109,13 @@ install: build install-lib
 uninstall: uninstall-lib
 	rm -f $(BIN)/pktkit $(SHARE)/man/man1/pktkit.1 $(SHARE)/bash-completion/completions/pktkit
 	rm -f $(SHARE)/zsh/site-functions/_pktkit $(SHARE)/fish/vendor_completions.d/pktkit.fish
+
+# What those need who have no Rattle: the proved program and the C library, packed. Each says what has to be made first.
+dist:
+	@tools/make-dist
+
+deb:
+	@tools/make-deb
 
 # Measures one part beside its yardstick: make bench NAME=run
 bench:
