@@ -82,7 +82,7 @@ int main(int argc, char **argv) {
     IS(hk_set_allocator(&allocator), HK_OK), IS(hk_set_allocator(&allocator), HK_E_BEGUN);
     memset(&allocator, 0, sizeof allocator);
     IS(work(), HK_OK), IS(live, 0), IS(used > 0, 1);
-    if (!resizes) IS(resized, 0);
+    IS(resized > 0, resizes);
     /* What it refuses is HK_E_MEMORY, and nothing is lost. */
     long requests = asked;
     asked = 0, refused_from = requests / 2, used = 0;

@@ -5,6 +5,7 @@
 
 #include <pthread.h>
 #include <sched.h>
+#include <stdlib.h>
 #include <string.h>
 
 static uint64_t buffers[2];
@@ -16,20 +17,25 @@ static int is(const char *wanted) {
     return strcmp(kind, wanted) == 0;
 }
 
+/* A call that has to do all it is asked for. It counts nothing, as both threads make calls. */
+static void does(int64_t code) {
+    if (code != 1) abort();
+}
+
 static void *give(void *nothing) {
     uint64_t word = (uintptr_t)&buffers[0];
     uint32_t number = 0;
     buffers[0] = 1;
     if (is("pool")) {
-        IS(hk_pool_try_get_bulk(sender, &number, 1), 1), IS(hk_pool_try_send_bulk(sender, 0, &number, 1), 1);
+        does(hk_pool_try_get_bulk(sender, &number, 1)), does(hk_pool_try_send_bulk(sender, 0, &number, 1));
     } else {
-        IS(hk_ring_try_put_bulk(giver, 0, &word, 1), 1);
+        does(hk_ring_try_put_bulk(giver, 0, &word, 1));
     }
     if (is("ring") || is("pool")) buffers[0] = 2;
     if (is("ahead")) {
         buffers[1] = 2;
         word = (uintptr_t)&buffers[1];
-        IS(hk_ring_try_put_bulk(giver, 0, &word, 1), 1);
+        does(hk_ring_try_put_bulk(giver, 0, &word, 1));
     }
     return nothing;
 }
