@@ -50,6 +50,19 @@ static void *resize(void *at, size_t kept, size_t size) {
     return made;
 }
 
+/* With --wrap the library's calls of the C library's allocator come here: it makes none. */
+void *__wrap_aligned_alloc(size_t unit, size_t size);
+void __wrap_free(void *at);
+
+void *__wrap_aligned_alloc(size_t unit, size_t size) {
+    IS(unit + size, 0);
+    return NULL;
+}
+
+void __wrap_free(void *at) {
+    IS(at == NULL, 1);
+}
+
 /* Routes in a table, words on rings, numbers of a pool: blocks that grow are among them. */
 static int64_t work(void) {
     hk_hand *hand = NULL;
