@@ -19,7 +19,8 @@ use Rattle.fabric.specs.Views.{IsWornAt}
 use Rattle.ringapi.specs.declared.answers.PutAnswer.{PutAnswer}
 use Rattle.ringapi.specs.declared.answers.PutAnswer.TheVariants.{Done, Refused, Open}
 use Rattle.ringapi.specs.declared.answers.Refusal.TheVariants.{Start, NotYours}
-use Rattle.ringapi.specs.Views.{HasSettled, IsMoved, IsReserved, IsTransient, RefusedStarts}
+use Rattle.ringapi.specs.Faults.{IsTransientRefusal}
+use Rattle.ringapi.specs.Views.{HasSettled, IsMoved, IsReserved, RefusedStarts}
 use Rattle.ringapi.specs.Views.{SettledNothing}
 
 module _ {T : Type 0} {S : Type 0} {G : Ghosts T} {H : StoredGhosts S T} {N : ℕ} where
@@ -63,8 +64,7 @@ module _ {T : Type 0} {S : Type 0} {G : Ghosts T} {H : StoredGhosts S T} {N : �
   -- what a waiting put doesn't return, but tries again
   abbrev pub IsUnfinishedPut : PutAnswer T N S G H → Type 0
   IsUnfinishedPut (Done h moved) = ⊥
-  IsUnfinishedPut (Refused h (Start e)) = IsTransient e
-  IsUnfinishedPut (Refused h NotYours) = ⊥
+  IsUnfinishedPut (Refused h why) = IsTransientRefusal why
   IsUnfinishedPut (Open o tail) = ⊤
 
   -- what the settle of a put's span with its first items returns

@@ -2,7 +2,8 @@
 //! which look at items before they are taken.
 //!
 //! `put` and `take` have the bodies, for any list of items, by bulk or burst. The calls by name are over them: `lent`
-//! for bursts, `values` for bursts by value, `slices` for the words of a slice.
+//! for bursts, `values` for bursts by value, `slices` for the words of a slice. `port` is a hand with its rings in one
+//! value, and `port_calls` has its calls, which require nothing.
 #![tactic(auto)]
 
 mod answers;
@@ -10,6 +11,9 @@ mod lent;
 mod pauses;
 mod peek;
 mod peek_slices;
+mod port;
+mod port_calls;
+mod port_fault;
 mod put;
 mod slices;
 mod take;
@@ -24,6 +28,8 @@ pub use lent::{
 };
 pub use peek::{PeekPut, PeekTake, PeekTakeLent, peek_put, peek_take, peek_take_into};
 pub use peek_slices::peek_take_slice;
+pub use port::Port;
+pub use port_fault::PortFault;
 pub use put::put_own;
 pub use slices::{
     put_bulk_slice, put_burst_slice, put_own_bulk_slice, put_own_burst_slice, take_bulk_slice,
@@ -31,6 +37,7 @@ pub use slices::{
     try_take_burst_slice,
 };
 pub use take::take_into;
+pub use unfinished::is_transient;
 pub use values::{
     put_bulk, put_burst, take_bulk, take_burst, try_put_bulk, try_put_burst, try_take_bulk,
     try_take_burst,

@@ -1,5 +1,6 @@
 //! Which answers make a waiting call try again.
 ghost use Rattle.std.specs.Prelude.{◌≡◌, true, false};
+ghost use Rattle.ringapi.specs.Faults.{IsTransientRefusal};
 ghost use Rattle.ringapi.specs.Puts.{IsUnfinishedPut};
 ghost use Rattle.ringapi.specs.Takes.{IsUnfinishedTake};
 ghost use Rattle.ringapi.specs.Views.{IsTransient};
@@ -8,8 +9,9 @@ use crate::answers::{PutAnswer, Refusal, TakeAnswer};
 use burst::Tagged;
 use fabric::{StartFault, Stored};
 
-/// Whether the next start may succeed although the caller does nothing in between.
-fn is_transient(fault: StartFault) -> bool
+/// Whether the next start may succeed although the caller does nothing in between: after `Busy` and `Contended`.
+#[inline]
+pub fn is_transient(fault: StartFault) -> bool
     ensures sound { result ≡ true → IsTransient fault }
     ensures none { result ≡ false → IsTransient fault → ⊥ }
 {
@@ -17,6 +19,20 @@ fn is_transient(fault: StartFault) -> bool
         StartFault::Busy(_) => true,
         StartFault::Contended(_) => true,
         _ => false,
+    }
+}
+
+impl Refusal {
+    /// Whether the next try may succeed although the caller does nothing in between.
+    #[inline]
+    pub fn is_transient(self) -> bool
+        ensures sound { result ≡ true → IsTransientRefusal self }
+        ensures none { result ≡ false → IsTransientRefusal self → ⊥ }
+    {
+        match self {
+            Refusal::Start(fault) => is_transient(fault),
+            Refusal::NotYours => false,
+        }
     }
 }
 
@@ -28,10 +44,7 @@ impl<T: Tagged, const N: usize, S: Stored<T>> PutAnswer<'_, T, N, S> {
     {
         match self {
             PutAnswer::Done(_, _) => false,
-            PutAnswer::Refused(_, refusal) => match refusal {
-                Refusal::Start(fault) => is_transient(*fault),
-                Refusal::NotYours => false,
-            },
+            PutAnswer::Refused(_, refusal) => refusal.is_transient(),
             PutAnswer::Open(_, _) => true,
         }
     }
