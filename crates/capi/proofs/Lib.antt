@@ -6,6 +6,7 @@ pub mod Slots
 pub mod Values
 pub mod Asking
 pub mod Emptying
+pub mod Filling
 pub mod Reserving
 mod RingRows
 pub mod Settled

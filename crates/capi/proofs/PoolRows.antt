@@ -1,9 +1,7 @@
 -- Worked cases of counts that calls on a pool of numbers take, and don't take
 use Rattle.std.proofs.Common.{arith, inl, inr, refl}
 use Rattle.capi.specs.declared.rings.fault.Fault.TheVariants as fault
-use Rattle.fabric.specs.declared.hand.StartFault.TheVariants.{Busy, NoRoom}
 use Rattle.capi.specs.PoolCalls.{IsBadCount, IsGoodCount}
-use Rattle.capi.specs.Tries.{WasLost}
 
 one : IsGoodCount 1
 one = (omega arith, omega arith)
@@ -22,10 +20,3 @@ not_none is = absurd (omega (arith, is.0))
 
 not_above : IsGoodCount 513 → ⊥
 not_above is = absurd (omega (arith, is.1))
-
--- another thread's open span is a reason to try again, and too little room is none
-lost : WasLost (Busy 3)
-lost = tt
-
-not_lost : WasLost (NoRoom 2) → ⊥
-not_lost h = h

@@ -1,7 +1,5 @@
 -- What opening, splitting and looking at hands does to handles
-use Rattle.std.specs.Prelude.{◌≡◌, ℕ, ◌-◌, ◌^◌, ◌⊎◌, List, Option, None, Ok, Err, min}
-use Rattle.fabric.specs.declared.hand.in_place.OpenSpan.{OpenSpan}
-use Rattle.fabric.specs.declared.hand.in_place.OpenSpan.TheVariants.{Idle, Put, Take}
+use Rattle.std.specs.Prelude.{◌≡◌, ◌⊎◌, List, Option, None, Ok, Err}
 use Rattle.capi.specs.Codes.{Outcome}
 use Rattle.capi.specs.HandCalls.{HasHand, HasNoHand}
 use Rattle.capi.specs.Openings.{IsNewHand, RefusesRings}
@@ -15,16 +13,6 @@ use Rattle.capi.specs.declared.rings.opening.Asked.{Asked}
 abbrev pub OpensHand : Outcome → List Asked → Option Object → Option Object → Type 0
 OpensHand (Ok count) asked old new = (count ≡ 0) × (old ≡ None) × HasHand new (IsNewHand asked)
 OpensHand (Err why) asked old new = (new ≡ old) × ((why ≡ fault.Used) ⊎ ((old ≡ None) × RefusesRings asked why))
-
--- how many positions more were free, or words queued, when the last call looked
-abbrev pub TellsLeft : Outcome → Member → Type 0
-TellsLeft outcome m = outcome ≡ Ok (min m.left (2 ^ 32 - 1))
-
--- 0 with no open span, 1 with one of a put, 2 with one of a take
-abbrev pub span_kind : OpenSpan → ℕ
-span_kind Idle = 0
-span_kind (Put r) = 1
-span_kind (Take r) = 2
 
 -- the hand of the first handle was split, and the second half is in the second
 abbrev pub SplitsHand : Outcome → Option Object → Option Object → Option Object → Type 0

@@ -32,45 +32,65 @@ IsEmpty outcome new = (outcome ≡ Err fault.Empty) × (new ≡ None)
 abbrev pub IsOther : Outcome → Object → Option Object → Type 0
 IsOther outcome old new = (outcome ≡ Err fault.Kind) × (new ≡ Some old)
 
--- the handle has a table, or a window, of which this holds
+module _ {X : Type 0} (kind : Object → Option X) where
+  -- an object of the kind, of which this holds
+  abbrev pub IsOne : Option X → (X → Type 0) → Type 0
+  IsOne None holds = ⊥
+  IsOne (Some x) holds = holds x
+
+  abbrev pub Has : Option Object → (X → Type 0) → Type 0
+  Has None holds = ⊥
+  Has (Some o) holds = IsOne (kind o) holds
+
+  -- why the handle has none of the kind
+  abbrev pub IsNone : Option X → Fault → Type 0
+  IsNone None why = why ≡ fault.Kind
+  IsNone (Some x) why = ⊥
+
+  abbrev pub HasNone : Option Object → Fault → Type 0
+  HasNone None why = why ≡ fault.Empty
+  HasNone (Some o) why = IsNone (kind o) why
+
+  -- a call on an object of the kind; otherwise it is refused, and what the handle has stays
+  abbrev pub OnOne : Option X → Object → Option Object → Outcome → (X → Type 0) → Type 0
+  OnOne None o new outcome does = IsOther outcome o new
+  OnOne (Some x) o new outcome does = does x
+
+  abbrev pub On : Option Object → Option Object → Outcome → (X → Type 0) → Type 0
+  On None new outcome does = IsEmpty outcome new
+  On (Some o) new outcome does = OnOne (kind o) o new outcome does
+
+  -- the same of a call that leaves an object of the kind: what it does to it
+  abbrev pub At : Option Object → Option Object → (X → X → Outcome → Type 0) → Outcome → Type 0
+  At old new does outcome = On old new outcome (λ x. Has new (λ y. does x y outcome))
+
+-- the table, or the window, of an object
+abbrev pub table_in : Object → Option Routes
+table_in (object.Routes t) = Some t.value
+table_in (object.Reorder w) = None
+table_in (object.Hand m) = None
+table_in (object.Rest r) = None
+table_in (object.Pool p) = None
+table_in (object.Forward f) = None
+table_in (object.Fib r) = None
+
+abbrev pub window_in : Object → Option (Waiting ℕ)
+window_in (object.Reorder w) = Some w
+window_in (object.Routes t) = None
+window_in (object.Hand m) = None
+window_in (object.Rest r) = None
+window_in (object.Pool p) = None
+window_in (object.Forward f) = None
+window_in (object.Fib r) = None
+
 abbrev pub HasTable : Option Object → (Routes → Type 0) → Type 0
-HasTable None holds = ⊥
-HasTable (Some (object.Routes u)) holds = holds u.value
-HasTable (Some (object.Reorder w)) holds = ⊥
-HasTable (Some (object.Hand m)) holds = ⊥
-HasTable (Some (object.Rest r)) holds = ⊥
-HasTable (Some (object.Pool p)) holds = ⊥
-HasTable (Some (object.Forward f)) holds = ⊥
-HasTable (Some (object.Fib r)) holds = ⊥
+HasTable old holds = Has table_in old holds
 
 abbrev pub HasWindow : Option Object → (Waiting ℕ → Type 0) → Type 0
-HasWindow None holds = ⊥
-HasWindow (Some (object.Routes u)) holds = ⊥
-HasWindow (Some (object.Hand m)) holds = ⊥
-HasWindow (Some (object.Rest r)) holds = ⊥
-HasWindow (Some (object.Pool p)) holds = ⊥
-HasWindow (Some (object.Reorder w)) holds = holds w
-HasWindow (Some (object.Forward f)) holds = ⊥
-HasWindow (Some (object.Fib r)) holds = ⊥
+HasWindow old holds = Has window_in old holds
 
--- a call on routes: what it does to the table
-abbrev pub AtRoutes : Option Object → Option Object → Outcome → (Routes → Routes → Type 0) → Type 0
-AtRoutes None new outcome does = IsEmpty outcome new
-AtRoutes (Some (object.Routes t)) new outcome does = HasTable new (does t.value)
-AtRoutes (Some (object.Reorder w)) new outcome does = IsOther outcome (object.Reorder w) new
-AtRoutes (Some (object.Hand m)) new outcome does = IsOther outcome (object.Hand m) new
-AtRoutes (Some (object.Rest r)) new outcome does = IsOther outcome (object.Rest r) new
-AtRoutes (Some (object.Pool p)) new outcome does = IsOther outcome (object.Pool p) new
-AtRoutes (Some (object.Forward f)) new outcome does = IsOther outcome (object.Forward f) new
-AtRoutes (Some (object.Fib r)) new outcome does = IsOther outcome (object.Fib r) new
+abbrev pub AtRoutes : Option Object → Option Object → (Routes → Routes → Outcome → Type 0) → Outcome → Type 0
+AtRoutes old new does outcome = At table_in old new does outcome
 
--- a call on a reorder window
-abbrev pub AtWindow : Option Object → Option Object → Outcome → (Waiting ℕ → Waiting ℕ → Type 0) → Type 0
-AtWindow None new outcome does = IsEmpty outcome new
-AtWindow (Some (object.Reorder w)) new outcome does = HasWindow new (does w)
-AtWindow (Some (object.Routes t)) new outcome does = IsOther outcome (object.Routes t) new
-AtWindow (Some (object.Hand m)) new outcome does = IsOther outcome (object.Hand m) new
-AtWindow (Some (object.Rest r)) new outcome does = IsOther outcome (object.Rest r) new
-AtWindow (Some (object.Pool p)) new outcome does = IsOther outcome (object.Pool p) new
-AtWindow (Some (object.Forward f)) new outcome does = IsOther outcome (object.Forward f) new
-AtWindow (Some (object.Fib r)) new outcome does = IsOther outcome (object.Fib r) new
+abbrev pub AtWindow : Option Object → Option Object → (Waiting ℕ → Waiting ℕ → Outcome → Type 0) → Outcome → Type 0
+AtWindow old new does outcome = At window_in old new does outcome

@@ -14,6 +14,7 @@ pub mod Spans
 pub mod Calls
 pub mod Finishes
 pub mod RingCalls
+pub mod MemberCalls
 pub mod Plans
 pub mod Openings
 pub mod Rests

@@ -14,8 +14,8 @@ use Rattle.capi.specs.declared.rings.opening.Asked.{Asked}
 
 -- a hand on new rings: they are as asked, and it has all parts and has done nothing
 pub record IsNewHand (asked : List Asked) (m : Member) : Type 0 where
-  pub plans : AreAsked asked (rings_of m.fabric.value)
-  pub view : member_view m ≡ newborn (rings_of m.fabric.value) 0 all_parts []
+  pub plans : AreAsked asked (rings_of m.port.fabric.value)
+  pub view : member_view m ≡ newborn (rings_of m.port.fabric.value) 0 all_parts []
 
 -- such rings can't be, or there was no memory
 abbrev pub RefusesRings : List Asked → Fault → Type 0

@@ -5,42 +5,28 @@ use Rattle.capi.specs.declared.rings.fault.Fault.{Fault}
 use Rattle.capi.specs.declared.rings.fault.Fault.TheVariants as fault
 use Rattle.capi.specs.PoolOpenings.{IsNewPool, IsSecond, LikePool, RefusesHalf, RefusesPool}
 use Rattle.capi.specs.declared.pools.member.PoolMember.{PoolMember}
-use Rattle.capi.specs.Handles.{IsEmpty, IsOther}
+use Rattle.capi.specs.Handles.{At, Has, HasNone}
 use Rattle.capi.specs.declared.object.Object.{Object}
 use Rattle.capi.specs.declared.object.Object.TheVariants as object
 
--- the handle has a pool, of which this holds
+-- the pool of an object
+abbrev pub pool_in : Object → Option PoolMember
+pool_in (object.Pool p) = Some p
+pool_in (object.Hand m) = None
+pool_in (object.Rest r) = None
+pool_in (object.Routes t) = None
+pool_in (object.Reorder w) = None
+pool_in (object.Forward f) = None
+pool_in (object.Fib r) = None
+
 abbrev pub HasPool : Option Object → (PoolMember → Type 0) → Type 0
-HasPool None holds = ⊥
-HasPool (Some (object.Pool p)) holds = holds p
-HasPool (Some (object.Hand m)) holds = ⊥
-HasPool (Some (object.Rest r)) holds = ⊥
-HasPool (Some (object.Routes t)) holds = ⊥
-HasPool (Some (object.Reorder w)) holds = ⊥
-HasPool (Some (object.Forward f)) holds = ⊥
-HasPool (Some (object.Fib r)) holds = ⊥
+HasPool old holds = Has pool_in old holds
 
--- a call of a pool
-abbrev pub AtPool : Option Object → Option Object → Outcome → (PoolMember → PoolMember → Type 0) → Type 0
-AtPool None new outcome does = IsEmpty outcome new
-AtPool (Some (object.Pool p)) new outcome does = HasPool new (does p)
-AtPool (Some (object.Hand m)) new outcome does = IsOther outcome (object.Hand m) new
-AtPool (Some (object.Rest r)) new outcome does = IsOther outcome (object.Rest r) new
-AtPool (Some (object.Routes t)) new outcome does = IsOther outcome (object.Routes t) new
-AtPool (Some (object.Reorder w)) new outcome does = IsOther outcome (object.Reorder w) new
-AtPool (Some (object.Forward f)) new outcome does = IsOther outcome (object.Forward f) new
-AtPool (Some (object.Fib r)) new outcome does = IsOther outcome (object.Fib r) new
-
--- why there is no pool
 abbrev pub HasNoPool : Option Object → Fault → Type 0
-HasNoPool None why = why ≡ fault.Empty
-HasNoPool (Some (object.Pool p)) why = ⊥
-HasNoPool (Some (object.Hand m)) why = why ≡ fault.Kind
-HasNoPool (Some (object.Rest r)) why = why ≡ fault.Kind
-HasNoPool (Some (object.Routes t)) why = why ≡ fault.Kind
-HasNoPool (Some (object.Reorder w)) why = why ≡ fault.Kind
-HasNoPool (Some (object.Forward f)) why = why ≡ fault.Kind
-HasNoPool (Some (object.Fib r)) why = why ≡ fault.Kind
+HasNoPool old why = HasNone pool_in old why
+
+abbrev pub AtPool : Option Object → Option Object → (PoolMember → PoolMember → Outcome → Type 0) → Outcome → Type 0
+AtPool old new does outcome = At pool_in old new does outcome
 
 -- a pool is in the handle, which was empty
 abbrev pub OpensPool : Outcome → ℕ → ℕ → ℕ → Option Object → Option Object → Type 0

@@ -9,6 +9,7 @@ use Rattle.pool.specs.Locals.{cache_of, cache_size, view_of}
 use Rattle.capi.specs.declared.rings.fault.Fault.{Fault}
 use Rattle.capi.specs.declared.rings.fault.Fault.TheVariants as fault
 use Rattle.capi.specs.PoolMembers.{all_numbers}
+use Rattle.capi.specs.declared.pools.member.TheConstants.{MAX_CACHE, MAX_POOL, MAX_RINGS}
 use Rattle.capi.specs.declared.pools.member.Number.{Number}
 use Rattle.capi.specs.declared.pools.member.PoolMember.{PoolMember}
 
@@ -33,12 +34,12 @@ pub record IsNewPool (n size rings : ℕ) (p : PoolMember) : Type 0 where
 -- there can be a pool of n numbers with this size of cache and as many rings to pass them on, or there can't
 pub record IsPoolSize (n size rings : ℕ) : Type 0 where
   pub some : 0 < n
-  pub few : n ≤ 65536
-  pub small : size ≤ 512
-  pub most : rings ≤ 63
+  pub few : n ≤ MAX_POOL
+  pub small : size ≤ MAX_CACHE
+  pub most : rings ≤ MAX_RINGS
 
 abbrev pub NoPoolSize : ℕ → ℕ → ℕ → Type 0
-NoPoolSize n size rings = (n ≡ 0) ⊎ ((65536 < n) ⊎ ((512 < size) ⊎ (63 < rings)))
+NoPoolSize n size rings = (n ≡ 0) ⊎ ((MAX_POOL < n) ⊎ ((MAX_CACHE < size) ⊎ (MAX_RINGS < rings)))
 
 -- no such pool can be, or there was no memory
 abbrev pub RefusesPool : ℕ → ℕ → ℕ → Fault → Type 0

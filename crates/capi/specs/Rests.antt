@@ -13,9 +13,9 @@ use Rattle.capi.specs.declared.rings.word64.Word64.{Word64}
 
 -- the rings were closed by this hand: what is left is what fabric says
 pub record Closes (m : Member) (r : Rest) : Type 0 where
-  pub rings : ring_count r.closed ≡ length (rings_of m.fabric.value)
-  pub last : IsLast tags (rings_of m.fabric.value) (pool_of m.fabric.value) (member_view m) r.closed
-  pub all : IsAll tags (rings_of m.fabric.value) (member_view m) r.closed
+  pub rings : ring_count r.closed ≡ length (rings_of m.port.fabric.value)
+  pub last : IsLast tags (rings_of m.port.fabric.value) (pool_of m.port.fabric.value) (member_view m) r.closed
+  pub all : IsAll tags (rings_of m.port.fabric.value) (member_view m) r.closed
 
 -- why they were not
 abbrev pub RefusesClose : Member → Fault → Type 0

@@ -25,13 +25,13 @@ use Rattle.capi.specs.declared.rings.word64.Word64.{Word64}
 
 -- the member is as it was
 pub record SameMember (m u : Member) : Type 0 where
-  pub fabric : u.fabric ≡ m.fabric
-  pub hand : u.hand ≡ m.hand
+  pub fabric : u.port.fabric ≡ m.port.fabric
+  pub hand : u.port.hand ≡ m.port.hand
   pub shown : u.shown.value ≡ m.shown.value
   pub left : u.left ≡ m.left
 
 abbrev pub member_view : Member → View Word64
-member_view m = placed_view m.hand
+member_view m = placed_view m.port.hand
 
 -- a call of a hand without an open span; with one it is refused, and `same` says what is as it was
 abbrev pub OnIdle : OpenSpan → Outcome → Type 0 → Type 0 → Type 0
@@ -42,8 +42,8 @@ OnIdle (open_span.Take r) outcome same does = (outcome ≡ Err fault.Open) × sa
 -- a call on a ring: there is none of this number, or a span is open, or it does what it says
 abbrev pub OnRings : ℕ → Member → Outcome → Type 0 → (View Word64 → Type 0) → Type 0
 OnRings ring m outcome same does =
-    ((length (rings_of m.fabric.value) ≤ ring) × (outcome ≡ Err fault.Ring) × same)
-    ⊎ ((ring < length (rings_of m.fabric.value)) × OnIdle m.hand.span outcome same (does (member_view m)))
+    ((length (rings_of m.port.fabric.value) ≤ ring) × (outcome ≡ Err fault.Ring) × same)
+    ⊎ ((ring < length (rings_of m.port.fabric.value)) × OnIdle m.port.hand.span outcome same (does (member_view m)))
 
 -- a call of a hand with an open put, or an open take
 abbrev pub OnPut : OpenSpan → Outcome → Type 0 → (Span → Type 0) → Type 0
@@ -57,22 +57,22 @@ OnTake (open_span.Put r) outcome same does = (outcome ≡ Err fault.NotOpen) × 
 OnTake (open_span.Take r) outcome same does = does (span_at Take r)
 
 abbrev pub OnPutting : Member → Outcome → Type 0 → (Span → View Word64 → Type 0) → Type 0
-OnPutting m outcome same does = OnPut m.hand.span outcome same (λ span. does span (member_view m))
+OnPutting m outcome same does = OnPut m.port.hand.span outcome same (λ span. does span (member_view m))
 
 abbrev pub OnTaking : Member → Outcome → Type 0 → (Span → View Word64 → Type 0) → Type 0
-OnTaking m outcome same does = OnTake m.hand.span outcome same (λ span. does span (member_view m))
+OnTaking m outcome same does = OnTake m.port.hand.span outcome same (λ span. does span (member_view m))
 
 -- a call on a head/tail-sync side of a ring
 abbrev pub OnHts : ℕ → Side → Member → Outcome → Type 0 → (View Word64 → Type 0) → Type 0
 OnHts ring side m outcome same does =
-    ((length (rings_of m.fabric.value) ≤ ring) × (outcome ≡ Err fault.Ring) × same)
-    ⊎ (((ring < length (rings_of m.fabric.value)) × (outcome ≡ Err fault.Mode) × same
-    × OnRing m.fabric.value ring (λ plan. mode_of plan side ≡ Multi))
-    ⊎ ((ring < length (rings_of m.fabric.value)) × OnIdle m.hand.span outcome same (does (member_view m))))
+    ((length (rings_of m.port.fabric.value) ≤ ring) × (outcome ≡ Err fault.Ring) × same)
+    ⊎ (((ring < length (rings_of m.port.fabric.value)) × (outcome ≡ Err fault.Mode) × same
+    × OnRing m.port.fabric.value ring (λ plan. mode_of plan side ≡ Multi))
+    ⊎ ((ring < length (rings_of m.port.fabric.value)) × OnIdle m.port.hand.span outcome same (does (member_view m))))
 
 -- what a member has of a set of rings is as it was
 pub record LikeMember (m u : Member) : Type 0 where
-  pub fabric : u.fabric ≡ m.fabric
+  pub fabric : u.port.fabric ≡ m.port.fabric
   pub view : member_view u ≡ member_view m
   pub shown : u.shown.value ≡ m.shown.value
   pub left : u.left ≡ m.left
@@ -91,8 +91,8 @@ Looks f ring side v w (Err why) = (why ≡ fault.Again) × IsKept v w
 
 -- a hand was split in two: the first keeps what it has done, the second has done nothing
 pub record Splits (m u other : Member) : Type 0 where
-  pub fabric : u.fabric ≡ m.fabric
-  pub same : other.fabric.value ≡ m.fabric.value
+  pub fabric : u.port.fabric ≡ m.port.fabric
+  pub same : other.port.fabric.value ≡ m.port.fabric.value
   pub first : member_view u ≡ kept (member_view m)
   pub second : member_view other ≡ split_off (member_view m)
 

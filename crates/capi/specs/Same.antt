@@ -1,10 +1,13 @@
--- What stays of a handle's pool in its calls
-use Rattle.std.specs.Prelude.{◌≡◌, ℕ, ◌<◌, ◌≤◌, ◌⊎◌, Err}
+-- What each call of C's does to a pool's handle: `p` is what it has before the call, `q` after it
+use Rattle.std.specs.Prelude.{◌≡◌, ℕ, ◌+◌, ◌<◌, ◌≤◌, ◌⊎◌, ⊤, List, length, Ok, Err}
+use Rattle.pool.specs.Locals.{cache_of, view_of}
 use Rattle.capi.specs.Codes.{Outcome}
+use Rattle.capi.specs.PoolCalls.{Flushes, Gets, PassesOn, Puts, TakesOver, TellsOwner}
+use Rattle.capi.specs.declared.pools.member.Number.{Number}
 use Rattle.capi.specs.declared.rings.fault.Fault.TheVariants as fault
 use Rattle.capi.specs.declared.pools.member.PoolMember.{PoolMember}
 
--- the handle's rings are the same, and so is what it has for later splits
+-- the rings are the same, and so is what the handle has for later splits
 pub record SamePool (p q : PoolMember) : Type 0 where
   pub fabric : q.fabric ≡ p.fabric
   pub reserve : q.reserve ≡ p.reserve
@@ -14,3 +17,27 @@ pub record SamePool (p q : PoolMember) : Type 0 where
 abbrev pub OnPoolRing : ℕ → PoolMember → PoolMember → Outcome → Type 0 → Type 0 → Type 0
 OnPoolRing ring p q outcome same does =
     ((p.rings ≤ ring) × (outcome ≡ Err fault.Ring) × (q ≡ p) × same) ⊎ ((ring < p.rings) × SamePool p q × does)
+
+abbrev pub GetsNumbers : List Number → List Number → PoolMember → PoolMember → Outcome → Type 0
+GetsNumbers before after p q outcome = SamePool p q × Gets p.fabric.value p.local q.local before after outcome
+
+abbrev pub PutsNumbers : List Number → PoolMember → PoolMember → Outcome → Type 0
+PutsNumbers items p q outcome = SamePool p q × Puts p.fabric.value p.local q.local items outcome
+
+abbrev pub FlushesCache : PoolMember → PoolMember → Outcome → Type 0
+FlushesCache p q outcome = SamePool p q × Flushes p.fabric.value p.local q.local outcome
+
+-- ring 0 of the fabric is the free ring, so that these have the numbers from 1 on
+abbrev pub SendsNumbers : ℕ → List Number → PoolMember → PoolMember → Outcome → Type 0
+SendsNumbers ring items p q outcome =
+    OnPoolRing ring p q outcome ⊤ (PassesOn p.fabric.value p.local q.local (ring + 1) items outcome)
+
+abbrev pub ReceivesNumbers : ℕ → List Number → List Number → PoolMember → PoolMember → Outcome → Type 0
+ReceivesNumbers ring before after p q outcome =
+    OnPoolRing ring p q outcome (after ≡ before) (TakesOver p.fabric.value p.local q.local (ring + 1) before after outcome)
+
+abbrev pub TellsCached : PoolMember → PoolMember → Outcome → Type 0
+TellsCached p q outcome = (q ≡ p) × (outcome ≡ Ok (length (cache_of p.local)))
+
+abbrev pub TellsOwned : ℕ → PoolMember → PoolMember → Outcome → Type 0
+TellsOwned number p q outcome = (q ≡ p) × TellsOwner (view_of p.local) number outcome

@@ -8,9 +8,8 @@ use Rattle.std.specs.declared.sync.Arc.{Arc}
 use Rattle.std.specs.declared.alloc.Global.{Global}
 use Rattle.lpm.specs.Routes.{Accepts, HasMembers, HasRoute, IsNew, LacksRoute, NeedsTooMany, Routes, with_route, without_route}
 use Rattle.capi.specs.Codes.{Outcome}
-use Rattle.capi.specs.Handles.{HasTable}
+use Rattle.capi.specs.Handles.{HasNone, HasTable, table_in}
 use Rattle.capi.specs.declared.object.Object.{Object}
-use Rattle.capi.specs.declared.object.Object.TheVariants as object
 use Rattle.capi.specs.declared.rings.fault.Fault.{Fault}
 use Rattle.capi.specs.declared.rings.fault.Fault.TheVariants as fault
 
@@ -26,14 +25,7 @@ OpensTable (Err why) bits groups old new = (new ≡ old) × ((why ≡ fault.Used
 
 -- why there is no table
 abbrev pub HasNoTable : Option Object → Fault → Type 0
-HasNoTable None why = why ≡ fault.Empty
-HasNoTable (Some (object.Routes t)) why = ⊥
-HasNoTable (Some (object.Hand m)) why = why ≡ fault.Kind
-HasNoTable (Some (object.Rest r)) why = why ≡ fault.Kind
-HasNoTable (Some (object.Pool p)) why = why ≡ fault.Kind
-HasNoTable (Some (object.Reorder w)) why = why ≡ fault.Kind
-HasNoTable (Some (object.Forward f)) why = why ≡ fault.Kind
-HasNoTable (Some (object.Fib r)) why = why ≡ fault.Kind
+HasNoTable old why = HasNone table_in old why
 
 -- the table of a handle, or why there is none for a second handle
 abbrev pub FindsTable : Result (Arc Routes Global) Fault → Option Object → Type 0

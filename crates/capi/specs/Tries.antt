@@ -1,9 +1,8 @@
 -- What bulk puts and takes of numbers do that are tried a limited number of times
-use Rattle.std.specs.Prelude.{◌≡◌, ◌++◌, ℕ, ⊤, List, length, Option, Result, Ok}
+use Rattle.std.specs.Prelude.{◌≡◌, ◌++◌, ℕ, List, length, Option, Result, Ok}
 use Rattle.burst.specs.declared.tagged.Tagged.{Ghosts}
 use Rattle.fabric.specs.declared.stored.Stored.{Ghosts as StoredGhosts}
 use Rattle.fabric.specs.declared.hand.StartFault.{StartFault}
-use Rattle.fabric.specs.declared.hand.StartFault.TheVariants as start
 use Rattle.fabric.specs.declared.hand.cache_hand.CacheHand.{CacheHand}
 use Rattle.fabric.specs.Hands.{OnRing}
 use Rattle.fabric.specs.Settles.{AreOwnBuffers}
@@ -27,18 +26,6 @@ use Rattle.capi.specs.declared.pools.member.Number.{Number}
 abbrev pub refusal_fault : Refusal → Fault
 refusal_fault (Start why) = start_fault why
 refusal_fault NotYours = fault.NotYours
-
--- another thread came first, so that a further try may succeed
-abbrev pub WasLost : StartFault → Type 0
-WasLost (start.Busy word) = ⊤
-WasLost (start.Contended word) = ⊤
-WasLost (start.NoRoom left) = ⊥
-WasLost start.Worn = ⊥
-WasLost start.BadCount = ⊥
-
-abbrev pub WasLostPut : Refusal → Type 0
-WasLostPut (Start why) = WasLost why
-WasLostPut NotYours = ⊥
 
 module _ {G : Ghosts Number} {H : StoredGhosts (Option Number) Number} where
   -- the handle has the numbers and the cache that it had

@@ -1,37 +1,40 @@
 //! The exports that open, split and close hands.
-ghost use Rattle.std.specs.Prelude.{◌≡◌, IfErr, None};
+ghost use Rattle.std.specs.Prelude.{◌≡◌, IfErr, IfOk, None, Some};
 ghost use Rattle.capi.specs.Codes.{Answers};
-ghost use Rattle.capi.specs.HandCalls.{AtRest};
+ghost use Rattle.capi.specs.HandCalls.{AtRest, HasNoHand};
 ghost use Rattle.capi.specs.HandExports.{OpensHand, SplitsAt, SplitsHand};
 ghost use Rattle.capi.specs.Rests.{DrainsRest};
 ghost use Rattle.capi.specs.Closings.{ClosesAt};
+ghost use Rattle.capi.specs.declared.object.Object.TheVariants as object;
 
-use crate::hand_slots::take_hand;
 use crate::handle::Handle;
-use crate::keeping::{borrow, give, is_used};
+use crate::keeping::{borrow, give, is_used, with_new, with_object};
 use crate::object::Object;
-use crate::rings::{Asked, Fault, MOST, Word64, answer, close, drain, open, split};
+use crate::rings::{Asked, Fault, MOST, Member, Word64, answer, close, drain, open, split};
 use std::alloc::Global;
-
-/// Puts a hand on new rings into an empty handle.
-fn open_at(alloc: Global, h: &mut Handle, asked: &[Asked]) -> Result<u32, Fault>
-    ensures { OpensHand result asked.now h.old.value h.new.value }
-{
-    if is_used(alloc, h) {
-        return Err(Fault::Used);
-    }
-    match open(alloc, asked) {
-        Ok(member) => give(alloc, Object::Hand(member), h),
-        Err(why) => Err(why),
-    }
-}
 
 /// Opens a set of rings, all empty, and the first hand on it.
 #[unsafe(no_mangle)]
 pub extern "C" fn hkx_hand_open(alloc: Global, h: &mut Handle, asked: &[Asked]) -> i64
     ensures { Answers result (λ outcome. OpensHand outcome asked.now h.old.value h.new.value) }
 {
-    answer(open_at(alloc, h, asked))
+    with_new!(alloc, h, Hand(open(alloc, asked)))
+}
+
+/// The hand of a handle. Errors: `Empty`; `Kind`. Nothing is changed then.
+fn take_hand(slot: &mut Option<Object>) -> Result<Member, Fault>
+    ensures hand { IfOk result (λ m. (slot.old ≡ Some (object.Hand m)) × (slot.new ≡ None)) }
+    ensures none { IfErr result (λ why. HasNoHand slot.old why × (slot.new ≡ slot.old)) }
+{
+    match slot {
+        Some(Object::Hand(_)) => (),
+        Some(_) => return Err(Fault::Kind),
+        None => return Err(Fault::Empty),
+    }
+    match slot.take() {
+        Some(Object::Hand(member)) => Ok(member),
+        _ => unreachable!(),
+    }
 }
 
 /// Splits the hand of a handle; the second hand goes into `room`.
@@ -94,7 +97,7 @@ pub extern "C" fn hkx_hand_split(alloc: Global, h: &mut Handle, second: &mut Han
 /// Closes the rings of the hand that a handle has.
 #[tactic(auto, using(crate::proofs::Slots::closes_none, crate::proofs::Slots::closes_hand))]
 fn close_in(slot: &mut Option<Object>) -> Result<u32, Fault>
-    ensures { ClosesAt result slot.old slot.new }
+    ensures { ClosesAt slot.old slot.new result }
 {
     match take_hand(slot) {
         Ok(member) => match close(member) {
@@ -112,7 +115,7 @@ fn close_in(slot: &mut Option<Object>) -> Result<u32, Fault>
 }
 
 fn close_at(alloc: Global, h: &mut Handle) -> Result<u32, Fault>
-    ensures { ClosesAt result h.old.value h.new.value }
+    ensures { ClosesAt h.old.value h.new.value result }
 {
     let Some(mut slot) = borrow(alloc, h) else {
         return Err(Fault::Empty);
@@ -125,35 +128,9 @@ fn close_at(alloc: Global, h: &mut Handle) -> Result<u32, Fault>
 /// Closes a set of rings by its only hand. Then the handle has what is left on them.
 #[unsafe(no_mangle)]
 pub extern "C" fn hkx_hand_close(alloc: Global, h: &mut Handle) -> i64
-    ensures { Answers result (λ outcome. ClosesAt outcome h.old.value h.new.value) }
+    ensures { Answers result (ClosesAt h.old.value h.new.value) }
 {
     answer(close_at(alloc, h))
-}
-
-/// Takes words that are left on a ring.
-fn drain_in(slot: &mut Option<Object>, ring: usize, words: &mut [Word64]) -> Result<u32, Fault>
-    ensures drained { AtRest slot.old slot.new result
-        (λ r u. DrainsRest result MOST ring words.old words.new r u) }
-    ensures refused { IfErr result (λ _. words.new ≡ words.old) }
-{
-    match slot {
-        Some(Object::Rest(rest)) => drain(rest, ring, words),
-        Some(_) => Err(Fault::Kind),
-        None => Err(Fault::Empty),
-    }
-}
-
-fn drain_at(alloc: Global, h: &mut Handle, ring: usize, words: &mut [Word64]) -> Result<u32, Fault>
-    ensures drained { AtRest h.old.value h.new.value result
-        (λ r u. DrainsRest result MOST ring words.old words.new r u) }
-    ensures refused { IfErr result (λ _. words.new ≡ words.old) }
-{
-    let Some(mut slot) = borrow(alloc, h) else {
-        return Err(Fault::Empty);
-    };
-    let outcome = drain_in(&mut slot, ring, words);
-    *h = Handle::of(slot);
-    outcome
 }
 
 /// Takes words that are left on a ring of a closed set, the oldest first.
@@ -164,9 +141,9 @@ pub extern "C" fn hkx_hand_drain(
     ring: usize,
     words: &mut [Word64],
 ) -> i64
-    ensures { Answers result (λ outcome. AtRest h.old.value h.new.value outcome
-        (λ r u. DrainsRest outcome MOST ring words.old words.new r u)
+    ensures { Answers result (λ outcome. AtRest h.old.value h.new.value
+        (λ r u code. DrainsRest code MOST ring words.old words.new r u) outcome
         × IfErr outcome (λ _. words.new ≡ words.old)) }
 {
-    answer(drain_at(alloc, h, ring, words))
+    with_object!(alloc, h, Rest(rest) => drain(rest, ring, words))
 }

@@ -16,6 +16,28 @@ pub(crate) fn borrow(alloc: Global, h: &mut Handle) -> Option<Box<Option<Object>
     std::mem::replace(h, Handle::none(alloc)).into_box()
 }
 
+/// Calls with what a handle has, in place: `with_object!(alloc, h, Hand(member) => ..)` is the code of what the call
+/// returns. Errors: `Empty` if the handle is null; `Kind` if it has something else. Nothing is changed then.
+macro_rules! with_object {
+    ($alloc:ident, $h:ident, $kind:ident($object:ident) => $call:expr) => {{
+        let outcome = match borrow($alloc, $h) {
+            Some(mut slot) => {
+                let outcome = match &mut *slot {
+                    Some(Object::$kind($object)) => $call,
+                    Some(_) => Err(Fault::Kind),
+                    None => Err(Fault::Empty),
+                };
+                *$h = Handle::of(slot);
+                outcome
+            }
+            None => Err(Fault::Empty),
+        };
+        answer(outcome)
+    }};
+}
+
+pub(crate) use with_object;
+
 /// Whether a handle isn't null.
 pub(crate) fn is_used(alloc: Global, h: &mut Handle) -> bool
     ensures kept { h.new.value ≡ h.old.value }
@@ -43,6 +65,24 @@ pub(crate) fn give(alloc: Global, object: Object, h: &mut Handle) -> Result<u32,
         Err(_) => Err(Fault::Memory),
     }
 }
+
+/// Puts a new object into a null handle: `with_new!(alloc, h, Hand(open(alloc, asked)))` is the code. Errors: `Used` if
+/// the handle isn't null; why there is no such object; `Memory`. Nothing is changed then.
+macro_rules! with_new {
+    ($alloc:ident, $h:ident, $kind:ident($made:expr)) => {{
+        let outcome = if is_used($alloc, $h) {
+            Err(Fault::Used)
+        } else {
+            match $made {
+                Ok(made) => give($alloc, Object::$kind(made), $h),
+                Err(why) => Err(why),
+            }
+        };
+        answer(outcome)
+    }};
+}
+
+pub(crate) use with_new;
 
 /// Takes out what a handle has, to be dropped as it is: an open span is neither settled nor withdrawn. Then the handle
 /// is null.

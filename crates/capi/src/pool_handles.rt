@@ -5,31 +5,18 @@ ghost use Rattle.capi.specs.PoolHandles.{HasNoPool, OpensPool, SplitsPool, Split
 ghost use Rattle.capi.specs.declared.object.Object.TheVariants as object;
 
 use crate::handle::Handle;
-use crate::keeping::{borrow, give, is_used};
+use crate::keeping::{borrow, give, is_used, with_new};
 use crate::object::Object;
 use crate::pools::{PoolMember, open_pool, split_pool};
 use crate::rings::{Fault, answer};
 use std::alloc::Global;
-
-/// Puts a new pool into a null handle.
-fn open_at(alloc: Global, h: &mut Handle, n: u32, size: u32, rings: u32) -> Result<u32, Fault>
-    ensures { OpensPool result n size rings h.old.value h.new.value }
-{
-    if is_used(alloc, h) {
-        return Err(Fault::Used);
-    }
-    match open_pool(alloc, n, size, rings) {
-        Ok(pool) => give(alloc, Object::Pool(pool), h),
-        Err(why) => Err(why),
-    }
-}
 
 /// Opens a pool of n numbers, with this size of cache for each handle, and as many rings to pass numbers on.
 #[unsafe(no_mangle)]
 pub extern "C" fn hkx_pool_open(alloc: Global, h: &mut Handle, n: u32, size: u32, rings: u32) -> i64
     ensures { Answers result (λ outcome. OpensPool outcome n size rings h.old.value h.new.value) }
 {
-    answer(open_at(alloc, h, n, size, rings))
+    with_new!(alloc, h, Pool(open_pool(alloc, n, size, rings)))
 }
 
 /// The pool of a handle. Errors: `Empty`; `Kind`. Nothing is changed then.

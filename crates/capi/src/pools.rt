@@ -10,7 +10,7 @@ mod puts;
 mod splits;
 mod tries;
 
-pub(crate) use gets::get_numbers;
+pub(crate) use gets::get_into;
 pub(crate) use member::{Number, PoolMember};
 pub(crate) use opening::open_pool;
 pub(crate) use passing::{pass_on, take_over};

@@ -1,10 +1,8 @@
 //! Calls on a reorder window.
 ghost use Rattle.std.specs.Prelude.{◌≡◌, ◌≤◌, ◌<◌, IfErr, IfOk, Ok, length};
 ghost use Rattle.reorder.specs.Waiting.{empty_window, slid_to};
-ghost use Rattle.capi.specs.Handles.{AtWindow};
 ghost use Rattle.capi.specs.Windows.{Drains, Inserts, RefusesWindow, window_fault};
 
-use crate::object::Object;
 use crate::rings::Fault;
 use reorder::{InsertFault, MAX_SIZE, Window};
 use std::alloc::Global;
@@ -38,17 +36,13 @@ pub(crate) fn made(alloc: Global, size: u32) -> Result<Window<u64>, Fault>
     }
 }
 
-/// Inserts a word under its number.
-pub(crate) fn insert(slot: &mut Option<Object>, number: u64, word: u64) -> Result<u32, Fault>
-    ensures { AtWindow slot.old slot.new result (λ w u. Inserts result number word w u) }
+/// Inserts a word under its number. Errors: the window's own.
+pub(crate) fn insert(window: &mut Window<u64>, number: u64, word: u64) -> Result<u32, Fault>
+    ensures { Inserts result number word window.old window.new }
 {
-    match slot {
-        Some(Object::Reorder(window)) => match window.insert(number, word) {
-            Ok(()) => Ok(0),
-            Err((_, why)) => Err(fault(why)),
-        },
-        Some(_) => Err(Fault::Kind),
-        None => Err(Fault::Empty),
+    match window.insert(number, word) {
+        Ok(()) => Ok(0),
+        Err((_, why)) => Err(fault(why)),
     }
 }
 
@@ -66,50 +60,28 @@ fn drain_from(window: &mut Window<u64>, words: &mut [u64]) -> u32
     words.len() as u32
 }
 
-/// The same of a handle's window.
-pub(crate) fn drain(slot: &mut Option<Object>, words: &mut [u64]) -> Result<u32, Fault>
-    ensures drained { AtWindow slot.old slot.new result (λ w u. Drains result MOST words.old words.new w u) }
-    ensures refused { IfErr result (λ _. words.new ≡ words.old) }
+/// The same for any number of places. Errors: `Count` if there are more than `MOST`.
+pub(crate) fn drain(window: &mut Window<u64>, words: &mut [u64]) -> Result<u32, Fault>
+    ensures { Drains result MOST words.old words.new window.old window.new }
 {
-    match slot {
-        Some(Object::Reorder(window)) => {
-            if words.len() > MOST {
-                return Err(Fault::Count);
-            }
-            Ok(drain_from(window, words))
-        }
-        Some(_) => Err(Fault::Kind),
-        None => Err(Fault::Empty),
+    if words.len() > MOST {
+        return Err(Fault::Count);
     }
+    Ok(drain_from(window, words))
 }
 
 /// The number whose turn it is.
-pub(crate) fn next(slot: &Option<Object>, number: &mut u64) -> Result<u32, Fault>
-    ensures next { AtWindow slot.now slot.now result
-        (λ w u. (u ≡ w) × (result ≡ Ok 0) × (number.new ≡ w.next)) }
-    ensures refused { IfErr result (λ _. number.new ≡ number.old) }
+pub(crate) fn next(window: &Window<u64>, number: &mut u64) -> Result<u32, Fault>
+    ensures { (result ≡ Ok 0) × (number.new ≡ window.now.next) }
 {
-    match slot {
-        Some(Object::Reorder(window)) => {
-            *number = window.next();
-            Ok(0)
-        }
-        Some(_) => Err(Fault::Kind),
-        None => Err(Fault::Empty),
-    }
+    *number = window.next();
+    Ok(0)
 }
 
 /// Stops waiting for numbers below this one.
-pub(crate) fn slide(slot: &mut Option<Object>, number: u64) -> Result<u32, Fault>
-    ensures { AtWindow slot.old slot.new result
-        (λ w u. (result ≡ Ok 0) × (u ≡ record w { next = slid_to w number })) }
+pub(crate) fn slide(window: &mut Window<u64>, number: u64) -> Result<u32, Fault>
+    ensures { (result ≡ Ok 0) × (window.new ≡ record window.old { next = slid_to window.old number }) }
 {
-    match slot {
-        Some(Object::Reorder(window)) => {
-            let _turn = window.slide(number);
-            Ok(0)
-        }
-        Some(_) => Err(Fault::Kind),
-        None => Err(Fault::Empty),
-    }
+    let _turn = window.slide(number);
+    Ok(0)
 }

@@ -1,9 +1,9 @@
 //! Rings of words as C calls them: a hand with its rings in one value, and the calls on it.
 //!
 //! `member` is a thread's hand on a set of rings, `opening` and `making` make it, `member_calls` splits it and looks at
-//! it, `closing` and `ending` close its rings. `whole_calls` puts and takes words in one call, through `put` and
-//! `take`; `span_calls` peeks and finishes, through `peeking` and `finishing`. Below them `starting` and `settling` are
-//! the two halves of a call. `word64` is a word, and `fault` what calls return.
+//! it, `closing` and `ending` close its rings. `whole_calls` puts and takes words in one call; `span_calls` peeks and
+//! finishes, through `peeking` and `finishing`. Below these `starting` and `settling` are the two halves of a call.
+//! `word64` is a word, and `fault` what calls return.
 mod closing;
 mod ending;
 mod fault;
@@ -13,11 +13,9 @@ mod member;
 mod member_calls;
 mod opening;
 mod peeking;
-mod put;
 mod settling;
 mod span_calls;
 mod starting;
-mod take;
 mod whole_calls;
 mod word64;
 
@@ -26,7 +24,7 @@ pub(crate) use ending::{close, drain};
 pub(crate) use fault::{Fault, answer};
 pub(crate) use making::open;
 pub(crate) use member::{MOST, Member};
-pub(crate) use member_calls::{look, split};
+pub(crate) use member_calls::{clamped, look, side_of, split};
 pub(crate) use opening::Asked;
 pub(crate) use span_calls::{finish_put_of, finish_take_of, peek_put_of, peek_take_of};
 pub(crate) use starting::fault_of;

@@ -1,4 +1,4 @@
-//! The exports for routes. Each call takes the table out of its handle and puts it back.
+//! The exports for routes.
 ghost use Rattle.std.specs.Prelude.{◌≡◌, IfErr};
 ghost use Rattle.lpm.specs.Match.{lookup_in};
 ghost use Rattle.capi.specs.Codes.{Answers};
@@ -6,24 +6,11 @@ ghost use Rattle.capi.specs.Handles.{AtRoutes};
 ghost use Rattle.capi.specs.Tables.{Adds, LooksUpAll, OpensTable, Removes, Shares, hop_found};
 
 use crate::handle::Handle;
-use crate::keeping::{borrow, give, is_used};
+use crate::keeping::{borrow, give, is_used, with_new, with_object};
 use crate::object::Object;
 use crate::rings::{Fault, answer};
-use crate::route_tables::{add, look_up, look_up_all, made, remove, shared};
+use crate::route_tables::{add, look_up, look_up_in, made, remove, shared};
 use std::alloc::Global;
-
-/// A new table in an empty handle.
-fn open_at(alloc: Global, h: &mut Handle, bits: u32, groups: u32) -> Result<u32, Fault>
-    ensures { OpensTable result bits groups h.old.value h.new.value }
-{
-    if is_used(alloc, h) {
-        return Err(Fault::Used);
-    }
-    match made(alloc, bits, groups) {
-        Ok(table) => give(alloc, Object::Routes(table), h),
-        Err(why) => Err(why),
-    }
-}
 
 /// The same table in a second handle.
 fn share_at(alloc: Global, h: &mut Handle, second: &mut Handle) -> Result<u32, Fault>
@@ -43,64 +30,12 @@ fn share_at(alloc: Global, h: &mut Handle, second: &mut Handle) -> Result<u32, F
     }
 }
 
-fn add_at(alloc: Global, h: &mut Handle, address: u32, depth: u32, hop: u32) -> Result<u32, Fault>
-    ensures { AtRoutes h.old.value h.new.value result (λ t u. Adds result address depth hop t u) }
-{
-    let Some(mut slot) = borrow(alloc, h) else {
-        return Err(Fault::Empty);
-    };
-    let outcome = add(&mut slot, address, depth, hop);
-    *h = Handle::of(slot);
-    outcome
-}
-
-fn remove_at(alloc: Global, h: &mut Handle, address: u32, depth: u32) -> Result<u32, Fault>
-    ensures { AtRoutes h.old.value h.new.value result (λ t u. Removes result address depth t u) }
-{
-    let Some(mut slot) = borrow(alloc, h) else {
-        return Err(Fault::Empty);
-    };
-    let outcome = remove(&mut slot, address, depth);
-    *h = Handle::of(slot);
-    outcome
-}
-
-fn look_up_at(alloc: Global, h: &mut Handle, address: u32) -> Result<u32, Fault>
-    ensures { AtRoutes h.old.value h.new.value result
-        (λ t u. (u ≡ t) × (result ≡ hop_found (lookup_in t.members address))) }
-{
-    let Some(slot) = borrow(alloc, h) else {
-        return Err(Fault::Empty);
-    };
-    let outcome = look_up(&slot, address);
-    *h = Handle::of(slot);
-    outcome
-}
-
-fn look_up_all_at(
-    alloc: Global,
-    h: &mut Handle,
-    addresses: &[u32],
-    hops: &mut [u32],
-) -> Result<u32, Fault>
-    ensures all { AtRoutes h.old.value h.new.value result
-        (λ t u. (u ≡ t) × LooksUpAll result addresses.now hops.old hops.new t.members) }
-    ensures refused { IfErr result (λ _. hops.new ≡ hops.old) }
-{
-    let Some(slot) = borrow(alloc, h) else {
-        return Err(Fault::Empty);
-    };
-    let outcome = look_up_all(&slot, addresses, hops);
-    *h = Handle::of(slot);
-    outcome
-}
-
 /// Opens a table without routes: its first level has 2^`bits` entries, 16 or 24, and it may have `groups` groups.
 #[unsafe(no_mangle)]
 pub extern "C" fn hkx_routes_open(alloc: Global, h: &mut Handle, bits: u32, groups: u32) -> i64
     ensures { Answers result (λ outcome. OpensTable outcome bits groups h.old.value h.new.value) }
 {
-    answer(open_at(alloc, h, bits, groups))
+    with_new!(alloc, h, Routes(made(alloc, bits, groups)))
 }
 
 /// Gives a second handle the same table.
@@ -121,28 +56,28 @@ pub extern "C" fn hkx_routes_add(
     depth: u32,
     hop: u32,
 ) -> i64
-    ensures { Answers result (λ outcome. AtRoutes h.old.value h.new.value outcome
-        (λ t u. Adds outcome address depth hop t u)) }
+    ensures { Answers result
+        (AtRoutes h.old.value h.new.value (λ t u outcome. Adds outcome address depth hop t u)) }
 {
-    answer(add_at(alloc, h, address, depth, hop))
+    with_object!(alloc, h, Routes(table) => add(table, address, depth, hop))
 }
 
 /// Removes a route.
 #[unsafe(no_mangle)]
 pub extern "C" fn hkx_routes_remove(alloc: Global, h: &mut Handle, address: u32, depth: u32) -> i64
-    ensures { Answers result (λ outcome. AtRoutes h.old.value h.new.value outcome
-        (λ t u. Removes outcome address depth t u)) }
+    ensures { Answers result
+        (AtRoutes h.old.value h.new.value (λ t u outcome. Removes outcome address depth t u)) }
 {
-    answer(remove_at(alloc, h, address, depth))
+    with_object!(alloc, h, Routes(table) => remove(table, address, depth))
 }
 
 /// The next hop of the longest route that covers an address.
 #[unsafe(no_mangle)]
 pub extern "C" fn hkx_routes_lookup(alloc: Global, h: &mut Handle, address: u32) -> i64
-    ensures { Answers result (λ outcome. AtRoutes h.old.value h.new.value outcome
-        (λ t u. (u ≡ t) × (outcome ≡ hop_found (lookup_in t.members address)))) }
+    ensures { Answers result (AtRoutes h.old.value h.new.value
+        (λ t u outcome. (u ≡ t) × (outcome ≡ hop_found (lookup_in t.members address)))) }
 {
-    answer(look_up_at(alloc, h, address))
+    with_object!(alloc, h, Routes(table) => look_up(table, address))
 }
 
 /// The next hops for addresses, each at its address's place; 2^32 - 1 if no route covers an address.
@@ -153,9 +88,9 @@ pub extern "C" fn hkx_routes_lookup_bulk(
     addresses: &[u32],
     hops: &mut [u32],
 ) -> i64
-    ensures { Answers result (λ outcome. AtRoutes h.old.value h.new.value outcome
-        (λ t u. (u ≡ t) × LooksUpAll outcome addresses.now hops.old hops.new t.members)
+    ensures { Answers result (λ outcome. AtRoutes h.old.value h.new.value
+        (λ t u code. (u ≡ t) × LooksUpAll code addresses.now hops.old hops.new t.members) outcome
         × IfErr outcome (λ _. hops.new ≡ hops.old)) }
 {
-    answer(look_up_all_at(alloc, h, addresses, hops))
+    with_object!(alloc, h, Routes(table) => look_up_in(table, addresses, hops))
 }

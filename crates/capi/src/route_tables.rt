@@ -2,7 +2,6 @@
 ghost use Rattle.std.specs.Prelude.{◌≡◌, ◌<◌, ◌≤◌, ◌⊎◌, IfErr, IfOk, length, take};
 ghost use Rattle.lpm.specs.Match.{lookup_in};
 ghost use Rattle.lpm.specs.Routes.{IsNew};
-ghost use Rattle.capi.specs.Handles.{AtRoutes};
 ghost use Rattle.capi.specs.Tables.{Adds, FindsTable, LooksUpAll, RefusesTable, Removes, fault_of, hop_found};
 ghost use Rattle.capi.specs.Tables.{hop_word, hop_words};
 
@@ -90,51 +89,34 @@ fn remove_alone(table: &mut Table, address: u32, depth: u32) -> Result<u32, Faul
     }
 }
 
-/// Adds a route, or changes the next hop of its prefix.
-pub(crate) fn add(
-    slot: &mut Option<Object>,
-    address: u32,
-    depth: u32,
-    hop: u32,
-) -> Result<u32, Fault>
-    ensures { AtRoutes slot.old slot.new result (λ t u. Adds result address depth hop t u) }
+/// Adds a route, or changes the next hop of its prefix. Errors: `Shared` if other handles have the table, too; the
+/// table's own.
+pub(crate) fn add(table: &mut Arc<Table>, address: u32, depth: u32, hop: u32) -> Result<u32, Fault>
+    ensures { Adds result address depth hop table.old.value table.new.value }
 {
-    match slot {
-        Some(Object::Routes(table)) => match Arc::get_mut(table) {
-            Some(alone) => add_alone(alone, address, depth, hop),
-            None => Err(Fault::Shared),
-        },
-        Some(_) => Err(Fault::Kind),
-        None => Err(Fault::Empty),
+    match Arc::get_mut(table) {
+        Some(alone) => add_alone(alone, address, depth, hop),
+        None => Err(Fault::Shared),
     }
 }
 
-/// Removes a route.
-pub(crate) fn remove(slot: &mut Option<Object>, address: u32, depth: u32) -> Result<u32, Fault>
-    ensures { AtRoutes slot.old slot.new result (λ t u. Removes result address depth t u) }
+/// Removes a route. Errors: as `add`.
+pub(crate) fn remove(table: &mut Arc<Table>, address: u32, depth: u32) -> Result<u32, Fault>
+    ensures { Removes result address depth table.old.value table.new.value }
 {
-    match slot {
-        Some(Object::Routes(table)) => match Arc::get_mut(table) {
-            Some(alone) => remove_alone(alone, address, depth),
-            None => Err(Fault::Shared),
-        },
-        Some(_) => Err(Fault::Kind),
-        None => Err(Fault::Empty),
+    match Arc::get_mut(table) {
+        Some(alone) => remove_alone(alone, address, depth),
+        None => Err(Fault::Shared),
     }
 }
 
-/// The next hop for an address.
-pub(crate) fn look_up(slot: &Option<Object>, address: u32) -> Result<u32, Fault>
-    ensures { AtRoutes slot.now slot.now result
-        (λ t u. (u ≡ t) × (result ≡ hop_found (lookup_in t.members address))) }
+/// The next hop for an address. Errors: `NoRoute`.
+pub(crate) fn look_up(table: &Table, address: u32) -> Result<u32, Fault>
+    ensures { result ≡ hop_found (lookup_in table.now.members address) }
 {
-    match slot {
-        Some(Object::Routes(table)) => match table.lookup(address) {
-            Some(hop) => Ok(hop),
-            None => Err(Fault::NoRoute),
-        },
-        Some(_) => Err(Fault::Kind),
-        None => Err(Fault::Empty),
+    match table.lookup(address) {
+        Some(hop) => Ok(hop),
+        None => Err(Fault::NoRoute),
     }
 }
 
@@ -189,21 +171,4 @@ pub(crate) fn look_up_in(table: &Table, addresses: &[u32], hops: &mut [u32]) -> 
     }
     write_hops(table, addresses, hops);
     Ok(0)
-}
-
-/// The next hops for addresses. Errors: `Count` if there are not as many places.
-pub(crate) fn look_up_all(
-    slot: &Option<Object>,
-    addresses: &[u32],
-    hops: &mut [u32],
-) -> Result<u32, Fault>
-    ensures all { AtRoutes slot.now slot.now result
-        (λ t u. (u ≡ t) × LooksUpAll result addresses.now hops.old hops.new t.members) }
-    ensures refused { IfErr result (λ _. hops.new ≡ hops.old) }
-{
-    match slot {
-        Some(Object::Routes(table)) => look_up_in(table, addresses, hops),
-        Some(_) => Err(Fault::Kind),
-        None => Err(Fault::Empty),
-    }
 }

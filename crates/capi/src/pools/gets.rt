@@ -6,17 +6,16 @@ ghost use Rattle.pool_laws.specs.Caches.{cached_after_get, taken_by_get};
 ghost use Rattle.pool.specs.Locals.{HasSameHand, IsLocalOf, SameRing, cache_of, cache_size, view_of};
 ghost use Rattle.capi.specs.PoolCalls.{Gets, HasDrawn};
 ghost use Rattle.capi.specs.PoolMembers.{ArePoolRings, numbers_of};
+ghost use Rattle.capi.specs.Same.{GetsNumbers};
 ghost use Rattle.capi.specs.Tries.{IsSame, Received};
 
-use crate::pools::member::{MOST_NUMBERS, Number};
+use crate::pools::member::{MOST_ASKED, MOST_NUMBERS, Number, PoolCache, PoolMember, PoolRings};
 use crate::pools::tries::{Tries, receive};
 use crate::rings::{Fault, fault_of};
-use burst::Slot;
-use fabric::{Fabric, StartFault};
-use pool::LocalWords;
+use fabric::StartFault;
 
 /// Deals what the cache has and what the free ring gave: the array is filled, and the rest is cached.
-fn deal(local: &mut LocalWords<Number, 1024, Slot<Number>>, taken: &[Number], into: &mut [Number])
+fn deal(local: &mut PoolCache, taken: &[Number], into: &mut [Number])
     requires short { length (cache_of local.old) < length into.old }
     requires enough { length into.old - length (cache_of local.old) ≤ length taken.now }
     requires rest { length taken.now ≤ length into.old - length (cache_of local.old) + cache_size local.old }
@@ -42,8 +41,8 @@ fn deal(local: &mut LocalWords<Number, 1024, Slot<Number>>, taken: &[Number], in
 /// Gets numbers, with `asked` of them from the free ring.
 #[inline(never)]
 fn draw(
-    f: &Fabric<Number, 1024, Slot<Number>>,
-    local: &mut LocalWords<Number, 1024, Slot<Number>>,
+    f: &PoolRings,
+    local: &mut PoolCache,
     asked: usize,
     into: &mut [Number],
 ) -> Result<(), StartFault>
@@ -53,13 +52,13 @@ fn draw(
     requires short { length (cache_of local.old) < length into.old }
     requires enough { length into.old - length (cache_of local.old) ≤ asked }
     requires most { asked ≤ length into.old - length (cache_of local.old) + cache_size local.old }
-    requires fits { asked ≤ 1024 }
+    requires fits { asked ≤ MOST_ASKED }
     ensures local { IsLocalOf f.now local.new }
     ensures got { IfOk result (λ _. HasDrawn f.now local.old local.new (length into.old) asked into.new) }
     ensures back { IfErr result (λ _. (into.new ≡ into.old) × IsSame local.old local.new) }
     ensures refused { IfErr result (λ why. Received f.now 0 asked local.old local.new (Err why) []) }
 {
-    let mut places = [Number { value: 0 }; 1024];
+    let mut places = [Number { value: 0 }; MOST_ASKED];
     let taken = &mut places[..asked];
     match receive(f, local, 0, taken, &mut Tries::new()) {
         Ok(_) => {
@@ -72,16 +71,12 @@ fn draw(
 
 /// Gets numbers if the cache has too few: with a whole cache more, or if the free ring has fewer, without.
 #[inline(never)]
-fn get_more(
-    f: &Fabric<Number, 1024, Slot<Number>>,
-    local: &mut LocalWords<Number, 1024, Slot<Number>>,
-    into: &mut [Number],
-) -> Result<u32, Fault>
+fn get_more(f: &PoolRings, local: &mut PoolCache, into: &mut [Number]) -> Result<u32, Fault>
     requires local { IsLocalOf f.now local.old }
     requires rings { ArePoolRings (rings_of f.now) }
     requires there { 0 < length (rings_of f.now) }
     requires short { length (cache_of local.old) < length into.old }
-    requires few { length into.old ≤ 512 }
+    requires few { length into.old ≤ MOST_NUMBERS }
     ensures local { IsLocalOf f.now local.new }
     ensures exact { Gets f.now local.old local.new into.old into.new result }
 {
@@ -101,11 +96,7 @@ fn get_more(
 
 /// Fills an array with numbers, or leaves it as it is.
 #[inline(always)]
-pub fn get_numbers(
-    f: &Fabric<Number, 1024, Slot<Number>>,
-    local: &mut LocalWords<Number, 1024, Slot<Number>>,
-    into: &mut [Number],
-) -> Result<u32, Fault>
+fn get_numbers(f: &PoolRings, local: &mut PoolCache, into: &mut [Number]) -> Result<u32, Fault>
     requires local { IsLocalOf f.now local.old }
     requires rings { ArePoolRings (rings_of f.now) }
     requires there { 0 < length (rings_of f.now) }
@@ -123,4 +114,12 @@ pub fn get_numbers(
         Ok(()) => Ok(n as u32),
         Err(_) => unreachable!(),
     }
+}
+
+/// Fills an array with numbers of a handle's pool, or leaves it as it is.
+#[inline(always)]
+pub fn get_into(pool: &mut PoolMember, into: &mut [Number]) -> Result<u32, Fault>
+    ensures { GetsNumbers into.old into.new pool.old pool.new result }
+{
+    get_numbers(&pool.fabric, &mut pool.local, into)
 }

@@ -10,8 +10,29 @@ use fabric::{Fabric, Hand};
 use pool::LocalWords;
 use std::sync::Arc;
 
-/// The most numbers of one call. A get asks the free ring for these and a whole cache, 1,024 at most.
+/// The most numbers of one call.
 pub(crate) const MOST_NUMBERS: usize = 512;
+
+/// The most numbers of one request to a ring: a get asks for those of a call and a whole cache.
+pub(crate) const MOST_ASKED: usize = 1024;
+
+/// The largest size of a cache.
+pub(crate) const MAX_CACHE: u32 = 512;
+
+/// The most numbers of a pool.
+pub(crate) const MAX_POOL: u32 = 65_536;
+
+/// The most rings that pass numbers on: a set of rings has 64, and one is the free ring.
+pub(crate) const MAX_RINGS: u32 = 63;
+
+/// The rings of a pool.
+pub(crate) type PoolRings = Fabric<Number, 1024, Slot<Number>>;
+
+/// A hand on them.
+pub(crate) type PoolHand = Hand<Number, Slot<Number>>;
+
+/// A cache in front of the free ring.
+pub(crate) type PoolCache = LocalWords<Number, 1024, Slot<Number>>;
 
 /// A number of a pool. The thread that has it owns what it stands for.
 #[repr(C)]
@@ -46,10 +67,10 @@ impl Word for Number {
 /// A cache with its rings, so that no call brings together a cache and rings of another pool. Ring 0 is the free ring.
 #[derive(Drop)]
 pub struct PoolMember {
-    pub fabric: Arc<Fabric<Number, 1024, Slot<Number>>>,
-    pub local: LocalWords<Number, 1024, Slot<Number>>,
+    pub fabric: Arc<PoolRings>,
+    pub local: PoolCache,
     /// A hand without numbers: the hands of further handles are split off it, so that a split leaves the cache alone.
-    pub reserve: Hand<Number, Slot<Number>>,
+    pub reserve: PoolHand,
     /// How many rings pass numbers on: those after the free ring.
     pub rings: usize,
     pub ghost plans: { ArePoolRings (rings_of fabric.value) },

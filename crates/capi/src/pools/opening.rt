@@ -7,12 +7,12 @@ ghost use Rattle.capi.specs.PoolOpenings.{ArePut, HasPut, IsNewPool, IsPoolSize,
 ghost use Rattle.capi.specs.PoolMembers.{ArePoolRings, all_numbers};
 ghost use Rattle.capi.specs.declared.rings.fault.Fault.TheVariants as fault;
 
-use crate::pools::member::{Number, PoolMember};
+use crate::pools::member::{
+    MAX_CACHE, MAX_POOL, MAX_RINGS, Number, PoolCache, PoolHand, PoolMember, PoolRings,
+};
 use crate::rings::Fault;
-use burst::Slot;
-use fabric::{Fabric, Hand, OpenFault, Opened};
+use fabric::{Fabric, OpenFault, Opened};
 use geom::{Geometry, Mode, RingPlan};
-use pool::LocalWords;
 use ringapi::{PutAnswer, try_put_bulk_slice};
 use std::alloc::Global;
 use std::sync::Arc;
@@ -26,7 +26,7 @@ const BULKS: usize = 64;
 /// The size of each ring: it takes all numbers.
 fn extent(n: u32) -> Geometry
     requires some { 0 < n }
-    requires few { n ≤ 65536 }
+    requires few { n ≤ MAX_POOL }
     ensures capacity { result.capacity ≡ n }
     ensures extent { IsExtent result }
 {
@@ -39,8 +39,8 @@ fn extent(n: u32) -> Geometry
 /// The rings of a pool: each takes all numbers, and its sides are head/tail-sync. The first is the free ring.
 fn plans(alloc: Global, n: u32, rings: usize) -> Result<Vec<RingPlan>, Fault>
     requires some { 0 < n }
-    requires few { n ≤ 65536 }
-    requires rings { rings ≤ 63 }
+    requires few { n ≤ MAX_POOL }
+    requires rings { rings ≤ MAX_RINGS }
     ensures made { IfOk result (λ made. ArePoolRings made.items × MayStand made.items n 1024) }
     ensures many { IfOk result (λ made. length made.items ≡ rings + 1) }
     ensures refused { IfErr result (λ why. why ≡ fault.Memory) }
@@ -71,11 +71,7 @@ fn numbers(alloc: Global, n: u32) -> Result<Vec<Number>, Fault>
 }
 
 /// Puts numbers on the free ring. No other hand is there yet, so that nothing stands in the way.
-fn put_some(
-    f: &Fabric<Number, 1024, Slot<Number>>,
-    hand: Hand<Number, Slot<Number>>,
-    items: &[Number],
-) -> Result<Hand<Number, Slot<Number>>, Fault>
+fn put_some(f: &PoolRings, hand: PoolHand, items: &[Number]) -> Result<PoolHand, Fault>
     requires hand { IsHandOf f.now hand }
     requires rings { ArePoolRings (rings_of f.now) }
     requires there { 0 < length (rings_of f.now) }
@@ -90,16 +86,12 @@ fn put_some(
 }
 
 /// Puts all numbers on the free ring, in order.
-fn fill(
-    f: &Fabric<Number, 1024, Slot<Number>>,
-    hand: Hand<Number, Slot<Number>>,
-    items: &[Number],
-) -> Result<Hand<Number, Slot<Number>>, Fault>
+fn fill(f: &PoolRings, hand: PoolHand, items: &[Number]) -> Result<PoolHand, Fault>
     requires hand { IsHandOf f.now hand }
     requires rings { ArePoolRings (rings_of f.now) }
     requires there { 0 < length (rings_of f.now) }
     requires new { (view hand).party.settled ≡ [] }
-    requires few { length items.now ≤ 65536 }
+    requires few { length items.now ≤ MAX_POOL }
     ensures hand { IfOk result (λ h. IsHandOf f.now h) }
     ensures put { IfOk result (λ h. ArePut (view h).party.settled items.now) }
     ensures refused { IfErr result (λ why. why ≡ fault.Memory) }
@@ -122,8 +114,8 @@ fn fill(
 /// The first handle of a pool: all numbers are put on the free ring, and a hand is split off for later splits.
 fn stocked(
     alloc: Global,
-    fabric: Fabric<Number, 1024, Slot<Number>>,
-    hand: Hand<Number, Slot<Number>>,
+    fabric: PoolRings,
+    hand: PoolHand,
     items: &[Number],
     size: usize,
     rings: usize,
@@ -133,8 +125,8 @@ fn stocked(
     requires many { length (rings_of fabric) ≡ rings + 1 }
     requires new { (view hand).party.settled ≡ [] }
     requires all { items.now ≡ all_numbers (pool_of fabric) }
-    requires few { pool_of fabric ≤ 65536 }
-    requires small { size ≤ 512 }
+    requires few { pool_of fabric ≤ MAX_POOL }
+    requires small { size ≤ MAX_CACHE }
     ensures made { IfOk result (λ p. IsNewPool (pool_of fabric) size rings p) }
     ensures refused { IfErr result (λ why. why ≡ fault.Memory) }
 {
@@ -145,7 +137,7 @@ fn stocked(
     let Ok((first, reserve)) = hand.split(alloc, &fabric) else {
         return Err(Fault::Memory);
     };
-    match LocalWords::new(alloc, first, 0, size) {
+    match PoolCache::new(alloc, first, 0, size) {
         Ok(local) => Ok(PoolMember {
             fabric,
             local,
@@ -161,10 +153,10 @@ fn may_be(n: u32, size: u32, rings: u32) -> bool
     ensures may { result ≡ true → IsPoolSize n size rings }
     ensures not { result ≡ false → NoPoolSize n size rings }
 {
-    if n == 0 || n > 65536 {
+    if n == 0 || n > MAX_POOL {
         return false;
     }
-    size <= 512 && rings <= 63
+    size <= MAX_CACHE && rings <= MAX_RINGS
 }
 
 /// A pool of n numbers, none of them cached, with this size of cache and as many rings to pass numbers on. Errors:

@@ -1,58 +1,42 @@
 //! Numbers that are passed on to other handles by rings, and taken over from them.
-ghost use Rattle.std.specs.Prelude.{◌≡◌, ◌<◌, length};
-ghost use Rattle.fabric.specs.Hands.{rings_of};
-ghost use Rattle.pool.specs.Locals.{IsLocalOf};
-ghost use Rattle.capi.specs.PoolCalls.{PassesOn, TakesOver};
-ghost use Rattle.capi.specs.PoolMembers.{ArePoolRings};
+ghost use Rattle.capi.specs.Same.{ReceivesNumbers, SendsNumbers};
 
-use crate::pools::member::{MOST_NUMBERS, Number};
+use crate::pools::member::{MOST_NUMBERS, Number, PoolMember};
 use crate::pools::tries::{Tries, receive, refused, send};
 use crate::rings::{Fault, fault_of};
-use burst::Slot;
-use fabric::Fabric;
-use pool::LocalWords;
 
-/// Puts numbers on a ring, from which another handle takes them over.
-pub fn pass_on(
-    f: &Fabric<Number, 1024, Slot<Number>>,
-    local: &mut LocalWords<Number, 1024, Slot<Number>>,
-    ring: usize,
-    items: &[Number],
-) -> Result<u32, Fault>
-    requires local { IsLocalOf f.now local.old }
-    requires rings { ArePoolRings (rings_of f.now) }
-    requires there { ring < length (rings_of f.now) }
-    ensures local { IsLocalOf f.now local.new }
-    ensures exact { PassesOn f.now local.old local.new ring items.now result }
+/// Puts numbers on a ring, from which another handle takes them over. Errors: `Ring`; `Count`; those of the last try.
+pub fn pass_on(pool: &mut PoolMember, ring: usize, items: &[Number]) -> Result<u32, Fault>
+    ensures { SendsNumbers ring items.now pool.old pool.new result }
 {
+    if ring >= pool.rings {
+        return Err(Fault::Ring);
+    }
     let n = items.len();
     if n == 0 || n > MOST_NUMBERS {
         return Err(Fault::Count);
     }
-    match send(f, local, ring, items, &mut Tries::new()) {
+    // Ring 0 is the free ring.
+    let to = ring + 1;
+    match send(&pool.fabric, &mut pool.local, to, items, &mut Tries::new()) {
         Ok(_) => Ok(n as u32),
         Err(why) => Err(refused(why)),
     }
 }
 
-/// Fills an array with numbers of a ring, or leaves it as it is.
-pub fn take_over(
-    f: &Fabric<Number, 1024, Slot<Number>>,
-    local: &mut LocalWords<Number, 1024, Slot<Number>>,
-    ring: usize,
-    into: &mut [Number],
-) -> Result<u32, Fault>
-    requires local { IsLocalOf f.now local.old }
-    requires rings { ArePoolRings (rings_of f.now) }
-    requires there { ring < length (rings_of f.now) }
-    ensures local { IsLocalOf f.now local.new }
-    ensures exact { TakesOver f.now local.old local.new ring into.old into.new result }
+/// Fills an array with numbers of a ring, or leaves it as it is. Errors: `Ring`; `Count`; those of the last try.
+pub fn take_over(pool: &mut PoolMember, ring: usize, into: &mut [Number]) -> Result<u32, Fault>
+    ensures { ReceivesNumbers ring into.old into.new pool.old pool.new result }
 {
+    if ring >= pool.rings {
+        return Err(Fault::Ring);
+    }
     let n = into.len();
     if n == 0 || n > MOST_NUMBERS {
         return Err(Fault::Count);
     }
-    match receive(f, local, ring, into, &mut Tries::new()) {
+    let from = ring + 1;
+    match receive(&pool.fabric, &mut pool.local, from, into, &mut Tries::new()) {
         Ok(_) => Ok(n as u32),
         Err(why) => Err(fault_of(why)),
     }

@@ -5,21 +5,14 @@ ghost use Rattle.pool.specs.Locals.{IsLocalOf};
 ghost use Rattle.capi.specs.PoolCalls.{Flushes, Puts};
 ghost use Rattle.capi.specs.PoolMembers.{ArePoolRings};
 
-use crate::pools::member::{MOST_NUMBERS, Number};
+use crate::pools::member::{MOST_ASKED, MOST_NUMBERS, Number, PoolCache, PoolRings};
 use crate::pools::tries::{Tries, refused, send};
 use crate::rings::Fault;
-use burst::Slot;
-use fabric::Fabric;
-use pool::LocalWords;
 use pool_laws::PoolFault;
 
 /// Puts numbers back that the handle has.
 #[inline(always)]
-pub fn put_numbers(
-    f: &Fabric<Number, 1024, Slot<Number>>,
-    local: &mut LocalWords<Number, 1024, Slot<Number>>,
-    items: &[Number],
-) -> Result<u32, Fault>
+pub fn put_numbers(f: &PoolRings, local: &mut PoolCache, items: &[Number]) -> Result<u32, Fault>
     requires local { IsLocalOf f.now local.old }
     requires rings { ArePoolRings (rings_of f.now) }
     requires there { 0 < length (rings_of f.now) }
@@ -41,10 +34,7 @@ pub fn put_numbers(
 }
 
 /// Puts all that is cached on the free ring, the oldest first.
-pub fn flush_numbers(
-    f: &Fabric<Number, 1024, Slot<Number>>,
-    local: &mut LocalWords<Number, 1024, Slot<Number>>,
-) -> Result<u32, Fault>
+pub fn flush_numbers(f: &PoolRings, local: &mut PoolCache) -> Result<u32, Fault>
     requires local { IsLocalOf f.now local.old }
     requires rings { ArePoolRings (rings_of f.now) }
     requires there { 0 < length (rings_of f.now) }
@@ -55,7 +45,7 @@ pub fn flush_numbers(
     if n == 0 {
         return Ok(0);
     }
-    let mut places = [Number { value: 0 }; 1024];
+    let mut places = [Number { value: 0 }; MOST_ASKED];
     let cached = &mut places[..n];
     match local.get_cached_into_slice(cached) {
         Ok(()) => (),

@@ -6,19 +6,17 @@ ghost use Rattle.capi.specs.PoolOpenings.{IsSecond, LikePool, RefusesHalf};
 ghost use Rattle.capi.specs.PoolMembers.{ArePoolRings};
 ghost use Rattle.capi.specs.Splits.{IsHalf};
 
-use crate::pools::member::{Number, PoolMember};
+use crate::pools::member::{MAX_CACHE, PoolCache, PoolHand, PoolMember, PoolRings};
 use crate::rings::Fault;
-use burst::Slot;
-use fabric::{Fabric, Hand, SplitFault};
-use pool::LocalWords;
+use fabric::SplitFault;
 use std::alloc::Global;
 use std::sync::Arc;
 
 /// What a further handle gets: an empty cache, and a hand for its own splits.
 #[derive(Drop)]
 pub struct Second {
-    pub local: LocalWords<Number, 1024, Slot<Number>>,
-    pub reserve: Hand<Number, Slot<Number>>,
+    pub local: PoolCache,
+    pub reserve: PoolHand,
 }
 
 /// The fault for a hand that isn't split.
@@ -34,21 +32,21 @@ fn split_fault(why: SplitFault) -> Fault
 /// An empty cache in front of the free ring, and a hand, both of one hand without numbers. Errors: that hand.
 fn halved(
     alloc: Global,
-    f: &Fabric<Number, 1024, Slot<Number>>,
-    hand: Hand<Number, Slot<Number>>,
+    f: &PoolRings,
+    hand: PoolHand,
     size: usize,
-) -> Result<Second, (Hand<Number, Slot<Number>>, Fault)>
+) -> Result<Second, (PoolHand, Fault)>
     requires hand { IsHandOf f.now hand }
     requires rings { ArePoolRings (rings_of f.now) }
     requires there { 0 < length (rings_of f.now) }
-    requires size { size ≤ 512 }
+    requires size { size ≤ MAX_CACHE }
     requires new { (view hand).party ≡ newcomer [] }
     ensures made { IfOk result (λ s. IsHalf f.now size s) }
     ensures back { IfErr result (λ e. IsHandOf f.now e.0) }
     ensures refused { IfErr result (λ e. RefusesHalf e.1) }
 {
     match hand.split(alloc, f) {
-        Ok((first, reserve)) => match LocalWords::new(alloc, first, 0, size) {
+        Ok((first, reserve)) => match PoolCache::new(alloc, first, 0, size) {
             Ok(local) => Ok(Second { local, reserve }),
             Err((first, _)) => Err((first.join(f, reserve), Fault::Memory)),
         },
@@ -59,14 +57,14 @@ fn halved(
 /// What a further handle gets, split off a reserve, which comes back. Errors: `Memory`; `Parts`.
 fn further(
     alloc: Global,
-    f: &Fabric<Number, 1024, Slot<Number>>,
-    reserve: Hand<Number, Slot<Number>>,
+    f: &PoolRings,
+    reserve: PoolHand,
     size: usize,
-) -> (Hand<Number, Slot<Number>>, Result<Second, Fault>)
+) -> (PoolHand, Result<Second, Fault>)
     requires hand { IsHandOf f.now reserve }
     requires rings { ArePoolRings (rings_of f.now) }
     requires there { 0 < length (rings_of f.now) }
-    requires size { size ≤ 512 }
+    requires size { size ≤ MAX_CACHE }
     ensures hand { IsHandOf f.now result.0 }
     ensures made { IfOk result.1 (λ s. IsHalf f.now size s) }
     ensures refused { IfErr result.1 (λ why. RefusesHalf why) }

@@ -1,17 +1,17 @@
 //! Bulk puts and takes of numbers on rings with head/tail-sync sides, tried a limited number of times.
-ghost use Rattle.std.specs.Prelude.{◌≡◌, ◌<◌, ◌+◌, [], length, Err, IfErr, IfOk, IsTrue, false};
+ghost use Rattle.std.specs.Prelude.{◌≡◌, ◌<◌, ◌+◌, [], length, Err, IfErr, IfOk};
 ghost use Rattle.fabric.specs.Hands.{OnRing, rings_of};
 ghost use Rattle.fabric.specs.Views.{IsKept};
+ghost use Rattle.ringapi.specs.Faults.{IsTransientRefusal};
+ghost use Rattle.ringapi.specs.Views.{IsTransient};
 ghost use Rattle.pool_laws.specs.Beside.{IsPutByHts, IsTakenByHts};
 ghost use Rattle.pool.specs.Locals.{IsLocalOf, SameCache, SameRing, cache_of, view_of};
-ghost use Rattle.capi.specs.Tries.{Filled, Received, Sent, WasLost, WasLostPut, refusal_fault};
+ghost use Rattle.capi.specs.Tries.{Filled, Received, Sent, refusal_fault};
 
-use crate::pools::member::Number;
+use crate::pools::member::{Number, PoolCache, PoolRings};
 use crate::rings::{Fault, fault_of};
-use burst::Slot;
-use fabric::{Fabric, StartFault};
-use pool::LocalWords;
-use ringapi::{Moved, Refusal};
+use fabric::StartFault;
+use ringapi::{Moved, Refusal, is_transient};
 
 /// How often a call tries a ring at most if other threads come first.
 const TRIES: u32 = 1024;
@@ -27,7 +27,7 @@ impl Tries {
     /// The tries of a call.
     #[inline]
     pub(crate) fn new() -> Tries
-        ensures { result.left ≡ 1024 }
+        ensures { result.left ≡ TRIES }
     {
         Tries { left: TRIES }
     }
@@ -43,35 +43,11 @@ pub(crate) fn refused(why: Refusal) -> Fault
     }
 }
 
-/// Whether another thread came first.
-#[inline]
-fn is_lost(why: StartFault) -> bool
-    ensures lost { IsTrue result → WasLost why }
-    ensures other { result ≡ false → WasLost why → ⊥ }
-{
-    match why {
-        StartFault::Busy(_) | StartFault::Contended(_) => true,
-        _ => false,
-    }
-}
-
-/// Whether another thread came first at a put.
-#[inline]
-fn is_lost_put(why: Refusal) -> bool
-    ensures lost { IsTrue result → WasLostPut why }
-    ensures other { result ≡ false → WasLostPut why → ⊥ }
-{
-    match why {
-        Refusal::Start(why) => is_lost(why),
-        Refusal::NotYours => false,
-    }
-}
-
 /// One try to put all numbers on a ring.
 #[inline]
 fn try_send(
-    f: &Fabric<Number, 1024, Slot<Number>>,
-    local: &mut LocalWords<Number, 1024, Slot<Number>>,
+    f: &PoolRings,
+    local: &mut PoolCache,
     ring: usize,
     items: &[Number],
     tries: &mut Tries,
@@ -96,8 +72,8 @@ fn try_send(
 /// Puts all numbers on a ring, or none.
 #[tactic(auto, using(crate::proofs::Attempts::sent_again))]
 pub(crate) fn send(
-    f: &Fabric<Number, 1024, Slot<Number>>,
-    local: &mut LocalWords<Number, 1024, Slot<Number>>,
+    f: &PoolRings,
+    local: &mut PoolCache,
     ring: usize,
     items: &[Number],
     tries: &mut Tries,
@@ -105,8 +81,8 @@ pub(crate) fn send(
     requires local { IsLocalOf f.now local.old }
     requires ring { ring < length (rings_of f.now) }
     requires hts { OnRing f.now ring IsPutByHts }
-    requires tries { tries.old.left ≡ 1024 }
-    ensures tried { IfErr result (λ why. WasLostPut why → tries.new.left ≡ 0) }
+    requires tries { tries.old.left ≡ TRIES }
+    ensures tried { IfErr result (λ why. IsTransientRefusal why → tries.new.left ≡ 0) }
     ensures local { IsLocalOf f.now local.new }
     ensures same { SameRing local.old local.new × SameCache local.old local.new }
     ensures sent { Sent f.now ring (cache_of local.old) items.now local.old local.new result }
@@ -116,7 +92,7 @@ pub(crate) fn send(
         match try_send(f, local, ring, items, tries) {
             Ok(moved) => return Ok(moved),
             Err(why) => {
-                if !is_lost_put(why) {
+                if !why.is_transient() {
                     return Err(why);
                 }
                 std::hint::spin_loop();
@@ -129,8 +105,8 @@ pub(crate) fn send(
 /// One try to fill an array from a ring.
 #[inline]
 fn try_receive(
-    f: &Fabric<Number, 1024, Slot<Number>>,
-    local: &mut LocalWords<Number, 1024, Slot<Number>>,
+    f: &PoolRings,
+    local: &mut PoolCache,
     ring: usize,
     into: &mut [Number],
     tries: &mut Tries,
@@ -157,8 +133,8 @@ fn try_receive(
 /// Fills an array from a ring, or leaves it as it is.
 #[tactic(auto, using(crate::proofs::Attempts::received_again))]
 pub(crate) fn receive(
-    f: &Fabric<Number, 1024, Slot<Number>>,
-    local: &mut LocalWords<Number, 1024, Slot<Number>>,
+    f: &PoolRings,
+    local: &mut PoolCache,
     ring: usize,
     into: &mut [Number],
     tries: &mut Tries,
@@ -166,8 +142,8 @@ pub(crate) fn receive(
     requires local { IsLocalOf f.now local.old }
     requires ring { ring < length (rings_of f.now) }
     requires hts { OnRing f.now ring IsTakenByHts }
-    requires tries { tries.old.left ≡ 1024 }
-    ensures tried { IfErr result (λ why. WasLost why → tries.new.left ≡ 0) }
+    requires tries { tries.old.left ≡ TRIES }
+    ensures tried { IfErr result (λ why. IsTransient why → tries.new.left ≡ 0) }
     ensures local { IsLocalOf f.now local.new }
     ensures same { SameRing local.old local.new × SameCache local.old local.new }
     ensures filled { IfOk result (λ moved. Filled f.now ring (length into.old) into.new local.old local.new moved) }
@@ -179,7 +155,7 @@ pub(crate) fn receive(
         match try_receive(f, local, ring, into, tries) {
             Ok(moved) => return Ok(moved),
             Err(why) => {
-                if !is_lost(why) {
+                if !is_transient(why) {
                     return Err(why);
                 }
                 std::hint::spin_loop();

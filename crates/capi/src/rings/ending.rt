@@ -9,6 +9,7 @@ use crate::rings::fault::Fault;
 use crate::rings::member::{MOST, Member};
 use crate::rings::word64::Word64;
 use fabric::OpenSpan;
+use ringapi::Port;
 use std::sync::Arc;
 
 /// Closes the rings of a member that has no open span, and that no other shares. Errors: `Open`; `Shared`; the member
@@ -17,24 +18,12 @@ pub fn close(member: Member) -> Result<Rest, (Member, Fault)>
     ensures closed { IfOk result (λ r. Closes member r) }
     ensures refused { IfErr result (λ e. SameMember member e.0 × RefusesClose member e.1) }
 {
-    let Member {
-        fabric,
-        hand,
-        shown,
-        left,
-    } = member;
-    match hand.span() {
+    match member.port.span() {
         OpenSpan::Idle => (),
-        _ => {
-            let member = Member {
-                fabric,
-                hand,
-                shown,
-                left,
-            };
-            return Err((member, Fault::Open));
-        }
+        _ => return Err((member, Fault::Open)),
     }
+    let Member { port, shown, left } = member;
+    let Port { fabric, hand } = port;
     let rings = fabric.rings();
     match Arc::try_unwrap(fabric) {
         Ok(whole) => Ok(Rest {
@@ -42,13 +31,8 @@ pub fn close(member: Member) -> Result<Rest, (Member, Fault)>
             rings,
         }),
         Err(fabric) => {
-            let member = Member {
-                fabric,
-                hand,
-                shown,
-                left,
-            };
-            Err((member, Fault::Shared))
+            let port = Port { fabric, hand };
+            Err((Member { port, shown, left }, Fault::Shared))
         }
     }
 }

@@ -11,7 +11,7 @@ ghost use Rattle.capi.specs.Members.{ArePlain, AreShown};
 ghost use Rattle.capi.specs.declared.rings.word64.Word64.{Word64 as Words};
 
 use crate::rings::fault::Fault;
-use crate::rings::member::{Rings, WordHand};
+use crate::rings::member::{MOST, Rings, WordHand};
 use crate::rings::settling::{publish, withdraw};
 use crate::rings::word64::Word64;
 use fabric::Reserved;
@@ -60,7 +60,7 @@ pub(crate) fn finish_take(
     hand: &mut WordHand,
     reserved: Reserved,
     n: usize,
-    shown: &[Word64; 1024],
+    shown: &[Word64; MOST],
 ) -> Result<u32, Fault>
     requires of { IsPlacedOf f.now hand.old }
     requires open { hand.old.span ≡ open_span.Take reserved }

@@ -8,12 +8,13 @@ ghost use Rattle.capi.specs.Openings.{IsNewHand, RefusesRings};
 ghost use Rattle.capi.specs.declared.rings.fault.Fault.TheVariants as fault;
 
 use crate::rings::fault::Fault;
-use crate::rings::member::Member;
-use crate::rings::opening::{Asked, plans};
+use crate::rings::member::{MOST, Member};
+use crate::rings::opening::{Asked, MOST_RINGS, plans};
 use crate::rings::word64::Word64;
 use burst::Slot;
 use fabric::{Fabric, HandInPlace, OpenFault, Opened};
 use geom::RingPlan;
+use ringapi::Port;
 use std::alloc::Global;
 use std::sync::Arc;
 
@@ -41,21 +42,24 @@ pub fn open(alloc: Global, asked: &[Asked]) -> Result<Member, Fault>
     ensures made { IfOk result (λ m. IsNewHand asked.now m) }
     ensures refused { IfErr result (λ why. RefusesRings asked.now why) }
 {
-    if asked.len() > 64 {
+    if asked.len() > MOST_RINGS {
         return Err(Fault::Plan);
     }
     let plans = plans(alloc, asked)?;
-    let Ok(shown) = Box::new(alloc, [Word64 { bits: 0 }; 1024]) else {
+    let Ok(shown) = Box::new(alloc, [Word64 { bits: 0 }; MOST]) else {
         return Err(Fault::Memory);
     };
     match fabric_of(alloc, plans) {
         Ok(opened) => match Arc::new(alloc, opened.fabric) {
-            Ok(fabric) => Ok(Member {
-                fabric,
-                hand: HandInPlace::of(opened.hand),
-                shown,
-                left: 0,
-            }),
+            Ok(fabric) => {
+                let hand = HandInPlace::of(opened.hand);
+                let port = Port { fabric, hand };
+                Ok(Member {
+                    port,
+                    shown,
+                    left: 0,
+                })
+            }
             Err(_) => Err(Fault::Memory),
         },
         Err(why) => Err(why),

@@ -1,18 +1,26 @@
 //! Looks at rings by a member, and splitting a member in two.
-ghost use Rattle.std.specs.Prelude.{◌≡◌, ◌<◌, IfErr, IfOk, length};
+ghost use Rattle.std.specs.Prelude.{◌≡◌, ◌<◌, ◌-◌, ◌^◌, IfErr, IfOk, length, min};
 ghost use Rattle.fabric.specs.Hands.{rings_of};
 ghost use Rattle.fabric.specs.InPlace.{IsPlacedOf, placed_view};
 ghost use Rattle.fabric.specs.declared.hand.in_place.OpenSpan.TheVariants as open_span;
-ghost use Rattle.capi.specs.RingCalls.{LikeMember, Looks, OnRings, RefusesSplit, SameMember};
-ghost use Rattle.capi.specs.RingCalls.{Splits, member_view, room_side};
+ghost use Rattle.capi.specs.MemberCalls.{LooksAt};
+ghost use Rattle.capi.specs.RingCalls.{LikeMember, Looks, RefusesSplit, Splits, room_side};
 
 use crate::rings::fault::Fault;
-use crate::rings::member::{Member, Rings, WordHand};
+use crate::rings::member::{MOST, Member, Rings, WordHand};
 use crate::rings::word64::Word64;
 use fabric::{HandInPlace, OpenSpan, SplitFault};
 use geom::Side;
+use ringapi::Port;
 use std::alloc::Global;
 use std::sync::Arc;
+
+/// A number as C gets it: at most the greatest of 32 bits.
+pub fn clamped(number: u64) -> u32
+    ensures { result ≡ min number (2 ^ 32 - 1) }
+{
+    number.min(u64::from(u32::MAX)) as u32
+}
 
 /// One look at a side: how many words are queued, or how many more there is room for. Errors: `Again`.
 fn look_at(f: &Rings, hand: &mut WordHand, ring: usize, side: Side) -> Result<u32, Fault>
@@ -24,29 +32,27 @@ fn look_at(f: &Rings, hand: &mut WordHand, ring: usize, side: Side) -> Result<u3
     ensures found { Looks f.now ring side (placed_view hand.old) (placed_view hand.new) result }
 {
     match hand.room(f, ring, side) {
-        Ok(room) => Ok(room.min(0xffff_ffff) as u32),
+        Ok(room) => Ok(clamped(room)),
         Err(_word) => Err(Fault::Again),
     }
 }
 
 /// The side of a ring where words are queued, or where there is room.
-fn side_of(queued: bool) -> Side
+pub fn side_of(queued: bool) -> Side
     ensures { result ≡ room_side queued }
 {
     if queued { Side::Take } else { Side::Put }
 }
 
 /// How many words are queued, or how many more there is room for. Errors: `Ring`, `Open`, `Again`.
-pub fn look(member: &mut Member, ring: usize, queued: bool) -> Result<u32, Fault>
-    ensures { OnRings ring member.old result (SameMember member.old member.new)
-        (λ v. (member.new.fabric ≡ member.old.fabric)
-        × Looks member.old.fabric.value ring (room_side queued) v (member_view member.new) result) }
+pub fn look(member: &mut Member, ring: usize, side: Side) -> Result<u32, Fault>
+    ensures { LooksAt ring side member.old member.new result }
 {
-    if ring >= member.fabric.rings() {
+    if ring >= member.port.rings() {
         return Err(Fault::Ring);
     }
-    match member.hand.span() {
-        OpenSpan::Idle => look_at(&member.fabric, &mut member.hand, ring, side_of(queued)),
+    match member.port.span() {
+        OpenSpan::Idle => look_at(&member.port.fabric, &mut member.port.hand, ring, side),
         _ => Err(Fault::Open),
     }
 }
@@ -56,43 +62,41 @@ pub fn split(alloc: Global, member: Member) -> (Member, Result<Member, Fault>)
     ensures split { IfOk result.1 (λ other. Splits member result.0 other) }
     ensures refused { IfErr result.1 (λ why. LikeMember member result.0 × RefusesSplit member why) }
 {
-    match member.hand.span() {
+    match member.port.span() {
         OpenSpan::Idle => (),
         _ => return (member, Err(Fault::Open)),
     }
-    let Ok(second) = Box::new(alloc, [Word64 { bits: 0 }; 1024]) else {
+    let Ok(second) = Box::new(alloc, [Word64 { bits: 0 }; MOST]) else {
         return (member, Err(Fault::Memory));
     };
-    let Ok(rings) = Arc::try_clone(&member.fabric) else {
+    let Ok(rings) = Arc::try_clone(&member.port.fabric) else {
         return (member, Err(Fault::Memory));
     };
-    let Member {
-        fabric,
-        hand,
-        shown,
-        left,
-    } = member;
+    let Member { port, shown, left } = member;
+    let Port { fabric, hand } = port;
     let (hand, other) = match hand.into_hand().split(alloc, &fabric) {
         Ok((hand, other)) => (hand, Ok(other)),
         Err((hand, SplitFault::Memory)) => (hand, Err(Fault::Memory)),
         Err((hand, SplitFault::TooMany)) => (hand, Err(Fault::Parts)),
     };
-    let member = Member {
+    let port = Port {
         fabric,
         hand: HandInPlace::of(hand),
-        shown,
-        left,
     };
+    let member = Member { port, shown, left };
     match other {
-        Ok(other) => (
-            member,
-            Ok(Member {
+        Ok(other) => {
+            let port = Port {
                 fabric: rings,
                 hand: HandInPlace::of(other),
+            };
+            let second = Member {
+                port,
                 shown: second,
                 left: 0,
-            }),
-        ),
+            };
+            (member, Ok(second))
+        }
         Err(why) => (member, Err(why)),
     }
 }

@@ -8,8 +8,8 @@ ghost use Rattle.capi.specs.Members.{AreShown};
 ghost use Rattle.capi.specs.declared.rings.word64.Word64.{Word64 as Words};
 
 use crate::rings::fault::Fault;
-use crate::rings::member::{Rings, WordHand};
-use crate::rings::starting::{fault_of, room_in, start_put, start_take};
+use crate::rings::member::{MOST, Rings, WordHand};
+use crate::rings::starting::{fault_of, keep, room_in, start_put, start_take};
 use crate::rings::word64::Word64;
 use geom::How;
 
@@ -41,7 +41,7 @@ pub(crate) fn peek_take(
     ring: usize,
     words: &mut [Word64],
     how: How,
-    shown: &mut [Word64; 1024],
+    shown: &mut [Word64; MOST],
 ) -> (u64, Result<u32, Fault>)
     requires of { IsPlacedOf f.now hand.old }
     requires idle { hand.old.span ≡ open_span.Idle }
@@ -54,7 +54,7 @@ pub(crate) fn peek_take(
     match start_take(f, hand, ring, words, how) {
         Ok(reserved) => {
             let count = reserved.count();
-            shown[..count].copy_from_slice(&words[..count]);
+            keep(shown, words, count);
             (reserved.left(), Ok(count as u32))
         }
         Err(why) => (room_in(why), Err(fault_of(why))),

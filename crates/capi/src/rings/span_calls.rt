@@ -1,9 +1,5 @@
 //! Peeks of a member, and finishing the span that it has open.
-ghost use Rattle.std.specs.Prelude.{◌≡◌};
-ghost use Rattle.geom.specs.declared.plan.Side.TheVariants.{Put, Take};
-ghost use Rattle.capi.specs.Calls.{PeeksPut, PeeksTake};
-ghost use Rattle.capi.specs.Finishes.{FinishesPut, FinishesTake};
-ghost use Rattle.capi.specs.RingCalls.{OnHts, OnPutting, OnTaking, SameMember, member_view};
+ghost use Rattle.capi.specs.MemberCalls.{EndsPut, EndsTake, OpensPut, OpensTake};
 
 use crate::rings::fault::Fault;
 use crate::rings::finishing::{finish_put, finish_take};
@@ -15,20 +11,19 @@ use geom::{How, Mode, Side};
 
 /// Reserves positions of a put side. Errors: `Ring`, `Mode`, `Open`; those of a start.
 pub fn peek_put_of(member: &mut Member, ring: usize, n: usize, how: How) -> Result<u32, Fault>
-    ensures { OnHts ring Put member.old result (SameMember member.old member.new)
-        (λ v. (member.new.fabric ≡ member.old.fabric)
-        × PeeksPut member.old.fabric.value how ring v n member.new.left (member_view member.new) result) }
+    ensures { OpensPut ring how n member.old member.new result }
 {
-    if ring >= member.fabric.rings() {
+    if ring >= member.port.rings() {
         return Err(Fault::Ring);
     }
-    match member.fabric.mode(ring, Side::Put) {
+    match member.port.fabric.mode(ring, Side::Put) {
         Mode::Hts => (),
         Mode::Multi => return Err(Fault::Mode),
     }
-    match member.hand.span() {
+    match member.port.span() {
         OpenSpan::Idle => {
-            let (left, outcome) = peek_put(&member.fabric, &mut member.hand, ring, n, how);
+            let port = &mut member.port;
+            let (left, outcome) = peek_put(&port.fabric, &mut port.hand, ring, n, how);
             member.left = left;
             outcome
         }
@@ -43,22 +38,21 @@ pub fn peek_take_of(
     words: &mut [Word64],
     how: How,
 ) -> Result<u32, Fault>
-    ensures { OnHts ring Take member.old result (SameMember member.old member.new × (words.new ≡ words.old))
-        (λ v. (member.new.fabric ≡ member.old.fabric) × PeeksTake member.old.fabric.value how ring v words.old words.new
-        member.new.left (member_view member.new) result) }
+    ensures { OpensTake ring how words.old words.new member.old member.new result }
 {
-    if ring >= member.fabric.rings() {
+    if ring >= member.port.rings() {
         return Err(Fault::Ring);
     }
-    match member.fabric.mode(ring, Side::Take) {
+    match member.port.fabric.mode(ring, Side::Take) {
         Mode::Hts => (),
         Mode::Multi => return Err(Fault::Mode),
     }
-    match member.hand.span() {
+    match member.port.span() {
         OpenSpan::Idle => {
+            let port = &mut member.port;
             let (left, outcome) = peek_take(
-                &member.fabric,
-                &mut member.hand,
+                &port.fabric,
+                &mut port.hand,
                 ring,
                 words,
                 how,
@@ -73,25 +67,25 @@ pub fn peek_take_of(
 
 /// Finishes the put that the member has open. Errors: `NotOpen`; `Count`; `Pending`.
 pub fn finish_put_of(member: &mut Member, words: &[Word64]) -> Result<u32, Fault>
-    ensures { OnPutting member.old result (SameMember member.old member.new)
-        (λ span v. (member.new.fabric ≡ member.old.fabric)
-        × FinishesPut member.old.fabric.value span v words.now (member_view member.new) result) }
+    ensures { EndsPut words.now member.old member.new result }
 {
-    match member.hand.span() {
-        OpenSpan::Put(reserved) => finish_put(&member.fabric, &mut member.hand, reserved, words),
+    match member.port.span() {
+        OpenSpan::Put(reserved) => {
+            let port = &mut member.port;
+            finish_put(&port.fabric, &mut port.hand, reserved, words)
+        }
         _ => Err(Fault::NotOpen),
     }
 }
 
 /// Finishes the take that the member has open. Errors: `NotOpen`; `Count`; `Pending`.
 pub fn finish_take_of(member: &mut Member, n: usize) -> Result<u32, Fault>
-    ensures { OnTaking member.old result (SameMember member.old member.new)
-        (λ span v. (member.new.fabric ≡ member.old.fabric)
-        × FinishesTake member.old.fabric.value span v n (member_view member.new) result) }
+    ensures { EndsTake n member.old member.new result }
 {
-    match member.hand.span() {
+    match member.port.span() {
         OpenSpan::Take(reserved) => {
-            finish_take(&member.fabric, &mut member.hand, reserved, n, &member.shown)
+            let port = &mut member.port;
+            finish_take(&port.fabric, &mut port.hand, reserved, n, &member.shown)
         }
         _ => Err(Fault::NotOpen),
     }

@@ -1,5 +1,5 @@
 //! Starts of spans. Each is tried once.
-ghost use Rattle.std.specs.Prelude.{◌≡◌, ◌<◌, ◌++◌, [], drop, length, IfOk, IfErr};
+ghost use Rattle.std.specs.Prelude.{◌≡◌, ◌<◌, ◌≤◌, ◌++◌, [], drop, length, take, IfOk, IfErr};
 ghost use Rattle.geom.specs.declared.plan.Side.TheVariants.{Put, Take};
 ghost use Rattle.fabric.specs.Hands.{rings_of};
 ghost use Rattle.fabric.specs.Held.{span_at};
@@ -8,7 +8,7 @@ ghost use Rattle.fabric.specs.declared.hand.in_place.OpenSpan.TheVariants as ope
 ghost use Rattle.capi.specs.Spans.{HasReserved, WasRefused, room_of, start_fault};
 
 use crate::rings::fault::Fault;
-use crate::rings::member::{Rings, WordHand};
+use crate::rings::member::{MOST, Rings, WordHand};
 use crate::rings::word64::Word64;
 use fabric::{Reserved, StartFault};
 use geom::How;
@@ -33,6 +33,16 @@ pub(crate) fn room_in(why: StartFault) -> u64
         StartFault::NoRoom(room) => room,
         _ => 0,
     }
+}
+
+/// Keeps the words of a take that stays open: its first `count` ones.
+#[inline]
+pub(crate) fn keep(shown: &mut [Word64; MOST], words: &[Word64], count: usize)
+    requires there { count ≤ length words.now }
+    requires few { count ≤ MOST }
+    ensures { take count shown.new ≡ take count words.now }
+{
+    shown[..count].copy_from_slice(&words[..count]);
 }
 
 /// Reserves positions for a put.

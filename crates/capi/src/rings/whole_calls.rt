@@ -1,15 +1,15 @@
-//! Whole puts and takes of a member.
+//! Whole puts and takes of a member, each tried once.
 ghost use Rattle.std.specs.Prelude.{◌≡◌};
-ghost use Rattle.capi.specs.Calls.{Puts, Takes, how_of};
-ghost use Rattle.capi.specs.RingCalls.{OnRings, SameMember, member_view};
+ghost use Rattle.capi.specs.Calls.{how_of};
+ghost use Rattle.capi.specs.MemberCalls.{PutsWords, TakesWords};
 
 use crate::rings::fault::Fault;
 use crate::rings::member::Member;
-use crate::rings::put::put;
-use crate::rings::take::take;
+use crate::rings::starting::{fault_of, keep, room_in};
 use crate::rings::word64::Word64;
-use fabric::OpenSpan;
+use fabric::Words;
 use geom::How;
+use ringapi::PortFault;
 
 /// By bulk or by burst.
 pub fn how(bulk: bool) -> How
@@ -18,27 +18,33 @@ pub fn how(bulk: bool) -> How
     if bulk { How::Bulk } else { How::Burst }
 }
 
-/// Puts words on a ring. Errors: `Ring`, `Open`; those of a put.
+/// Puts the first of these words on a ring, as many as `how` says and there is room for. Errors: `Ring`, `Open`; those
+/// of a start; `Pending`, and the span stays open.
 #[inline(always)]
 pub fn put_words(member: &mut Member, ring: usize, words: &[Word64], how: How) -> Result<u32, Fault>
-    ensures { OnRings ring member.old result (SameMember member.old member.new)
-        (λ v. (member.new.fabric ≡ member.old.fabric)
-        × Puts member.old.fabric.value how ring v words.now member.new.left (member_view member.new) result) }
+    ensures { PutsWords ring how words.now member.old member.new result }
 {
-    if ring >= member.fabric.rings() {
-        return Err(Fault::Ring);
-    }
-    match member.hand.span() {
-        OpenSpan::Idle => {
-            let (left, outcome) = put(&member.fabric, &mut member.hand, ring, words, how);
-            member.left = left;
-            outcome
+    match member.port.try_put(ring, &mut Words { words }, how) {
+        Ok(reserved) => {
+            member.left = reserved.left();
+            Ok(reserved.count() as u32)
         }
-        _ => Err(Fault::Open),
+        Err(PortFault::Start(why)) => {
+            member.left = room_in(why);
+            Err(fault_of(why))
+        }
+        Err(PortFault::Settle(reserved, _fault)) => {
+            member.left = reserved.left();
+            Err(Fault::Pending)
+        }
+        Err(PortFault::NoRing) => Err(Fault::Ring),
+        Err(PortFault::Open) => Err(Fault::Open),
+        Err(PortFault::NotOpen) => unreachable!(),
     }
 }
 
-/// Takes words from a ring. Errors: `Ring`, `Open`; those of a take.
+/// Takes words from a ring to the front of an array, as many as `how` says and are queued. Errors: `Ring`, `Open`;
+/// those of a start; `Pending`, and the span stays open: its words are at the front of the array, and of `shown`.
 #[inline(always)]
 pub fn take_words(
     member: &mut Member,
@@ -46,26 +52,25 @@ pub fn take_words(
     words: &mut [Word64],
     how: How,
 ) -> Result<u32, Fault>
-    ensures { OnRings ring member.old result (SameMember member.old member.new × (words.new ≡ words.old))
-        (λ v. (member.new.fabric ≡ member.old.fabric) × Takes member.old.fabric.value how ring v words.old words.new
-        member.new.left (member_view member.new) result) }
+    ensures { TakesWords ring how words.old words.new member.old member.new result }
 {
-    if ring >= member.fabric.rings() {
-        return Err(Fault::Ring);
-    }
-    match member.hand.span() {
-        OpenSpan::Idle => {
-            let (left, outcome) = take(
-                &member.fabric,
-                &mut member.hand,
-                ring,
-                words,
-                how,
-                &mut member.shown,
-            );
-            member.left = left;
-            outcome
+    match member.port.try_take(ring, words, how) {
+        Ok(reserved) => {
+            member.left = reserved.left();
+            Ok(reserved.count() as u32)
         }
-        _ => Err(Fault::Open),
+        Err(PortFault::Start(why)) => {
+            member.left = room_in(why);
+            Err(fault_of(why))
+        }
+        Err(PortFault::Settle(reserved, _fault)) => {
+            let count = reserved.count();
+            keep(&mut member.shown, words, count);
+            member.left = reserved.left();
+            Err(Fault::Pending)
+        }
+        Err(PortFault::NoRing) => Err(Fault::Ring),
+        Err(PortFault::Open) => Err(Fault::Open),
+        Err(PortFault::NotOpen) => unreachable!(),
     }
 }
