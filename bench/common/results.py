@@ -48,6 +48,18 @@ class Row(NamedTuple):
     commit: str  # of the code that was measured; with a `+` if it had changes that weren't committed
     machine: str
     date: str
+    series: str = "1"  # which of the series of this commit
+
+
+class Merged(NamedTuple):
+    """What all series say of a row."""
+    row: Row  # of the series whose ratio, or figure, is the median
+    low: str  # the least ratio or figure
+    high: str
+    series: int  # how many there are
+
+    def __getattr__(self, name):
+        return getattr(self.row, name)
 
 
 class Bound(NamedTuple):
@@ -110,25 +122,41 @@ def file_of(name):
 
 
 def read(name):
-    """The rows of a benchmark; none if there is no file."""
+    """The rows of a benchmark, of all series; none if there is no file."""
     if not os.path.exists(file_of(name)):
         return []
     head, *rows = lines_of(file_of(name))
-    if head != list(Row._fields) or any(len(row) != len(head) for row in rows):
+    # A file from before there were series has no column for them.
+    if list(Row._fields)[: len(head)] != head or len(head) < 11 or any(len(row) != len(head) for row in rows):
         raise SystemExit(f"{file_of(name)}: a line hasn't the columns {', '.join(Row._fields)}")
     return [Row(*row) for row in rows]
 
 
+def merged(rows):
+    """A row for each `what`, in order: the series with the median ratio, the lower one of an even number."""
+    found = {}
+    for row in rows:
+        found.setdefault(row.what, []).append(row)
+    for own in found.values():
+        own.sort(key=judged)
+        texts = [row.here if row.ratio == NONE else row.ratio for row in own]
+        yield Merged(own[(len(own) - 1) // 2], texts[0], texts[-1], len(own))
+
+
+# What of the repository a measurement depends on.
+MEASURED = ["crates", "crates.txt", "c", "bench", ":!bench/results"]
+
+
 def commit():
-    """The commit of the code that is measured."""
+    """The last commit that changed what is measured."""
     top = os.path.dirname(BENCH)
 
     def git(*words):
         done = subprocess.run(["git", *words], cwd=top, capture_output=True, text=True)
         return done.stdout.strip() if done.returncode == 0 else ""
 
-    changed = git("status", "--porcelain", "--", "crates", "crates.txt", "bench", ":!bench/results")
-    return (git("rev-parse", "--short=7", "HEAD") or NONE) + ("+" if changed else "")
+    changed = git("status", "--porcelain", "--", *MEASURED)
+    return (git("log", "-1", "--format=%h", "--abbrev=7", "--", *MEASURED) or NONE) + ("+" if changed else "")
 
 
 def machine():
@@ -145,7 +173,7 @@ def machine():
 
 def of_area(area):
     """The rows of an area."""
-    return [row for name in area.names for row in read(name)]
+    return [row for name in area.names for row in merged(read(name))]
 
 
 class Results:
@@ -173,15 +201,19 @@ class Results:
         return self.bounds[what].bound if what in self.bounds else None
 
     def write(self):
-        """Replaces the file of results. Rows of the old file that weren't measured are gone: it says which."""
+        """Adds a series to the file of results, or begins a new file if that is of another commit. Rows that are in it
+        and weren't measured now are of fewer series, or gone: it says which."""
         twice = [what for what, count in collections.Counter(row.what for row in self.rows).items() if count > 1]
         if twice:
             raise SystemExit(f"bench: two rows are called {twice[0]}")
-        gone = [row.what for row in read(self.name) if row.what not in {row.what for row in self.rows}]
+        old = read(self.name)
+        before = [row for row in old if row.commit == self.common[0] and not row.commit.endswith("+")]
+        series = 1 + max([int(row.series) for row in before], default=0)
+        missed = {row.what for row in old} - {row.what for row in self.rows}
         os.makedirs(folder(), exist_ok=True)
         with open(file_of(self.name), "w", encoding="utf-8") as file:
-            for row in [Row._fields, *self.rows]:
+            for row in [Row._fields, *before, *(row._replace(series=str(series)) for row in self.rows)]:
                 file.write("\t".join(row) + "\n")
-        print(f"bench: {len(self.rows)} rows in {os.path.relpath(file_of(self.name))}", file=sys.stderr)
-        for what in gone:
-            print(f"bench: not measured, and no longer there: {what}", file=sys.stderr)
+        print(f"bench: series {series}, {len(self.rows)} rows, in {os.path.relpath(file_of(self.name))}", file=sys.stderr)
+        for what in sorted(missed):
+            print(f"bench: not measured: {what}", file=sys.stderr)
