@@ -7,7 +7,7 @@ ghost use Rattle.fabric_laws.specs.Kinds.{run};
 ghost use Rattle.fabric.specs.Owned.{all_there, cleared, marked};
 ghost use Rattle.fabric.specs.Rings.{IsSameSeat};
 ghost use Rattle.fabric.specs.Shapes.{shape_slot};
-ghost use Rattle.fabric.specs.Slots.{values};
+ghost use Rattle.fabric.specs.Slots.{HoldsItems, values};
 
 mod bursts;
 pub(crate) mod front;
@@ -136,7 +136,8 @@ pub trait TakeItems<T: Tagged>: Items<T> {
     /// How many items there is room for.
     ghost room: { Self → ℕ };
 
-    /// Moves the items out of `count` slots from the position `start` on, which are all of the row, into an empty list.
+    /// Moves the items out of `count` slots from the position `start` on, which are the first of the row, into an empty
+    /// list. They are the row's last ones afterwards, and hold nothing.
     fn drain<S: Stored<T>>(
         &mut self,
         shared: &Slots<T, S>,
@@ -149,11 +150,12 @@ pub trait TakeItems<T: Tagged>: Items<T> {
         requires low { start + count < 2 ^ 63 }
         requires blank { Self.items self.old ≡ [] }
         requires fits { count ≤ room self.old }
-        requires packed { values seat.old.me.1 ≡ map Some (somes (values seat.old.me.1)) }
-        requires held { (length (values seat.old.me.1) ≡ count)
-            × (seat.old.me.1 ≡ run (shape_slot shape.now) start (values seat.old.me.1)) }
+        requires held { HoldsItems (shape_slot shape.now) start count seat.old.me.1 }
         ensures seat { IsSameSeat seat.old seat.new × (seat.new.me.0 ≡ seat.old.me.0) }
-        ensures emptied { seat.new.me.1 ≡ run (shape_slot shape.now) start (replicate count None) }
-        ensures items { Self.items self.new ≡ somes (values seat.old.me.1) }
+        ensures emptied { seat.new.me.1 ≡ drop count seat.old.me.1
+            ++ run (shape_slot shape.now) start (replicate count None) }
+        ensures items { seat.old.me.1 ≡ run (shape_slot shape.now) start (map Some (Self.items self.new))
+            ++ drop count seat.old.me.1 }
+        ensures long { length (Self.items self.new) ≡ count }
         ensures beside { Self.beside self.old self.new };
 }

@@ -87,7 +87,7 @@ impl<T: Tagged, const N: usize, S: Stored<T>> Ring<'_, T, N, S> {
 
     /// Moves the items into the first slots of a put span.
     #[inline(always)]
-    fn offer<I: PutItems<T>>(
+    pub(crate) fn offer<I: PutItems<T>>(
         &self,
         seat: &mut Seat<Cell<T, S>, View<T>>,
         range: Positions,

@@ -1,42 +1,20 @@
-use Rattle.std.proofs.Common.{◌≡◌, ◌+◌, ◌-◌, ◌≤◌, ◌++◌, ℕ, List, [], ap, append-nil, arith, drop, length, map, refl, replicate, subst, sym, take, None, Option, Some, ◌∙◌}
-use Rattle.std.proofs.lemmas.List.{length-drop, length-map}
-use Rattle.burst.specs.Items.{somes}
-use Rattle.fabric_laws.specs.Kinds.{run}
+use Rattle.std.proofs.Common.{◌≡◌, ◌+◌, ◌-◌, ◌≤◌, ◌++◌, ap, arith, drop, length, map, refl, replicate, subst, sym, take, None, Option, Some, ◌∙◌}
+use Rattle.std.proofs.lemmas.List.{length-drop}
 use Rattle.fabric_laws.proofs.Cells.{length-cells, length-many}
 use Rattle.fabric.specs.Shapes.{shape_slot}
-use Rattle.fabric.specs.Slots.{values}
-use Rattle.fabric.proofs.Blocks.{Drained, by_slot, drain_came, drain_ends, drain_part_asks, drain_part_next, drain_starts, one_slot, same_words}
-use Rattle.fabric.proofs.Turns.{all_dropped, length-run, take_long}
+use Rattle.fabric.proofs.Blocks.{Drained, by_slot, drain_came, drain_ends, drain_part_asks, drain_part_next, drain_starts, one_slot}
+use Rattle.fabric.proofs.Turns.{take_long}
 use Rattle.fabric.proofs.slots.slices.drain_slice.Goals as goal
-
--- the row has these words, and nothing behind them
-module _ {T : Type 0} (slot : ℕ → ℕ) (start n : ℕ) (row : List (ℕ × Option T))
-    (held : (values row ≡ map Some (somes (values row))) × (length (values row) ≡ n) × (row ≡ run slot start (values row))) where
-  many : length (somes (values row)) ≡ n
-  many = sym (ap length held.0 ∙ length-map (somes (values row)) Some) ∙ held.1
-
-  is_run : row ≡ run slot start (map Some (somes (values row)))
-  is_run = held.2 ∙ ap (run slot start) held.0
-
-  all_long : length row ≡ n
-  all_long = ap length is_run ∙ (length-run slot start (map Some (somes (values row))) ∙ (length-cells (somes (values row)) ∙ many))
-
-  whole : row ≡ run slot start (map Some (somes (values row))) ++ drop n row
-  whole =
-      is_run ∙ (sym (append-nil (run slot start (map Some (somes (values row)))))
-      ∙ ap (λ l. run slot start (map Some (somes (values row))) ++ l) (sym (all_dropped row n (omega (arith, all_long)))))
 
 pub loop-at-init : goal.loop-at-init
 loop-at-init g c =
+    let q = c.requires.held in
     record {
       same_table = refl;
       same_id = refl;
       same_view = refl;
       few = omega arith;
-      so = drain_starts (shape_slot c.args.shape.now) c.args.start (length c.args.into.now) c.args.seat.now.me.1 c.args.into.now refl
-          (somes (values c.args.seat.now.me.1))
-          (many (shape_slot c.args.shape.now) c.args.start (length c.args.into.now) c.args.seat.now.me.1 c.requires.held)
-          (whole (shape_slot c.args.shape.now) c.args.start (length c.args.into.now) c.args.seat.now.me.1 c.requires.held);
+      so = drain_starts (shape_slot c.args.shape.now) c.args.start (length c.args.into.now) c.args.seat.now.me.1 c.args.into.now refl q.0 q.1 q.2;
     }
 
 pub drain_run-requires : goal.drain_run-requires
@@ -103,40 +81,31 @@ returns-clause-seat g c =
 
 pub returns-clause-emptied : goal.returns-clause-emptied
 returns-clause-emptied g c =
-    let row = c.args.seat.now.me.1 in
-    let slot = shape_slot c.args.shape.now in
-    let n = length c.args.into.now in
-    let gone : Option g.row.T.Denot = None in
-    let long : length row ≡ n = ap length c.requires.held.2 ∙ (length-run slot c.args.start (values row) ∙ c.requires.held.1) in
-    drain_ends slot c.args.start n row c.args.into.now refl c.loop-at.at (omega (arith, c.loop-at-test.false, c.loop-at.auto.into)) c.loop-at.seat.me.1 c.loop-at.into
-    c.loop-at.invariant.so
-    ∙ ap (λ l. l ++ run slot c.args.start (replicate n gone)) (all_dropped row n (omega (arith, long)))
+    drain_ends (shape_slot c.args.shape.now) c.args.start (length c.args.into.now) c.args.seat.now.me.1 c.args.into.now refl c.loop-at.at
+    (omega (arith, c.loop-at-test.false, c.loop-at.auto.into)) c.loop-at.seat.me.1 c.loop-at.into c.loop-at.invariant.so
 
 pub returns-clause-items : goal.returns-clause-items
 returns-clause-items g c =
-    let row = c.args.seat.now.me.1 in
-    let slot = shape_slot c.args.shape.now in
+    drain_came (shape_slot c.args.shape.now) c.args.start (length c.args.into.now) c.args.seat.now.me.1 c.args.into.now refl c.loop-at.at
+    (omega (arith, c.loop-at-test.false, c.loop-at.auto.into)) c.loop-at.seat.me.1 c.loop-at.into c.loop-at.invariant.so
+
+-- a single word
+pub drain_each-requires-clause-held : goal.drain_each-requires-clause-held
+drain_each-requires-clause-held g c =
     let n = length c.args.into.now in
-    let ys = values row in
-    let words = somes ys in
-    let is : row ≡ run slot c.args.start (map Some words) = c.requires.held.2 ∙ ap (run slot c.args.start) c.requires.held.0 in
-    let all : length words ≡ n = sym (ap length c.requires.held.0 ∙ length-map words Some) ∙ c.requires.held.1 in
-    let came =
-    drain_came slot c.args.start n row c.args.into.now refl c.loop-at.at (omega (arith, c.loop-at-test.false, c.loop-at.auto.into)) c.loop-at.seat.me.1 c.loop-at.into
-    c.loop-at.invariant.so in
-    same_words slot c.args.start c.loop-at.into words (drop n row) [] (c.loop-at.auto.into ∙ sym all)
-    (sym came ∙ (is ∙ sym (append-nil (run slot c.args.start (map Some words)))))
+    let q = c.requires.held in
+    let one : n ≡ 1 = omega (arith, c.if-into-eq1.true) in (
+      q.0,
+      q.1,
+      q.2 ∙ ap (λ l. l ++ drop n c.args.seat.now.me.1)
+          (one_slot (shape_slot c.args.shape.now) c.args.start c.slot.result (map Some q.0) (length-cells q.0 ∙ (q.1 ∙ one)) c.slot.ensures),
+    )
 
 pub returns-then-into-eq1-clause-items : goal.returns-then-into-eq1-clause-items
 returns-then-into-eq1-clause-items g c =
-    let row = c.args.seat.now.me.1 in
-    let slot = shape_slot c.args.shape.now in
     let n = length c.args.into.now in
-    let words = somes (values row) in
     let d = c.drain_each.ensures in
     let zs = c.drain_each.new.into in
     let one : n ≡ 1 = omega (arith, c.if-into-eq1.true) in
-    let came : row ≡ run slot c.args.start (map Some zs) ++ drop n row =
-    d.items ∙ ap (λ l. l ++ drop n row) (sym (one_slot slot c.args.start c.slot.result (map Some zs) (length-cells zs ∙ (d.long ∙ one)) c.slot.ensures)) in
-    same_words slot c.args.start zs words (drop n row) [] (d.long ∙ sym (many slot c.args.start n row c.requires.held))
-    (sym came ∙ (is_run slot c.args.start n row c.requires.held ∙ sym (append-nil (run slot c.args.start (map Some words)))))
+    d.items ∙ ap (λ l. l ++ drop n c.args.seat.now.me.1)
+    (sym (one_slot (shape_slot c.args.shape.now) c.args.start c.slot.result (map Some zs) (length-cells zs ∙ (d.long ∙ one)) c.slot.ensures))

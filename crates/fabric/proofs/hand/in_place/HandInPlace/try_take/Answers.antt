@@ -3,7 +3,7 @@ use Rattle.geom.specs.declared.plan.Side.TheVariants.{Take}
 use Rattle.fabric_laws.specs.Kinds.{run}
 use Rattle.fabric_laws.specs.Words.{slot_at}
 use Rattle.fabric.specs.Hands.{rings_of}
-use Rattle.fabric.specs.Held.{HasSpan}
+use Rattle.fabric.specs.Held.{HasSpan, none_in}
 use Rattle.fabric.specs.Views.{span_of}
 use Rattle.fabric.specs.declared.hand.in_place.OpenSpan.TheVariants as open_span
 use Rattle.fabric.specs.declared.hand.in_place.Reserved.{Reserved}
@@ -25,7 +25,7 @@ invariant_of-self-in-Err-settle_take g c =
       put = λ q is. absurd (let u : open_span.Take here ≡ open_span.Put q = is in cc);
       take = λ q is.
           let same : here ≡ q = (let u : open_span.Take here ≡ open_span.Take q = is in cc) in
-          subst (λ (z : Reserved). HasSpan g.row.N Take c.settle_take.new.share.seat z) same record {
+          subst (λ (z : Reserved). HasSpan g.row.N Take c.settle_take.new.share.seat z (none_in z)) same record {
             there = subst (λ n. c.args.ring < n) (ap length (sym known)) c.requires.ring;
             span = ap (λ p. p.span) e.kept.party ∙ (h.span ∙ ap (λ i. Some (span_of i Take range.start range.count)) of.index);
             slots = λ plan at. e.refused.0 ∙ (h.slots
@@ -34,4 +34,6 @@ invariant_of-self-in-Err-settle_take g c =
             many = λ _. ap length e.shown ∙ h.full refl;
             fits = h.fits;
           };
+      held = λ q is. absurd (let u : open_span.Take here ≡ open_span.Held q = is in cc);
+      hts = λ q is. absurd (let u : open_span.Take here ≡ open_span.Held q = is in cc);
     }
