@@ -9,6 +9,7 @@ ghost use Rattle.ringcore_laws.specs.Moves.{Owns};
 ghost use Rattle.fabric_laws.specs.Changes.{advanced, settled};
 ghost use Rattle.fabric_laws.specs.Kinds.{IsHeldOnce};
 ghost use Rattle.fabric.specs.Advances.{IsRest, RefusesAdvance};
+ghost use Rattle.fabric.specs.OpenSpans.{IsHeldOn};
 ghost use Rattle.fabric.specs.Rings.{IsSameSeat, IsSeated, slots_of};
 ghost use Rattle.fabric.specs.Settles.{HoldsLess, HoldsMore};
 ghost use Rattle.fabric.specs.Views.{span_of};
@@ -112,10 +113,8 @@ impl<T: Tagged, const N: usize, S: Stored<T>> Ring<'_, T, N, S> {
         k: usize,
         into: &mut I,
     )
-        requires table { seat.old.table_id ≡ self.now.fabric.now.table.shared.table_id }
+        requires held { IsHeldOn self.now seat.old range }
         requires fits { k ≤ range.count }
-        requires whole { length seat.old.me.0.shown ≡ range.count }
-        requires slots { seat.old.me.1 ≡ slots_of self.now range.start (map Some seat.old.me.0.shown) }
         requires empty { I.items into.old ≡ [] }
         requires room { k ≤ I.room into.old }
         ensures seat { IsSameSeat seat.old seat.new × (seat.new.me.0 ≡ seat.old.me.0) }
@@ -138,12 +137,8 @@ impl<T: Tagged, const N: usize, S: Stored<T>> Ring<'_, T, N, S> {
         k: usize,
         into: &mut I,
     )
-        requires seat { IsSeated self.now seat.old }
-        requires hts { self.now.shape.plan.take ≡ Hts }
+        requires held { IsHeldOn self.now seat.old range }
         requires short { k < range.count }
-        requires span { seat.old.me.0.party.span ≡ Some (span_of self.now.index Take range.start range.count) }
-        requires whole { length seat.old.me.0.shown ≡ range.count }
-        requires slots { seat.old.me.1 ≡ slots_of self.now range.start (map Some seat.old.me.0.shown) }
         requires empty { I.items into.old ≡ [] }
         requires room { k ≤ I.room into.old }
         ensures seat { IsSameSeat seat.old seat.new }
@@ -169,12 +164,8 @@ impl<T: Tagged, const N: usize, S: Stored<T>> Ring<'_, T, N, S> {
         k: usize,
         into: &mut I,
     ) -> Positions
-        requires seat { IsSeated self.now share.old.seat }
-        requires hts { self.now.shape.plan.take ≡ Hts }
+        requires held { IsHeldOn self.now share.old.seat range }
         requires short { k < range.count }
-        requires span { share.old.seat.me.0.party.span ≡ Some (span_of self.now.index Take range.start range.count) }
-        requires whole { length share.old.seat.me.0.shown ≡ range.count }
-        requires slots { share.old.seat.me.1 ≡ slots_of self.now range.start (map Some share.old.seat.me.0.shown) }
         requires empty { I.items into.old ≡ [] }
         requires room { k ≤ I.room into.old }
         ensures seat { IsSameSeat share.old.seat share.new.seat }
@@ -203,12 +194,8 @@ impl<T: Tagged, const N: usize, S: Stored<T>> Ring<'_, T, N, S> {
         k: usize,
         into: &mut I,
     )
-        requires seat { IsSeated self.now seat.old }
-        requires hts { self.now.shape.plan.take ≡ Hts }
+        requires held { IsHeldOn self.now seat.old range }
         requires fits { k ≤ range.count }
-        requires span { seat.old.me.0.party.span ≡ Some (span_of self.now.index Take range.start range.count) }
-        requires whole { length seat.old.me.0.shown ≡ range.count }
-        requires slots { seat.old.me.1 ≡ slots_of self.now range.start (map Some seat.old.me.0.shown) }
         requires empty { I.items into.old ≡ [] }
         requires room { k ≤ I.room into.old }
         ensures seat { IsSameSeat seat.old seat.new }
@@ -232,12 +219,8 @@ impl<T: Tagged, const N: usize, S: Stored<T>> Ring<'_, T, N, S> {
         k: usize,
         into: &mut I,
     )
-        requires seat { IsSeated self.now share.old.seat }
-        requires hts { self.now.shape.plan.take ≡ Hts }
+        requires held { IsHeldOn self.now share.old.seat range }
         requires fits { k ≤ range.count }
-        requires span { share.old.seat.me.0.party.span ≡ Some (span_of self.now.index Take range.start range.count) }
-        requires whole { length share.old.seat.me.0.shown ≡ range.count }
-        requires slots { share.old.seat.me.1 ≡ slots_of self.now range.start (map Some share.old.seat.me.0.shown) }
         requires empty { I.items into.old ≡ [] }
         requires room { k ≤ I.room into.old }
         ensures seat { IsSameSeat share.old.seat share.new.seat }

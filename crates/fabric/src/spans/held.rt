@@ -69,8 +69,8 @@ impl<T: Tagged, const N: usize, S: Stored<T>> HandInPlace<T, N, S> {
     }
 
     /// Tries once to hold the take side of a head/tail-sync ring: by bulk with `n` items, by burst with at most `n`.
-    /// The items stay in their slots, and queued, until they are taken. At most three steps on words. Requires: the take
-    /// side is head/tail-sync (`Fabric::mode` shows it), and the hand has no open span.
+    /// The items stay in their slots, and queued, until they are taken. At most three steps on words. Requires: the
+    /// take side is head/tail-sync (`Fabric::mode` shows it), and the hand has no open span.
     ///
     /// Errors, in the order of the tests: `BadCount` if `n` is 0 or above `N`, before any step; `Busy`; `NoRoom`;
     /// `Worn`; `Contended`. No span is open then.

@@ -16,12 +16,12 @@ advance-requires g c =
     let n = c.args.range.count in
     let w = c.withdraw.ensures in
     let ready =
-    ready_take g.T.Tagged.numbers r.fabric.now.plan.rings.items r.shape.plan r.index c.args.range.start n me c.withdraw.new.seat.me w.seat.1 k q.span
-    q.whole (omega (arith, q.short)) w.slots in (
+    ready_take g.T.Tagged.numbers r.fabric.now.plan.rings.items r.shape.plan r.index c.args.range.start n me c.withdraw.new.seat.me w.seat.1 k q.held.span
+    q.held.whole (omega (arith, q.short)) w.slots in (
       search rules,
       (
-        seated_on r c.args.seat.now c.withdraw.new.seat q.seat w.seat.0 w.seat.1,
-        (q.hts, (c.args.range.last, (q.short, (take k me.0.shown, taken_long k me.0.shown (omega (arith, q.short, q.whole)), ready)))),
+        seated_on r c.args.seat.now c.withdraw.new.seat q.held.seat w.seat.0 w.seat.1,
+        (q.held.hts, (c.args.range.last, (q.short, (take k me.0.shown, taken_long k me.0.shown (omega (arith, q.short, q.held.whole)), ready)))),
       ),
     )
 
@@ -35,9 +35,9 @@ returns-clause-done g c =
     let start = c.args.range.start in
     let w = c.withdraw.ensures in
     let ready =
-    ready_take g.T.Tagged.numbers r.fabric.now.plan.rings.items r.shape.plan r.index start n me c.withdraw.new.seat.me w.seat.1 k q.span
-    q.whole (omega (arith, q.short)) w.slots in
-    let t = c.advance.ensures.done (take k me.0.shown) (taken_long k me.0.shown (omega (arith, q.short, q.whole))) ready in (
+    ready_take g.T.Tagged.numbers r.fabric.now.plan.rings.items r.shape.plan r.index start n me c.withdraw.new.seat.me w.seat.1 k q.held.span
+    q.held.whole (omega (arith, q.short)) w.slots in
+    let t = c.advance.ensures.done (take k me.0.shown) (taken_long k me.0.shown (omega (arith, q.short, q.held.whole))) ready in (
       t.0 ∙ ap (advanced (span_of r.index Take start n) (take k me.0.shown)) w.seat.1,
       t.1 ∙ ap (λ v. slots_of r (start + k) (map Some (drop k v.shown))) w.seat.1,
       t.2,
