@@ -2,6 +2,8 @@
 //! others stay reserved. Beside it, what gives up a held take: a store after which nothing is reserved.
 ghost use Rattle.std.specs.Prelude.{◌≡◌, ◌<◌, ◌≤◌, ◌+◌, ◌-◌, ◌++◌, [], length, drop, map, take, replicate};
 ghost use Rattle.std.specs.Prelude.{IfOk, IfErr, None, Some, true};
+ghost use Rattle.std.specs.List.{flat_map};
+ghost use Rattle.burst.specs.Numbers.{AreDistinct};
 ghost use Rattle.geom.specs.declared.plan.Mode.TheVariants.{Hts};
 ghost use Rattle.geom.specs.declared.plan.Side.TheVariants.{Put, Take};
 ghost use Rattle.ringcore_laws.specs.FreeRings.{AreSingle};
@@ -177,6 +179,7 @@ impl<T: Tagged, const N: usize, S: Stored<T>> Ring<'_, T, N, S> {
         ensures slots { share.new.seat.me.1 ≡ slots_of self.now result.start (map Some share.new.seat.me.0.shown) }
         ensures owned { HoldsMore T.numbers share.old.seat.me.0 (take k share.old.seat.me.0.shown)
             share.new.seat.me.0 }
+        ensures apart { AreDistinct (flat_map T.numbers (take k share.old.seat.me.0.shown)) }
         ensures beside { I.beside into.old into.new }
     {
         self.dequeue_first(&mut share.seat, range, k, into);
@@ -230,6 +233,7 @@ impl<T: Tagged, const N: usize, S: Stored<T>> Ring<'_, T, N, S> {
         ensures slots { share.new.seat.me.1 ≡ [] }
         ensures owned { HoldsMore T.numbers share.old.seat.me.0 (take k share.old.seat.me.0.shown)
             share.new.seat.me.0 }
+        ensures apart { AreDistinct (flat_map T.numbers (take k share.old.seat.me.0.shown)) }
         ensures beside { I.beside into.old into.new }
     {
         self.dequeue_last(&mut share.seat, range, k, into);

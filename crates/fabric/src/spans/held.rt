@@ -2,6 +2,8 @@
 //! A put side is held by `try_start_put`, `try_advance_put` again and again, and `try_settle_put`; a take side by the
 //! calls here. Meanwhile other hands find the side busy.
 ghost use Rattle.std.specs.Prelude.{◌≡◌, ◌≤◌, ◌<◌, [], drop, length, take, IfOk, IfErr};
+ghost use Rattle.std.specs.List.{flat_map};
+ghost use Rattle.burst.specs.Numbers.{AreDistinct};
 ghost use Rattle.geom.specs.declared.plan.Side.TheVariants.{Put, Take};
 ghost use Rattle.ringcore_laws.specs.Party.{with_open};
 ghost use Rattle.fabric_laws.specs.Changes.{advanced, settled};
@@ -140,6 +142,7 @@ impl<T: Tagged, const N: usize, S: Stored<T>> HandInPlace<T, N, S> {
             ≡ advanced (span_at Take reserved) (take k (placed_view self.old).shown) (placed_view self.old) }
         ensures owned { HoldsMore T.numbers (placed_view self.old) (take k (placed_view self.old).shown)
             (placed_view self.new) }
+        ensures apart { AreDistinct (flat_map T.numbers (take k (placed_view self.old).shown)) }
         ensures beside { I.beside into.old into.new }
     {
         let target = fabric.ring(reserved.ring);
@@ -176,6 +179,7 @@ impl<T: Tagged, const N: usize, S: Stored<T>> HandInPlace<T, N, S> {
             ≡ settled (span_at Take reserved) (take k (placed_view self.old).shown) (placed_view self.old) }
         ensures owned { HoldsMore T.numbers (placed_view self.old) (take k (placed_view self.old).shown)
             (placed_view self.new) }
+        ensures apart { AreDistinct (flat_map T.numbers (take k (placed_view self.old).shown)) }
         ensures beside { I.beside into.old into.new }
     {
         let target = fabric.ring(reserved.ring);

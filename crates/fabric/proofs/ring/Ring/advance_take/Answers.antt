@@ -1,12 +1,13 @@
-use Rattle.std.proofs.Common.{◌<◌, ap, length, subst, sym, take, ◌∙◌}
+use Rattle.std.proofs.Common.{◌<◌, ap, length, refl, subst, sym, take, ◌∙◌}
 use Rattle.geom.specs.declared.plan.Side.TheVariants.{Take}
 use Rattle.ringcore_laws.specs.Party.{with_settled}
-use Rattle.fabric_laws.specs.Changes.{rest_of}
+use Rattle.fabric_laws.specs.Changes.{rest_of, settled}
 use Rattle.fabric_laws.specs.Kinds.{IsHeldOnce}
 use Rattle.fabric.specs.Owned.{IsRow}
 use Rattle.fabric.specs.Views.{span_of}
 use Rattle.fabric.proofs.Advancing.{advance_more, once_opened, row_opened, row_taken}
 use Rattle.fabric.proofs.Holding.{take_row}
+use Rattle.fabric.proofs.Told.{taken_apart}
 use Rattle.fabric.proofs.ring.Ring.advance_take.Goals as goal
 
 pub invariant_of-share : goal.invariant_of-share
@@ -32,6 +33,19 @@ invariant_of-share g c =
           (subst (IsRow tags v.pool (with_settled v.party span items)) (sym row)
           (take_row tags v.pool v.party h.owned h.row items r.index range.start range.count h.well after)));
     }
+
+pub returns-clause-apart : goal.returns-clause-apart
+returns-clause-apart g c =
+    let r = c.args.self.now in
+    let h = c.args.share.now in
+    let range = c.args.range in
+    let tags = g.T.Tagged.numbers in
+    let v = h.seat.me.0 in
+    let items = take c.args.k v.shown in
+    let span = span_of r.index Take range.start range.count in
+    let done = c.dequeue_first.ensures.done in
+    taken_apart tags r.index range.start range.count items v (settled span items v) refl h.well
+    (once_opened tags v.pool (with_settled v.party span items) (rest_of span (length items)) (subst (λ w. IsHeldOnce tags w.pool w.party) done.0 done.2))
 
 pub returns-clause-owned : goal.returns-clause-owned
 returns-clause-owned g c =

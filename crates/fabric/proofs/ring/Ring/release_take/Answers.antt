@@ -6,6 +6,7 @@ use Rattle.fabric.specs.Owned.{IsRow}
 use Rattle.fabric.specs.Views.{span_of}
 use Rattle.fabric.proofs.Advancing.{row_taken}
 use Rattle.fabric.proofs.Holding.{holds_more, take_row}
+use Rattle.fabric.proofs.Told.{taken_apart}
 use Rattle.fabric.proofs.ring.Ring.release_take.Goals as goal
 
 pub invariant_of-share : goal.invariant_of-share
@@ -29,6 +30,15 @@ invariant_of-share g c =
           (take_row tags v.pool v.party h.owned h.row items r.index range.start range.count h.well
           (subst (λ w. IsHeldOnce tags w.pool w.party) d.done.0 d.done.2)));
     }
+
+pub returns-clause-apart : goal.returns-clause-apart
+returns-clause-apart g c =
+    let r = c.args.self.now in
+    let h = c.args.share.now in
+    let range = c.args.range in
+    let v = h.seat.me.0 in
+    let done = c.dequeue_last.ensures.done in
+    taken_apart g.T.Tagged.numbers r.index range.start range.count (take c.args.k v.shown) v c.dequeue_last.new.seat.me.0 done.0 h.well done.2
 
 pub returns-clause-owned : goal.returns-clause-owned
 returns-clause-owned g c =
