@@ -41,11 +41,12 @@ abbrev pub LooksAt : ℕ → Side → Member → Member → Outcome → Type 0
 LooksAt ring side m u outcome = OnRings ring m outcome (SameMember m u) (λ v. (u.port.fabric ≡ m.port.fabric)
     × Looks m.port.fabric.value ring side v (member_view u) outcome)
 
--- 0 with no open span, 1 with one of a put, 2 with one of a take
+-- 0 with no open span, 1 with one of a put, 2 with one of a take, 3 while it holds a take side
 abbrev pub span_kind : OpenSpan → ℕ
 span_kind open_span.Idle = 0
 span_kind (open_span.Put r) = 1
 span_kind (open_span.Take r) = 2
+span_kind (open_span.Held r) = 3
 
 abbrev pub TellsSpan : Member → Member → Outcome → Type 0
 TellsSpan m u outcome = (u ≡ m) × (outcome ≡ Ok (span_kind m.port.hand.span))

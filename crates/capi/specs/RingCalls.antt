@@ -38,6 +38,7 @@ abbrev pub OnIdle : OpenSpan → Outcome → Type 0 → Type 0 → Type 0
 OnIdle Idle outcome same does = does
 OnIdle (open_span.Put r) outcome same does = (outcome ≡ Err fault.Open) × same
 OnIdle (open_span.Take r) outcome same does = (outcome ≡ Err fault.Open) × same
+OnIdle (open_span.Held r) outcome same does = (outcome ≡ Err fault.Open) × same
 
 -- a call on a ring: there is none of this number, or a span is open, or it does what it says
 abbrev pub OnRings : ℕ → Member → Outcome → Type 0 → (View Word64 → Type 0) → Type 0
@@ -50,11 +51,13 @@ abbrev pub OnPut : OpenSpan → Outcome → Type 0 → (Span → Type 0) → Typ
 OnPut Idle outcome same does = (outcome ≡ Err fault.NotOpen) × same
 OnPut (open_span.Put r) outcome same does = does (span_at Put r)
 OnPut (open_span.Take r) outcome same does = (outcome ≡ Err fault.NotOpen) × same
+OnPut (open_span.Held r) outcome same does = (outcome ≡ Err fault.NotOpen) × same
 
 abbrev pub OnTake : OpenSpan → Outcome → Type 0 → (Span → Type 0) → Type 0
 OnTake Idle outcome same does = (outcome ≡ Err fault.NotOpen) × same
 OnTake (open_span.Put r) outcome same does = (outcome ≡ Err fault.NotOpen) × same
 OnTake (open_span.Take r) outcome same does = does (span_at Take r)
+OnTake (open_span.Held r) outcome same does = (outcome ≡ Err fault.NotOpen) × same
 
 abbrev pub OnPutting : Member → Outcome → Type 0 → (Span → View Word64 → Type 0) → Type 0
 OnPutting m outcome same does = OnPut m.port.hand.span outcome same (λ span. does span (member_view m))

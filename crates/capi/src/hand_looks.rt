@@ -19,6 +19,7 @@ fn kind(span: OpenSpan) -> u32
         OpenSpan::Idle => 0,
         OpenSpan::Put(_) => 1,
         OpenSpan::Take(_) => 2,
+        OpenSpan::Held(_) => 3,
     }
 }
 

@@ -19,6 +19,7 @@ abbrev pub IsOpen : OpenSpan → Type 0
 IsOpen open_span.Idle = ⊥
 IsOpen (open_span.Put r) = ⊤
 IsOpen (open_span.Take r) = ⊤
+IsOpen (open_span.Held r) = ⊤
 
 module _ {T : Type 0} {S : Type 0} {G : Ghosts T} {H : StoredGhosts S T} {N : ℕ} where
   abbrev pub port_rings : Port T N S G H → List RingPlan
