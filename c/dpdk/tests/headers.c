@@ -1,0 +1,237 @@
+/* Tests of the headers for what DPDK's own tests don't reach: headers [EAL's options] -- NAME. `headers list` prints
+ * all names. It is linked with --wrap for each function that takes memory, so that each request can be refused. */
+#include "hokhtura_rte.h"
+#include "hokhtura_rte_lpm.h"
+#include "hokhtura_rte_reorder.h"
+
+#include <rte_eal.h>
+
+enum { THREADS = 200, ROUNDS = 50, MANY = 5000 };
+
+static int wrong;
+
+#define CHECK(good) \
+    do { \
+        if (!(good)) { \
+            printf("%s:%d: not so: %s\n", __FILE__, __LINE__, #good); \
+            wrong = 1; \
+        } \
+    } while (0)
+
+/* ---- Memory -------------------------------------------------------------------------------------------------------*/
+
+/* Which request is refused, with all after it, or 0; how many were made, and how many blocks aren't freed. */
+static _Atomic long refused, requests, blocks;
+
+static void *counted(void *at) {
+    blocks += at != NULL;
+    return at;
+}
+
+static int refuses(void) { return ++requests >= refused && refused != 0; }
+
+void *__real_malloc(size_t size);
+void *__real_calloc(size_t n, size_t size);
+void *__real_realloc(void *at, size_t size);
+void *__real_aligned_alloc(size_t align, size_t size);
+void __real_free(void *at);
+
+void *__wrap_malloc(size_t size) { return counted(refuses() ? NULL : __real_malloc(size)); }
+void *__wrap_calloc(size_t n, size_t size) { return counted(refuses() ? NULL : __real_calloc(n, size)); }
+void *__wrap_aligned_alloc(size_t align, size_t size) {
+    return counted(refuses() ? NULL : __real_aligned_alloc(align, size));
+}
+void *__wrap_realloc(void *at, size_t size) {
+    void *moved = refuses() ? NULL : __real_realloc(at, size);
+    blocks += moved && !at;
+    return moved;
+}
+void __wrap_free(void *at) {
+    blocks -= at != NULL;
+    __real_free(at);
+}
+
+/* Makes one thing, and refuses each request for memory in turn until nothing is refused any more. */
+static void refuse_each(void *(*make)(void), void (*end)(void *)) {
+    void *made = make(); /* what stays for the next one is there then */
+    CHECK(made != NULL);
+    end(made);
+    long before = blocks, tried = 0;
+    made = NULL;
+    while (!made && tried < 1000) {
+        CHECK(blocks == before);
+        requests = 0;
+        refused = ++tried;
+        rte_errno = 0;
+        made = make();
+        CHECK(made || rte_errno == ENOMEM);
+    }
+    refused = 0;
+    printf("%ld requests were refused\n", tried - 1);
+    CHECK(made && tried > 2);
+    end(made);
+    CHECK(blocks == before);
+}
+
+static void *a_ring(void) { return rte_ring_create("r", 64, SOCKET_ID_ANY, RING_F_SP_ENQ | RING_F_MC_HTS_DEQ); }
+static void end_ring(void *at) { rte_ring_free(at); }
+static void ring_memory(void) { refuse_each(a_ring, end_ring); }
+
+static void *a_table(void) {
+    struct rte_lpm_config config = {.max_rules = 4, .number_tbl8s = 4, .flags = 0};
+    return rte_lpm_create("t", SOCKET_ID_ANY, &config);
+}
+static void end_table(void *at) { rte_lpm_free(at); }
+static void table_memory(void) { refuse_each(a_table, end_table); }
+
+static void *a_window(void) { return rte_reorder_create("w", 0, 64); }
+static void end_window(void *at) { rte_reorder_free(at); }
+static void window_memory(void) { refuse_each(a_window, end_window); }
+
+/* Calls of a thread that gets no hand and no reader. */
+static void *without_memory(void *at) {
+    struct rte_ring *r = at;
+    struct rte_lpm *lpm = rte_lpm_find_existing("t");
+    void *object = r;
+    uint32_t hop = 0;
+    requests = 0;
+    refused = 1;
+    CHECK(rte_ring_enqueue(r, object) == 0);
+    CHECK(rte_ring_count(r) == 1);
+    CHECK(rte_ring_dequeue(r, &object) == 0 && object == r);
+    CHECK(rte_ring_enqueue_bulk_start(r, 1, NULL) == 0);
+    CHECK(rte_lpm_lookup(lpm, 0x0a000001, &hop) == 0 && hop == 7);
+    CHECK(requests > 0);
+    refused = 0;
+    return NULL;
+}
+
+static void no_hand(void) {
+    pthread_t thread;
+    struct rte_ring *r = a_ring();
+    struct rte_lpm *lpm = a_table();
+    CHECK(r && lpm && rte_lpm_add(lpm, 0x0a000000, 8, 7) == 0);
+    CHECK(pthread_create(&thread, NULL, without_memory, r) == 0 && pthread_join(thread, NULL) == 0);
+    rte_ring_free(r);
+    rte_lpm_free(lpm);
+}
+
+/* ---- Rings --------------------------------------------------------------------------------------------------------*/
+
+static void refusals(void) {
+    struct rte_ring *r = rte_ring_create("r", 1u << 20, SOCKET_ID_ANY, 0);
+    CHECK(r && rte_ring_get_capacity(r) == HKR_WORDS);
+    CHECK(!rte_ring_create("r", 16, SOCKET_ID_ANY, 0) && rte_errno == EEXIST);
+    rte_ring_free(r);
+    CHECK(!rte_ring_create("r", 1u << 21, SOCKET_ID_ANY, 0) && rte_errno == EINVAL);
+    CHECK(!rte_ring_create_elem("r", 16, 1u << 20, SOCKET_ID_ANY, 0) && rte_errno == EINVAL);
+    CHECK(!rte_ring_create("r", 16, SOCKET_ID_ANY, RING_F_SP_ENQ | RING_F_MP_HTS_ENQ) && rte_errno == EINVAL);
+    CHECK(!rte_ring_create("r", 16, SOCKET_ID_ANY, 0x80) && rte_errno == EINVAL);
+    CHECK(!rte_ring_lookup("r") && rte_errno == ENOENT);
+}
+
+/* Counts of a thread that has a peek open, and an element of another size. */
+static void beside_a_peek(void) {
+    void *objects[4] = {NULL, NULL, NULL, NULL};
+    uint32_t small;
+    struct rte_ring *r = rte_ring_create("r", 8, SOCKET_ID_ANY, RING_F_SP_ENQ | RING_F_SC_DEQ);
+    CHECK(r && rte_ring_enqueue_bulk(r, objects, 4, NULL) == 4);
+    CHECK(rte_ring_dequeue_bulk_start(r, objects, 3, NULL) == 3);
+    CHECK(rte_ring_count(r) == 4 && rte_ring_free_count(r) == 3);
+    CHECK(rte_ring_dequeue(r, objects) == -ENOENT);
+    rte_ring_dequeue_finish(r, 1);
+    CHECK(rte_ring_count(r) == 3);
+    CHECK(rte_ring_enqueue_burst_start(r, 8, NULL) == 4);
+    CHECK(rte_ring_count(r) == 3 && rte_ring_free_count(r) == 4);
+    rte_ring_enqueue_finish(r, objects, 2);
+    CHECK(rte_ring_count(r) == 5);
+    CHECK(rte_ring_enqueue_elem(r, &small, sizeof small) == -ENOBUFS);
+    CHECK(rte_ring_dequeue_elem(r, &small, sizeof small) == -ENOENT);
+    rte_ring_reset(r);
+    CHECK(rte_ring_empty(r));
+    rte_ring_free(r);
+}
+
+/* Bulks of several thousand elements of 20 bytes, from an odd address. */
+static void long_calls(void) {
+    static char in[MANY * 20 + 1], out[MANY * 20 + 1];
+    struct rte_ring *r = rte_ring_create_elem("r", 20, 8192, SOCKET_ID_ANY, 0);
+    CHECK(r != NULL);
+    for (size_t i = 0; i < sizeof in; i++) in[i] = (char)(i * 7);
+    CHECK(rte_ring_enqueue_bulk_elem(r, in + 1, 20, MANY, NULL) == MANY);
+    CHECK(rte_ring_enqueue_bulk_elem(r, in + 1, 20, MANY, NULL) == 0 && rte_ring_count(r) == MANY);
+    CHECK(rte_ring_dequeue_bulk_elem(r, out + 1, 20, MANY + 1, NULL) == 0 && rte_ring_count(r) == MANY);
+    CHECK(rte_ring_dequeue_bulk_elem(r, out + 1, 20, MANY, NULL) == MANY);
+    CHECK(!memcmp(in + 1, out + 1, MANY * 20) && rte_ring_empty(r));
+    rte_ring_free(r);
+}
+
+static pthread_barrier_t barrier;
+
+/* Puts a number and takes one, while all others have a hand too. */
+static void *together(void *at) {
+    struct rte_ring *r = at;
+    void *object = r;
+    CHECK(rte_ring_enqueue(r, object) == 0);
+    (void)pthread_barrier_wait(&barrier);
+    CHECK(rte_ring_dequeue(r, &object) == 0 && object == r);
+    return NULL;
+}
+
+static void many_threads(void) {
+    pthread_t threads[THREADS];
+    struct rte_ring *r = rte_ring_create("r", 256, SOCKET_ID_ANY, 0);
+    CHECK(r && pthread_barrier_init(&barrier, NULL, THREADS) == 0);
+    for (int round = 0; round < ROUNDS; round++) {
+        for (int i = 0; i < THREADS; i++) CHECK(pthread_create(&threads[i], NULL, together, r) == 0);
+        for (int i = 0; i < THREADS; i++) CHECK(pthread_join(threads[i], NULL) == 0);
+    }
+    CHECK(rte_ring_empty(r));
+    rte_ring_free(r);
+}
+
+/* ---- Tables -------------------------------------------------------------------------------------------------------*/
+
+static void tables(void) {
+    uint32_t hop, hops[2], ips[2] = {0x0a000001, 0x0b000001};
+    struct rte_lpm *lpm = a_table();
+    CHECK(lpm != NULL);
+    for (uint32_t i = 1; i <= 4; i++) CHECK(rte_lpm_add(lpm, i << 24, 8, i) == 0);
+    CHECK(rte_lpm_add(lpm, 5u << 24, 8, 5) == -ENOSPC); /* max_rules */
+    CHECK(rte_lpm_add(lpm, 4u << 24, 8, 6) == 0);
+    CHECK(rte_lpm_lookup(lpm, 4u << 24, &hop) == 0 && hop == 6);
+    CHECK(rte_lpm_delete(lpm, 4u << 24, 8) == 0 && rte_lpm_delete(lpm, 4u << 24, 8) == -EINVAL);
+    CHECK(rte_lpm_add(lpm, 10u << 24, 8, 9) == 0);
+    CHECK(rte_lpm_lookup_bulk(lpm, ips, hops, 2) == 0 && hops[0] == (9 | RTE_LPM_LOOKUP_SUCCESS) && hops[1] == 0);
+    rte_lpm_delete_all(lpm);
+    CHECK(rte_lpm_lookup(lpm, 0x0a000001, &hop) == -ENOENT);
+    rte_lpm_free(lpm);
+}
+
+static const struct {
+    const char *name;
+    void (*run)(void);
+} tests[] = {{"a ring without memory", ring_memory},
+             {"a table without memory", table_memory},
+             {"a window without memory", window_memory},
+             {"a thread without memory", no_hand},
+             {"what a ring refuses", refusals},
+             {"counts beside a peek", beside_a_peek},
+             {"long calls", long_calls},
+             {"200 threads at once", many_threads},
+             {"routes", tables}};
+
+int main(int argc, char **argv) {
+    if (argc == 2 && !strcmp(argv[1], "list")) {
+        for (size_t i = 0; i < RTE_DIM(tests); i++) puts(tests[i].name);
+        return 0;
+    }
+    int used = rte_eal_init(argc, argv);
+    if (used < 0 || used + 1 >= argc) return 2;
+    size_t i = 0;
+    while (i < RTE_DIM(tests) && strcmp(tests[i].name, argv[used + 1])) i++;
+    if (i == RTE_DIM(tests)) return 2;
+    tests[i].run();
+    fflush(stdout);
+    return wrong;
+}
