@@ -12,7 +12,7 @@ LIBRARY ?= out/c/libhokhtura.a
 BIN = $(DESTDIR)$(PREFIX)/bin
 SHARE = $(DESTDIR)$(PREFIX)/share
 
-.PHONY: help run try compare test build lib router dpdk install uninstall install-lib uninstall-lib dist deb bench
+.PHONY: help run try compare test build lib router dpdk try-dpdk install uninstall install-lib uninstall-lib dist deb bench
 
 # The first of all targets is what `make` alone does.
 help:
@@ -23,6 +23,7 @@ help:
 	@echo 'make lib        proves the C library and what it stands on, and leaves it in out/c: 20 to 50 minutes'
 	@echo 'make router     builds the router of docs/ROUTER.md over the C library, which is made if it is not there'
 	@echo 'make dpdk       builds the driver of rte_mempool of docs/DPDK.md over the C library, as make router: seconds'
+	@echo 'make try-dpdk   runs DPDK'"'"'s own tests over the driver and the headers for its programs: 10 minutes'
 	@echo 'make install    make build and lib; program, library, man page, completions go below PREFIX ($(PREFIX)): seconds'
 	@echo 'make install-lib  the library alone: its headers, its archives, hokhtura.pc, manual pages'
 	@echo 'make dist       packs what make build and make lib left into out/hokhtura-VERSION-x86_64-linux.tar.gz: seconds'
@@ -92,6 +93,9 @@ router: $(LIBRARY)
 # The driver of docs/DPDK.md, in out/dpdk.
 dpdk: $(LIBRARY)
 	@$(MAKE) --no-print-directory -C c/dpdk LIBRARY=$(abspath $(LIBRARY)) OUT=$(CURDIR)/out/dpdk
+
+try-dpdk: $(LIBRARY)
+	@LIBRARY=$(abspath $(LIBRARY)) tools/try-dpdk
 
 out/c/libhokhtura.a:
 	@$(MAKE) --no-print-directory lib
