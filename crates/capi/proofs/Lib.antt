@@ -7,6 +7,7 @@ pub mod Values
 pub mod Asking
 pub mod Emptying
 pub mod Filling
+pub mod Held
 pub mod Reserving
 mod RingRows
 pub mod Settled

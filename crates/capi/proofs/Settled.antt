@@ -14,6 +14,7 @@ use Rattle.fabric_laws.specs.Changes.{settled}
 use Rattle.fabric.specs.declared.hand.SettleFault.{SettleFault}
 use Rattle.fabric.specs.declared.hand.SettleFault.TheVariants.{BadCount, NotYet, NotYours}
 use Rattle.fabric.specs.declared.hand.in_place.Reserved.{Reserved}
+use Rattle.fabric.specs.Advances.{RefusesAdvance}
 use Rattle.fabric.specs.Hands.{OnRing, rings_of}
 use Rattle.fabric.specs.Held.{span_at}
 use Rattle.fabric.specs.Settles.{AreNotYours, IsCount, RefusesSettle}
@@ -41,6 +42,13 @@ true_false false e h = let z : false ≡ true = e in cc
 yours : (plan : RingPlan) (v : View Word64) (words : List Word64) → plan.free ≡ false → AreNotYours tags plan v words → ⊥
 yours plan v words plain (inl x) = not_none _ _ x.1 (none_carried x.0 words)
 yours plan v words plain (inr x) = true_false plan.free x.0 plain
+
+-- an advance of a put by fewer words than the span has positions isn't refused
+pub advances : (plan : RingPlan) (k count : ℕ) (words : List Word64) (v w : View Word64) (e : SettleFault) → plan.free ≡ false
+    → k < count → RefusesAdvance tags plan k count words v w e → ⊥
+advances plan k count words v w BadCount plain fewer refused = omega (arith, fewer, refused.0)
+advances plan k count words v w NotYours plain fewer refused = yours plan v words plain refused.1
+advances plan k count words v w (NotYet x) plain fewer refused = refused
 
 pub all_fit : (mode : Mode) (k count : ℕ) → k ≡ count → IsCount mode k count
 all_fit Multi k count all = all

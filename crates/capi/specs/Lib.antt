@@ -15,6 +15,7 @@ pub mod Calls
 pub mod Finishes
 pub mod RingCalls
 pub mod MemberCalls
+pub mod Holding
 pub mod Plans
 pub mod Openings
 pub mod Rests

@@ -9,6 +9,7 @@ mod forwarders;
 mod hand_exports;
 mod hand_looks;
 mod handle;
+mod hold_exports;
 mod keeping;
 mod loose;
 mod object;

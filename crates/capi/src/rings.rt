@@ -2,12 +2,13 @@
 //!
 //! `member` is a thread's hand on a set of rings, `opening` and `making` make it, `member_calls` splits it and looks at
 //! it, `closing` and `ending` close its rings. `whole_calls` puts and takes words in one call; `span_calls` peeks and
-//! finishes, through `peeking` and `finishing`. Below these `starting` and `settling` are the two halves of a call.
+//! finishes, through `peeking` and `finishing`; `holding` has the calls on a side that is held. Below these `starting` and `settling` are the two halves of a call.
 //! `word64` is a word, and `fault` what calls return.
 mod closing;
 mod ending;
 mod fault;
 mod finishing;
+mod holding;
 mod making;
 mod member;
 mod member_calls;
@@ -22,6 +23,7 @@ mod word64;
 pub(crate) use closing::Rest;
 pub(crate) use ending::{close, drain};
 pub(crate) use fault::{Fault, answer};
+pub(crate) use holding::{advance_put, advance_take, hold_take, release_take};
 pub(crate) use making::open;
 pub(crate) use member::{MOST, Member};
 pub(crate) use member_calls::{clamped, look, side_of, split};
