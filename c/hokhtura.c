@@ -30,6 +30,10 @@ extern int64_t hkx_ring_peek_put(struct hk_cell *h, size_t ring, size_t n, bool 
 extern int64_t hkx_ring_peek_take(struct hk_cell *h, size_t ring, uint64_t *words, size_t words_length, bool bulk);
 extern int64_t hkx_ring_finish_put(struct hk_cell *h, const uint64_t *words, size_t words_length);
 extern int64_t hkx_ring_finish_take(struct hk_cell *h, size_t n);
+extern int64_t hkx_ring_advance_put(struct hk_cell *h, const uint64_t *words, size_t words_length);
+extern int64_t hkx_ring_hold_take(struct hk_cell *h, size_t ring, size_t n, bool bulk);
+extern int64_t hkx_ring_advance_take(struct hk_cell *h, uint64_t *words, size_t words_length);
+extern int64_t hkx_ring_release_take(struct hk_cell *h, uint64_t *words, size_t words_length);
 extern int64_t hkx_ring_room(struct hk_cell *h, size_t ring, bool queued);
 extern int64_t hkx_pool_open(struct hk_cell *h, uint32_t n, uint32_t size, uint32_t rings);
 extern int64_t hkx_pool_split(struct hk_cell *h, struct hk_cell *second);
@@ -248,6 +252,40 @@ int64_t hk_ring_finish_put(hk_hand *hand, const uint64_t *words, size_t n) {
 int64_t hk_ring_finish_take(hk_hand *hand, size_t n) {
     struct hk_cell cell = {hand};
     return settle_take(&cell, n, hkx_ring_finish_take(&cell, n));
+}
+
+int64_t hk_ring_advance_put(hk_hand *hand, const uint64_t *words, size_t n) {
+    int64_t code = refused(words, n);
+    if (code < 0) return code;
+    give_words(words, n);
+    return hkx_ring_advance_put(CELL(hand), words ? words : no_words, n);
+}
+
+static inline int64_t hold_take(hk_hand *hand, size_t ring, size_t n, bool bulk) {
+    struct hk_cell cell = {hand};
+    int64_t code = hkx_ring_hold_take(&cell, ring, n, bulk);
+    TRY_AGAIN(code, HK_E_AGAIN, hkx_ring_hold_take(&cell, ring, n, bulk))
+    return code;
+}
+
+int64_t hk_ring_hold_take_bulk(hk_hand *hand, size_t ring, size_t n) {
+    return hold_take(hand, ring, n, true);
+}
+
+int64_t hk_ring_hold_take_burst(hk_hand *hand, size_t ring, size_t n) {
+    return hold_take(hand, ring, n, false);
+}
+
+int64_t hk_ring_advance_take(hk_hand *hand, uint64_t *words, size_t n) {
+    int64_t code = refused(words, n);
+    if (code < 0) return code;
+    return got_words(words, n, hkx_ring_advance_take(CELL(hand), words ? words : no_words, n));
+}
+
+int64_t hk_ring_release_take(hk_hand *hand, uint64_t *words, size_t n) {
+    int64_t code = refused(words, n);
+    if (code < 0) return code;
+    return got_words(words, n, hkx_ring_release_take(CELL(hand), words ? words : no_words, n));
 }
 
 int64_t hk_hand_span(const hk_hand *hand) {

@@ -186,7 +186,28 @@ HK_API HK_CHECKED int64_t hk_ring_finish_put(hk_hand *hand, const uint64_t *word
  * the first of those that are in the array already. Codes as above. */
 HK_API HK_CHECKED int64_t hk_ring_finish_take(hk_hand *hand, size_t n);
 
-/* 0 if the hand has no open span, 1 if it has one of a put, 2 of a take. HK_E_NULL, HK_E_KIND. */
+/* Held sides, only head/tail-sync ones: a hand keeps its span open over several puts or takes, each of which is one
+ * store. Other threads' calls on that side return HK_E_AGAIN meanwhile; those on the other side of the ring go on as
+ * always. hokhtura_hold.h has calls that put and take word by word in this way.
+ *
+ * A put side is held from a peek to a finish. In between this call puts n words at the first positions of the span, and
+ * keeps the others. Returns n. HK_E_NULL, HK_E_KIND, HK_E_NOTOPEN; HK_E_MODE: the side is multi; HK_E_COUNT: no
+ * position would stay reserved, so hk_ring_finish_put has to put the last ones. */
+HK_API HK_CHECKED int64_t hk_ring_advance_put(hk_hand *hand, const uint64_t *words, size_t n);
+/* Holds a take side, with up to n of its words, which stay on the ring until they are taken. Returns how many.
+ * HK_E_NULL, HK_E_KIND, HK_E_RING, HK_E_MODE, HK_E_OPEN, HK_E_COUNT, HK_E_NOROOM, HK_E_WORN, HK_E_AGAIN. If the hand is
+ * freed meanwhile, no call takes these words any more. */
+HK_API HK_CHECKED int64_t hk_ring_hold_take_bulk(hk_hand *hand, size_t ring, size_t n);
+HK_API HK_CHECKED int64_t hk_ring_hold_take_burst(hk_hand *hand, size_t ring, size_t n);
+/* Takes the next n words of the held side, and keeps the others. Returns n. HK_E_NULL, HK_E_KIND, HK_E_NOTOPEN;
+ * HK_E_COUNT: none would be left, so hk_ring_release_take has to take the last ones. */
+HK_API HK_CHECKED int64_t hk_ring_advance_take(hk_hand *hand, uint64_t *words, size_t n);
+/* Takes the next n words of the held side, or none, and gives it up: the others stay on the ring, in their order.
+ * Returns n. HK_E_NULL, HK_E_KIND, HK_E_NOTOPEN, HK_E_COUNT. */
+HK_API HK_CHECKED int64_t hk_ring_release_take(hk_hand *hand, uint64_t *words, size_t n);
+
+/* 0 if the hand has no open span, 1 if it has one of a put, 2 of a take, 3 while it holds a take side. HK_E_NULL,
+ * HK_E_KIND. */
 HK_API int64_t hk_hand_span(const hk_hand *hand);
 /* What the last put, take or peek left: how many more words there was room for, or how many more were queued; after
  * HK_E_NOROOM, how many in all. After HK_E_COUNT, HK_E_WORN and HK_E_AGAIN it says nothing, and other codes leave it as

@@ -126,6 +126,11 @@ public:
     result peek_take_burst(std::size_t ring, places out) noexcept {
         return hk_ring_peek_take_burst(get(), ring, out.data(), out.size());
     }
+    result advance_put(words in) noexcept { return hk_ring_advance_put(get(), in.data(), in.size()); }
+    result hold_take_bulk(std::size_t ring, std::size_t n) noexcept { return hk_ring_hold_take_bulk(get(), ring, n); }
+    result hold_take_burst(std::size_t ring, std::size_t n) noexcept { return hk_ring_hold_take_burst(get(), ring, n); }
+    result advance_take(places out) noexcept { return hk_ring_advance_take(get(), out.data(), out.size()); }
+    result release_take(places out) noexcept { return hk_ring_release_take(get(), out.data(), out.size()); }
     result finish_put(words in) noexcept { return hk_ring_finish_put(get(), in.data(), in.size()); }
     result finish_take(std::size_t n) noexcept { return hk_ring_finish_take(get(), n); }
 

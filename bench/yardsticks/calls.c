@@ -15,6 +15,7 @@
 #define MOST 128
 #define WARM 20000
 #define CHUNK 2000
+#define LAP 64
 
 static struct rte_ring *ring_of(int hts)
 {
@@ -31,11 +32,33 @@ static __attribute__((noinline)) void turns(struct rte_ring *ring, void **table,
 			exit(1);
 }
 
+/* One item a call: LAP enqueues, and then as many dequeues. */
+static __attribute__((noinline)) void laps(struct rte_ring *ring, void **table, unsigned long count)
+{
+	for (unsigned long i = 0; i < count; i += LAP) {
+		for (unsigned j = 0; j < LAP; j++)
+			if (rte_ring_enqueue(ring, table[j])) exit(1);
+		for (unsigned j = 0; j < LAP; j++)
+			if (rte_ring_dequeue(ring, &table[j])) exit(1);
+	}
+}
+
+static void laps_alone(int hts, void **table)
+{
+	struct rte_ring *ring = ring_of(hts);
+	double ns;
+	laps(ring, table, WARM);
+	TIMED(ns, CHUNK / LAP * LAP, laps(ring, table, CHUNK / LAP * LAP););
+	report(hts ? "hts-laps" : "multi-laps", ns, "ns/item");
+	free(ring);
+}
+
 static void alone(void)
 {
 	static const unsigned sizes[] = { 1, 8, 32, 128 };
 	void *table[MOST];
 	for (unsigned i = 0; i < MOST; i++) table[i] = (void *)(uintptr_t)(i + 1);
+	for (int hts = 0; hts < 2; hts++) laps_alone(hts, table);
 	for (int hts = 0; hts < 2; hts++)
 		for (unsigned s = 0; s < sizeof sizes / sizeof *sizes; s++) {
 			struct rte_ring *ring = ring_of(hts);

@@ -14,7 +14,7 @@ enum { RINGS = 2, MULTI_RING = 1, SPAN = 3, LEFT = 4, NUMBERS = 8, POOL_RINGS = 
 
 /* Hands: without a span, with a span of a put and of a take, and one whose rings were closed. `other` shares the rings
  * of `idle`, and `sharer` the table of `shared`. */
-static hk_hand *idle, *other, *putting, *taking, *closed;
+static hk_hand *idle, *other, *putting, *taking, *holding, *closed;
 static hk_pool *pool;
 static hk_routes *table, *shared, *sharer;
 static hk_fib *fib;
@@ -56,7 +56,7 @@ static const hk_frame too_long[2] = {{frame, HELD, HELD}, {frame, HELD, HELD - 1
 
 /* What is seen of all handles. */
 struct seen {
-    int64_t spans[3], rings[4], numbers[NUMBERS + 1], hops[4], drawn[4], found[2], verdict, class;
+    int64_t spans[4], rings[4], numbers[NUMBERS + 1], hops[4], drawn[4], found[2], verdict, class;
     uint64_t words[HK_MOST], next;
 };
 
@@ -66,12 +66,14 @@ static void open_hand(hk_hand **hand) {
 }
 
 static void open_hands(void) {
-    open_hand(&idle), open_hand(&putting), open_hand(&taking), open_hand(&closed);
+    open_hand(&idle), open_hand(&putting), open_hand(&taking), open_hand(&holding), open_hand(&closed);
     IS(hk_hand_split(idle, &other), HK_OK);
     IS(hk_ring_try_put_bulk(idle, 0, given, 3), 3), IS(hk_ring_try_put_bulk(idle, 1, given, 2), 2);
     IS(hk_ring_peek_put_bulk(putting, 0, SPAN), SPAN);
     IS(hk_ring_try_put_bulk(taking, 0, given, SPAN + LEFT), SPAN + LEFT);
     IS(hk_ring_peek_take_bulk(taking, 0, places, SPAN), SPAN);
+    IS(hk_ring_try_put_bulk(holding, 0, given, SPAN + LEFT), SPAN + LEFT);
+    IS(hk_ring_hold_take_bulk(holding, 0, SPAN), SPAN);
     IS(hk_ring_try_put_bulk(closed, 0, given, 2), 2);
     IS(hk_hand_close(closed), HK_OK);
 }
@@ -118,9 +120,9 @@ static void open_window(void) {
 
 /* What the calls that change nothing say of each handle; the words of `idle` are shown by a peek of `other`. */
 static void look(struct seen *seen) {
-    hk_hand *hands[3] = {idle, putting, taking};
+    hk_hand *hands[4] = {idle, putting, taking, holding};
     memset(seen, 0, sizeof *seen);
-    for (int i = 0; i < 3; i++) seen->spans[i] = hk_hand_span(hands[i]);
+    for (int i = 0; i < 4; i++) seen->spans[i] = hk_hand_span(hands[i]);
     for (size_t i = 0; i < RINGS; i++) {
         seen->rings[2 * i] = hk_ring_count(idle, i), seen->rings[2 * i + 1] = hk_ring_room(idle, i);
     }
@@ -140,7 +142,7 @@ static void look(struct seen *seen) {
 }
 
 static struct seen before, now;
-static int64_t lefts[3];
+static int64_t lefts[4];
 static const char *volatile call;
 
 /* Whether the arrays and the places for handles are as they were made. */
@@ -153,9 +155,9 @@ static int is_unwritten(void) {
 
 /* Whether hk_hand_left says what it said; after HK_E_COUNT it says nothing. */
 static int is_left(int64_t code) {
-    hk_hand *hands[3] = {idle, putting, taking};
+    hk_hand *hands[4] = {idle, putting, taking, holding};
     int same = 1;
-    for (int i = 0; i < 3; i++) {
+    for (int i = 0; i < 4; i++) {
         int64_t left = hk_hand_left(hands[i]);
         same &= left == lefts[i] || code == HK_E_COUNT;
         lefts[i] = left;
@@ -189,6 +191,8 @@ static void contents(void) {
     IS(hk_ring_try_take_burst(putting, 0, words, HK_MOST), SPAN), IS(memcmp(words, given, SPAN * sizeof *words), 0);
     IS(hk_ring_finish_take(taking, SPAN), SPAN);
     IS(hk_ring_try_take_burst(taking, 0, words, HK_MOST), LEFT), IS(words[0], given[SPAN]);
+    IS(hk_ring_release_take(holding, words, 1), 1), IS(words[0], given[0]);
+    IS(hk_ring_try_take_burst(holding, 0, words, HK_MOST), SPAN + LEFT - 1), IS(words[0], given[1]);
     IS(hk_ring_try_take_burst(idle, 1, words, HK_MOST), 2), IS(memcmp(words, given, 2 * sizeof *words), 0);
     IS(hk_hand_drain(closed, 0, words, HK_MOST), 2), IS(memcmp(words, given, 2 * sizeof *words), 0);
     IS(hk_pool_try_receive_bulk(pool, 0, numbers, 1), 1);
@@ -197,7 +201,8 @@ static void contents(void) {
 }
 
 static void free_all(void) {
-    hk_hand_free(idle), hk_hand_free(other), hk_hand_free(putting), hk_hand_free(taking), hk_hand_free(closed);
+    hk_hand_free(idle), hk_hand_free(other), hk_hand_free(putting), hk_hand_free(taking);
+    hk_hand_free(holding), hk_hand_free(closed);
     hk_pool_free(pool);
     hk_routes_free(table), hk_routes_free(shared), hk_routes_free(sharer);
     hk_fib_free(fib), hk_forward_free(forwarder);

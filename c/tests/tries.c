@@ -50,6 +50,7 @@ int64_t hkx_ring_put(struct hk_cell *h, size_t ring, const uint64_t *at, size_t 
 int64_t hkx_ring_take(struct hk_cell *h, size_t ring, uint64_t *at, size_t n, bool bulk);
 int64_t hkx_ring_peek_put(struct hk_cell *h, size_t ring, size_t n, bool bulk);
 int64_t hkx_ring_peek_take(struct hk_cell *h, size_t ring, uint64_t *at, size_t n, bool bulk);
+int64_t hkx_ring_hold_take(struct hk_cell *h, size_t ring, size_t n, bool bulk);
 int64_t hkx_ring_finish_put(struct hk_cell *h, const uint64_t *at, size_t n);
 int64_t hkx_ring_finish_take(struct hk_cell *h, size_t n);
 
@@ -67,6 +68,10 @@ int64_t hkx_ring_peek_put(struct hk_cell *h, size_t ring, size_t n, bool bulk) {
 
 int64_t hkx_ring_peek_take(struct hk_cell *h, size_t ring, uint64_t *at, size_t n, bool bulk) {
     return begin(h, ring == RING && at == words && n == COUNT && bulk == bulk_wanted);
+}
+
+int64_t hkx_ring_hold_take(struct hk_cell *h, size_t ring, size_t n, bool bulk) {
+    return begin(h, ring == RING && n == COUNT && bulk == bulk_wanted);
 }
 
 int64_t hkx_ring_finish_put(struct hk_cell *h, const uint64_t *at, size_t n) {
@@ -90,6 +95,9 @@ ONCE(hkx_hand_span)
 ONCE(hkx_hand_left)
 ONCE(hkx_hand_close)
 ONCE(hkx_hand_drain)
+ONCE(hkx_ring_advance_put)
+ONCE(hkx_ring_advance_take)
+ONCE(hkx_ring_release_take)
 ONCE(hkx_ring_room)
 ONCE(hkx_pool_open)
 ONCE(hkx_pool_split)
@@ -184,6 +192,14 @@ static int64_t peek_take_burst(void) {
     return hk_ring_peek_take_burst(hand, RING, words, COUNT);
 }
 
+static int64_t hold_take_bulk(void) {
+    return hk_ring_hold_take_bulk(hand, RING, COUNT);
+}
+
+static int64_t hold_take_burst(void) {
+    return hk_ring_hold_take_burst(hand, RING, COUNT);
+}
+
 static int64_t finish_put(void) {
     return hk_ring_finish_put(hand, words, COUNT);
 }
@@ -233,6 +249,9 @@ static void one_try(void) {
     BOTH(hk_hand_split(hand, &second));
     BOTH(hk_hand_span(hand));
     BOTH(hk_hand_left(hand));
+    BOTH(hk_ring_advance_put(hand, words, COUNT));
+    BOTH(hk_ring_advance_take(hand, words, COUNT));
+    BOTH(hk_ring_release_take(hand, words, COUNT));
     BOTH(hk_ring_count(hand, RING));
     BOTH(hk_ring_room(hand, RING));
     BOTH(hk_hand_close(hand));
@@ -338,6 +357,7 @@ int main(void) {
     both(take_bulk, true), both(take_burst, false);
     starts(peek_put_bulk, true), starts(peek_put_burst, false);
     starts(peek_take_bulk, true), starts(peek_take_burst, false);
+    starts(hold_take_bulk, true), starts(hold_take_burst, false);
     finishes(finish_put), finishes(finish_take);
     one_try();
     pools();

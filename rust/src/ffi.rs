@@ -79,6 +79,11 @@ extern "C" {
     pub fn hk_ring_try_take_burst(hand: *mut Hand, ring: usize, words: *mut u64, n: usize) -> i64;
     pub fn hk_ring_finish_put(hand: *mut Hand, words: *const u64, n: usize) -> i64;
     pub fn hk_ring_finish_take(hand: *mut Hand, n: usize) -> i64;
+    pub fn hk_ring_peek_put_burst(hand: *mut Hand, ring: usize, n: usize) -> i64;
+    pub fn hk_ring_advance_put(hand: *mut Hand, words: *const u64, n: usize) -> i64;
+    pub fn hk_ring_hold_take_burst(hand: *mut Hand, ring: usize, n: usize) -> i64;
+    pub fn hk_ring_advance_take(hand: *mut Hand, words: *mut u64, n: usize) -> i64;
+    pub fn hk_ring_release_take(hand: *mut Hand, words: *mut u64, n: usize) -> i64;
     pub fn hk_ring_count(hand: *const Hand, ring: usize) -> i64;
     pub fn hk_ring_room(hand: *const Hand, ring: usize) -> i64;
     pub fn hk_pool_open(out: *mut *mut Pool, n: u32, cache: u32, rings: u32) -> i64;

@@ -3,7 +3,7 @@ use crate::error::{answer, Error};
 use crate::ffi;
 use crate::word::Word;
 use core::marker::PhantomData;
-use core::ptr::{null_mut, NonNull};
+use core::ptr::{null, null_mut, NonNull};
 
 /// How calls on one side of a ring share it.
 #[derive(Clone, Copy, Debug, PartialEq, Eq, Hash)]
@@ -79,6 +79,46 @@ impl<T: Word> Hand<T> {
 
     pub(crate) fn finish_take(&mut self, n: usize) -> Result<usize, Error> {
         answer(unsafe { ffi::hk_ring_finish_take(self.0.as_ptr(), n) })
+    }
+
+    /// Holds the put side with at most so many positions. Returns how many.
+    pub(crate) fn hold_put(&mut self, most: usize) -> Result<usize, Error> {
+        answer(unsafe { ffi::hk_ring_peek_put_burst(self.0.as_ptr(), 0, most) })
+    }
+
+    /// Puts a word on the held side; the last one of its positions gives it up.
+    pub(crate) fn put_held(&mut self, word: u64, is_last: bool) -> Result<usize, Error> {
+        let hand = self.0.as_ptr();
+        answer(if is_last {
+            unsafe { ffi::hk_ring_finish_put(hand, &raw const word, 1) }
+        } else {
+            unsafe { ffi::hk_ring_advance_put(hand, &raw const word, 1) }
+        })
+    }
+
+    /// Gives up a held put side.
+    pub(crate) fn release_put(&mut self) -> Result<usize, Error> {
+        answer(unsafe { ffi::hk_ring_finish_put(self.0.as_ptr(), null(), 0) })
+    }
+
+    /// Holds the take side with at most so many words. Returns how many.
+    pub(crate) fn hold_take(&mut self, most: usize) -> Result<usize, Error> {
+        answer(unsafe { ffi::hk_ring_hold_take_burst(self.0.as_ptr(), 0, most) })
+    }
+
+    /// Takes the next word of the held side; the last one gives it up.
+    pub(crate) fn take_held(&mut self, word: &mut u64, is_last: bool) -> Result<usize, Error> {
+        let hand = self.0.as_ptr();
+        answer(if is_last {
+            unsafe { ffi::hk_ring_release_take(hand, word, 1) }
+        } else {
+            unsafe { ffi::hk_ring_advance_take(hand, word, 1) }
+        })
+    }
+
+    /// Gives up a held take side. What wasn't taken stays on the ring.
+    pub(crate) fn release_take(&mut self) -> Result<usize, Error> {
+        answer(unsafe { ffi::hk_ring_release_take(self.0.as_ptr(), null_mut(), 0) })
     }
 
     pub(crate) fn capacity(&self) -> usize {

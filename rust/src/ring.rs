@@ -147,6 +147,18 @@ macro_rules! both {
     };
 }
 
+impl<T: Word> Producer<T> {
+    pub(crate) fn hand(&mut self) -> &mut Hand<T> {
+        &mut self.hand
+    }
+}
+
+impl<T: Word> Consumer<T> {
+    pub(crate) fn hand(&mut self) -> &mut Hand<T> {
+        &mut self.hand
+    }
+}
+
 impl<T: Word> Ring<T> {
     /// A ring that holds `capacity` words, 1 to 2^20 - 1, with both sides for any number of threads.
     ///

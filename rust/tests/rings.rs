@@ -135,3 +135,51 @@ fn what_was_taken_ends_once() -> Result<(), Error> {
     assert_eq!(consumer.taken().next(), Some(1));
     Ok(())
 }
+
+#[test]
+fn a_held_side_is_given_back_when_it_is_dropped() -> Result<(), Error> {
+    for most in [1, 2, 7, MOST] {
+        let (mut producer, mut consumer) = Ring::with_modes(6, Mode::Hts, Mode::Hts)?.split()?;
+        let mut puts = producer.hold(most);
+        for word in 0..6u64 {
+            puts.put(word)?;
+        }
+        assert_eq!(puts.put(6), Err(Error::NoRoom));
+        let mut takes = consumer.hold(most);
+        assert_eq!((takes.take(), takes.take()), (Ok(0), Ok(1)));
+        assert_eq!(puts.put(6), Ok(()));
+        drop((puts, takes));
+        assert_eq!((producer.room(), consumer.len()), (Ok(1), Ok(5)));
+        assert_eq!(consumer.taken().collect::<Vec<_>>(), [2, 3, 4, 5, 6]);
+        assert_eq!(consumer.hold(most).take(), Err(Error::NoRoom));
+    }
+    let (mut producer, mut consumer) = Ring::<u64>::new(6)?.split()?;
+    assert_eq!(producer.hold(1).put(1), Err(Error::Mode));
+    assert_eq!(consumer.hold(1).take(), Err(Error::Mode));
+    Ok(())
+}
+
+#[test]
+fn two_threads_hold_both_sides() -> Result<(), Error> {
+    const WORDS: u64 = 50_000;
+    let (mut producer, mut consumer) = Ring::with_modes(20, Mode::Hts, Mode::Hts)?.split()?;
+    let sender = thread::spawn(move || {
+        let mut puts = producer.hold(7);
+        for word in 0..WORDS {
+            while puts.put(word).is_err() {
+                thread::yield_now();
+            }
+        }
+    });
+    let mut takes = consumer.hold(5);
+    for word in 0..WORDS {
+        let mut taken = takes.take();
+        while taken.is_err() {
+            thread::yield_now();
+            taken = takes.take();
+        }
+        assert_eq!(taken, Ok(word));
+    }
+    sender.join().unwrap();
+    Ok(())
+}

@@ -11,7 +11,7 @@ TEXTS = os.path.join(c_header.C, "tests", "texts.tsv")
 
 # The handles of refusals.c by their types. A call is given all of them but the one that it accepts.
 HANDLES = {
-    "hk_hand *": ["idle", "putting", "taking", "closed"],
+    "hk_hand *": ["idle", "putting", "taking", "holding", "closed"],
     "hk_pool *": ["pool"],
     "hk_routes *": ["table", "shared"],
     "hk_fib *": ["fib"],

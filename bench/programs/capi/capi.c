@@ -1,7 +1,8 @@
 /* Rings and routes through the C library, by the names that yardsticks/calls.c and yardsticks/lpm.c print.
  *
  *   capi alone                        one thread puts words and takes them again: ns an item
- *   capi alone NAME TURNS             only these turns, to count their instructions
+ *   capi alone NAME TURNS             only these turns, to count their instructions; held-1: word by word, by ends that
+ *                                     hold their sides, 64 puts and 64 takes in turn
  *   capi lookups                      lookups with 1,000 routes, one by one and in bursts of 32, in a table and by a reader
  *   capi publishes                    100 changes of 1,000 routes and their publish, beside three readers: us
  *   capi memory twice|whole           what 60,000 routes take in a forwarding table, which has two copies, and in a table
@@ -14,7 +15,7 @@
  * call that does nothing is made again, one that stays pending is finished. */
 #include "bench.h"
 #include "lists.h"
-#include <hokhtura.h>
+#include <hokhtura_hold.h>
 #include <pthread.h>
 #include <sched.h>
 #include <unistd.h>
@@ -25,6 +26,7 @@
 #define CHUNK 2000
 #define ADDRESSES (1u << 20)
 #define BURST 32
+#define HELD 64 /* as LAP of yardsticks/calls.c */
 
 static hk_hand *ring_of(int hts)
 {
@@ -41,12 +43,39 @@ static __attribute__((noinline)) void turns(hk_hand *hand, uint64_t *words, size
 			exit(1);
 }
 
+/* The same word by word, by ends that hold both sides: a burst of puts, and as many takes. */
+static __attribute__((noinline)) void held_turns(hk_end *put, hk_end *take, uint64_t *words, unsigned long count)
+{
+	for (unsigned long i = 0; i < count; i += HELD) {
+		for (unsigned j = 0; j < HELD; j++)
+			if (hk_end_put(put, words[j]) != HK_OK) exit(1);
+		for (unsigned j = 0; j < HELD; j++)
+			if (hk_end_take(take, &words[j]) != HK_OK) exit(1);
+	}
+}
+
+static void held(uint64_t *words, int counted, unsigned long count)
+{
+	double ns;
+	hk_hand *hand = ring_of(1), *other;
+	if (hk_hand_split(hand, &other) < 0) exit(1);
+	hk_end put = hk_end_of(hand, 0, HELD), take = hk_end_of(other, 0, HELD);
+	if (counted) held_turns(&put, &take, words, count);
+	else {
+		held_turns(&put, &take, words, WARM);
+		TIMED(ns, CHUNK / HELD * HELD, held_turns(&put, &take, words, CHUNK / HELD * HELD););
+		report("held-1", ns, "ns/item");
+	}
+	hk_hand_free(hand), hk_hand_free(other);
+}
+
 /* All names, each timed; or only one name, for `count` turns without a clock. */
 static void alone(const char *only, unsigned long count)
 {
 	static const size_t sizes[] = { 1, 8, 32, 128 };
 	uint64_t words[MOST];
 	for (unsigned i = 0; i < MOST; i++) words[i] = i + 1;
+	if (!only || strcmp(only, "held-1") == 0) held(words, only != NULL, count);
 	for (int hts = 0; hts < 2; hts++)
 		for (unsigned s = 0; s < sizeof sizes / sizeof *sizes; s++) {
 			size_t n = sizes[s];
