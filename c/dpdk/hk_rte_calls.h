@@ -91,12 +91,14 @@ static __rte_noinline unsigned int hkr_put_otherwise(struct rte_ring *r, const v
     unsigned int done = 0;
     if (left) *left = 0;
     if (esize == r->esize && hk_hand_span(hand) == 0) {
-        int looks = n == 0 || (bulk && n > hkr_piece(r, table));
+        int is_long = bulk && n > hkr_piece(r, table), looks = is_long || n == 0;
+        if (is_long) pthread_mutex_lock(&r->put->of_long);
         int64_t room = looks ? hkr_wait_for_look(hand, 1) : 0;
         if (n != 0 && (!looks || (uint64_t)room >= (uint64_t)n * r->per)) {
             done = (unsigned int)hkr_put_pieces(r, hand, table, n, bulk);
             room = hk_hand_left(hand);
         }
+        if (is_long) pthread_mutex_unlock(&r->put->of_long);
         if (left) *left = hkr_elements(r, room);
     }
     if (!mine) hk_handles_return(&r->put->hands);
@@ -109,12 +111,14 @@ static __rte_noinline unsigned int hkr_take_otherwise(struct rte_ring *r, void *
     unsigned int done = 0;
     if (left) *left = 0;
     if (esize == r->esize && hk_hand_span(hand) == 0) {
-        int looks = n == 0 || (bulk && n > hkr_piece(r, table));
+        int is_long = bulk && n > hkr_piece(r, table), looks = is_long || n == 0;
+        if (is_long) pthread_mutex_lock(&r->take->of_long);
         int64_t queued = looks ? hkr_wait_for_look(hand, 0) : 0;
         if (n != 0 && (!looks || (uint64_t)queued >= (uint64_t)n * r->per)) {
             done = (unsigned int)hkr_take_pieces(r, hand, table, n, bulk);
             queued = hk_hand_left(hand);
         }
+        if (is_long) pthread_mutex_unlock(&r->take->of_long);
         if (left) *left = hkr_elements(r, queued);
     }
     if (!mine) hk_handles_return(&r->take->hands);

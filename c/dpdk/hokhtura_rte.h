@@ -60,9 +60,10 @@ enum rte_ring_sync_type { RTE_RING_SYNC_MT, RTE_RING_SYNC_ST, RTE_RING_SYNC_MT_R
 #define HKR_WORDS ((1u << 20) - 1)
 #define HKR_PIECE 512u
 
-/* One side of a ring. What is below `hands` belongs to the thread that has a peek open there, and only one has. */
+/* One side of a ring. What is below `of_long` belongs to the thread that has a peek open there, and only one has. */
 struct hkr_side {
     struct hk_handles hands;
+    pthread_mutex_t of_long; /* bulks of several pieces, one at a time: two would wait for what the other one has */
     uint64_t open;  /* how many words that peek has */
     uint64_t *room; /* HK_MOST words, or null on a side without peeks */
 };
@@ -111,7 +112,10 @@ static inline struct hkr_side *hkr_side_open(hk_hand *first, enum rte_ring_sync_
     if (!side) return NULL;
     side->open = 0;
     side->room = hkr_peeks(sync) ? (uint64_t *)aligned_alloc(64, HK_MOST * sizeof(uint64_t)) : NULL;
-    if ((side->room || !hkr_peeks(sync)) && hk_hands_open(&side->hands, first)) return side;
+    if ((side->room || !hkr_peeks(sync)) && hk_hands_open(&side->hands, first)) {
+        pthread_mutex_init(&side->of_long, NULL);
+        return side;
+    }
     free(side->room);
     free(side);
     return NULL;
@@ -120,6 +124,7 @@ static inline struct hkr_side *hkr_side_open(hk_hand *first, enum rte_ring_sync_
 static inline void hkr_side_close(struct hkr_side *side) {
     if (!side) return;
     hk_handles_close(&side->hands);
+    pthread_mutex_destroy(&side->of_long);
     free(side->room);
     free(side);
 }

@@ -1,5 +1,6 @@
 /* Tests of the driver of rte_mempool: driver [EAL's options] -- OPS NAME. `driver list` prints all names. The
  * program has a process type and an allocator of its own in place of EAL's, so that both can refuse. */
+#define _GNU_SOURCE /* for RTLD_NEXT and pthread_setaffinity_np */
 #include <dlfcn.h>
 #include <pthread.h>
 #include <stdio.h>
@@ -258,6 +259,13 @@ static const struct {
              {"200 threads at once", many},
              {"mempools made anew", anew}};
 
+/* EAL leaves its main thread one processor, and the threads that it starts would have no other. */
+static void use_all_processors(void) {
+    cpu_set_t all;
+    memset(&all, 0xff, sizeof all);
+    CHECK(pthread_setaffinity_np(pthread_self(), sizeof all, &all) == 0);
+}
+
 int main(int argc, char **argv) {
     if (argc == 2 && !strcmp(argv[1], "list")) {
         for (size_t i = 0; i < RTE_DIM(tests); i++) puts(tests[i].name);
@@ -269,6 +277,7 @@ int main(int argc, char **argv) {
     size_t i = 0;
     while (i < RTE_DIM(tests) && strcmp(tests[i].name, argv[used + 2])) i++;
     if (i == RTE_DIM(tests)) return 2;
+    use_all_processors();
     tests[i].run();
     fflush(stdout);
     return wrong;

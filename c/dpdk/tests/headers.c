@@ -1,12 +1,13 @@
 /* Tests of the headers for what DPDK's own tests don't reach: headers [EAL's options] -- NAME. `headers list` prints
  * all names. It is linked with --wrap for each function that takes memory, so that each request can be refused. */
+#define _GNU_SOURCE /* for pthread_setaffinity_np */
 #include "hokhtura_rte.h"
 #include "hokhtura_rte_lpm.h"
 #include "hokhtura_rte_reorder.h"
 
 #include <rte_eal.h>
 
-enum { THREADS = 200, ROUNDS = 50, MANY = 5000 };
+enum { THREADS = 200, ROUNDS = 10, MANY = 5000 };
 
 static int wrong;
 
@@ -133,7 +134,7 @@ static void refusals(void) {
 /* Counts of a thread that has a peek open, and an element of another size. */
 static void beside_a_peek(void) {
     void *objects[4] = {NULL, NULL, NULL, NULL};
-    uint32_t small;
+    uint64_t small = 0; /* aligned as a word, so that only its size is another one */
     struct rte_ring *r = rte_ring_create("r", 8, SOCKET_ID_ANY, RING_F_SP_ENQ | RING_F_SC_DEQ);
     CHECK(r && rte_ring_enqueue_bulk(r, objects, 4, NULL) == 4);
     CHECK(rte_ring_dequeue_bulk_start(r, objects, 3, NULL) == 3);
@@ -145,8 +146,8 @@ static void beside_a_peek(void) {
     CHECK(rte_ring_count(r) == 3 && rte_ring_free_count(r) == 4);
     rte_ring_enqueue_finish(r, objects, 2);
     CHECK(rte_ring_count(r) == 5);
-    CHECK(rte_ring_enqueue_elem(r, &small, sizeof small) == -ENOBUFS);
-    CHECK(rte_ring_dequeue_elem(r, &small, sizeof small) == -ENOENT);
+    CHECK(rte_ring_enqueue_elem(r, &small, 4) == -ENOBUFS);
+    CHECK(rte_ring_dequeue_elem(r, &small, 4) == -ENOENT);
     rte_ring_reset(r);
     CHECK(rte_ring_empty(r));
     rte_ring_free(r);
@@ -167,6 +168,37 @@ static void long_calls(void) {
 }
 
 static pthread_barrier_t barrier;
+
+enum { LONG = 3000, RACES = 1000 };
+
+static _Atomic unsigned won[2];
+
+/* Two threads enqueue bulks of several pieces at once, and there is room for one; then they dequeue, and one is
+ * there. */
+static void *races(void *at) {
+    struct rte_ring *r = at;
+    static __thread void *table[LONG];
+    for (int race = 0; race < RACES; race++) {
+        (void)pthread_barrier_wait(&barrier);
+        unsigned put = rte_ring_enqueue_bulk(r, table, LONG, NULL);
+        (void)pthread_barrier_wait(&barrier);
+        unsigned taken = rte_ring_dequeue_bulk(r, table, LONG, NULL);
+        CHECK((put == 0 || put == LONG) && (taken == 0 || taken == LONG));
+        won[0] += put == LONG;
+        won[1] += taken == LONG;
+    }
+    return NULL;
+}
+
+static void long_beside_long(void) {
+    pthread_t threads[2];
+    struct rte_ring *r = rte_ring_create("r", 4096, SOCKET_ID_ANY, 0);
+    CHECK(r && pthread_barrier_init(&barrier, NULL, 2) == 0);
+    for (int i = 0; i < 2; i++) CHECK(pthread_create(&threads[i], NULL, races, r) == 0);
+    for (int i = 0; i < 2; i++) CHECK(pthread_join(threads[i], NULL) == 0);
+    CHECK(won[0] == RACES && won[1] == RACES && rte_ring_empty(r));
+    rte_ring_free(r);
+}
 
 /* Puts a number and takes one, while all others have a hand too. */
 static void *together(void *at) {
@@ -218,8 +250,16 @@ static const struct {
              {"what a ring refuses", refusals},
              {"counts beside a peek", beside_a_peek},
              {"long calls", long_calls},
+             {"long calls beside each other", long_beside_long},
              {"200 threads at once", many_threads},
              {"routes", tables}};
+
+/* EAL leaves its main thread one processor, and the threads that it starts would have no other. */
+static void use_all_processors(void) {
+    cpu_set_t all;
+    memset(&all, 0xff, sizeof all);
+    CHECK(pthread_setaffinity_np(pthread_self(), sizeof all, &all) == 0);
+}
 
 int main(int argc, char **argv) {
     if (argc == 2 && !strcmp(argv[1], "list")) {
@@ -231,6 +271,7 @@ int main(int argc, char **argv) {
     size_t i = 0;
     while (i < RTE_DIM(tests) && strcmp(tests[i].name, argv[used + 1])) i++;
     if (i == RTE_DIM(tests)) return 2;
+    use_all_processors();
     tests[i].run();
     fflush(stdout);
     return wrong;
