@@ -173,12 +173,12 @@ fn two_threads_hold_both_sides() -> Result<(), Error> {
     });
     let mut takes = consumer.hold(5);
     for word in 0..WORDS {
-        let mut taken = takes.take();
-        while taken.is_err() {
+        let mut found = takes.take();
+        while found.is_err() {
             thread::yield_now();
-            taken = takes.take();
+            found = takes.take();
         }
-        assert_eq!(taken, Ok(word));
+        assert_eq!(found, Ok(word));
     }
     sender.join().unwrap();
     Ok(())
