@@ -17,6 +17,14 @@
 //! # }
 //! ```
 //!
+//! Which end of a ring to use:
+//!
+//! | side | calls | for |
+//! |---|---|---|
+//! | `Mode::Multi` | `try_put_bulk`, `try_take_burst` and so on | any number of threads at any time |
+//! | `Mode::Hts` | the same, one call of the side at a time | sides that are held now and then |
+//! | `Mode::Hts`, held | [`Producer::hold`], [`Consumer::hold`] | words one by one, by one thread for a while |
+//!
 //! The crate is `no_std` and needs `alloc`. With the feature `std`, which is on by default, iterators that wait let
 //! other threads run; without it they spin.
 //!
