@@ -34,7 +34,8 @@ pub record HasAdvanced (span : Span) (words : List Word64) (v w : View Word64) (
   pub rest : after ≡ rest_of span (length words)
 
 -- a take side of a head/tail-sync ring is held: its words are in `shown` of the view, and stay queued
-pub record IsHeldNow (f : Rings) (how : How) (n ring : ℕ) (v : View Word64) (count left : ℕ) (at : OpenSpan) (w : View Word64) : Type 0 where
+pub record IsHeldNow (f : Rings) (how : How) (n ring : ℕ) (v : View Word64) (count left : ℕ) (at : OpenSpan)
+    (w : View Word64) : Type 0 where
   pub r : Reserved
   pub held : at ≡ open_span.Held r
   pub reserved : HasReserved f how n ring Take v (span_at Take r) left w.shown w

@@ -2,8 +2,8 @@
 //!
 //! `member` is a thread's hand on a set of rings, `opening` and `making` make it, `member_calls` splits it and looks at
 //! it, `closing` and `ending` close its rings. `whole_calls` puts and takes words in one call; `span_calls` peeks and
-//! finishes, through `peeking` and `finishing`; `holding` has the calls on a side that is held. Below these `starting` and `settling` are the two halves of a call.
-//! `word64` is a word, and `fault` what calls return.
+//! finishes, through `peeking` and `finishing`; `holding` has the calls on a side that is held. Below these `starting`
+//! and `settling` are the two halves of a call. `word64` is a word, and `fault` what calls return.
 mod closing;
 mod ending;
 mod fault;

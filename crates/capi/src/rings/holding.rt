@@ -1,5 +1,5 @@
-//! Calls while a hand holds a head/tail-sync side: one start opens a span, and each call then settles its first positions
-//! by one store. A put side is held by a peek, the calls here and a finish.
+//! Calls while a hand holds a head/tail-sync side: one start opens a span, and each call then settles its first
+//! positions by one store. A put side is held by a peek, the calls here and a finish.
 ghost use Rattle.std.specs.Prelude.{◌≡◌};
 ghost use Rattle.capi.specs.Holding.{AdvancesPut, AdvancesTake, EndsHeld, HoldsTake};
 
@@ -38,8 +38,8 @@ pub fn advance_put(member: &mut Member, words: &[Word64]) -> Result<u32, Fault>
     }
 }
 
-/// Holds the take side of a ring, with as many of its next words as `how` says. Errors: `Ring`; `Mode`; `Open`; those of
-/// a start.
+/// Holds the take side of a ring, with as many of its next words as `how` says. Errors: `Ring`; `Mode`; `Open`; those
+/// of a start.
 #[inline(always)]
 pub fn hold_take(member: &mut Member, ring: usize, n: usize, how: How) -> Result<u32, Fault>
     ensures { HoldsTake ring how n member.old member.new result }
