@@ -9,7 +9,8 @@ use Rattle.geom.specs.declared.plan.Mode.TheVariants.{Multi, Hts}
 use Rattle.geom.specs.declared.plan.Side.{Side}
 use Rattle.geom.specs.declared.plan.Side.TheVariants.{Put, Take}
 use Rattle.geom.specs.declared.plan.RingPlan.{RingPlan}
-use Rattle.geom.specs.declared.word.TheConstants.{RESERVED_RANGE}
+use Rattle.geom.specs.Extent.{range_of}
+use Rattle.geom.proofs.Words.{count_back, position_back}
 use Rattle.geom.specs.Plan.{mode_of}
 use Rattle.ringcore_laws.specs.declared.party.Party.{Party}
 use Rattle.ringcore_laws.specs.declared.party.Settled.{Settled}
@@ -120,26 +121,26 @@ module _ {T : Type 0} (tags : T → List ℕ) (plans : List RingPlan) (pool : �
         let behind = (side_ruled tags plans pool s c r plan at side).behind in
         elim both.1 [ inl none ↦ omega (arith, both.0, behind, none) | inr more ↦ omega (arith, both.0, more) ]
 
-    first_is : reach_of plan.take (get_or s.words (own_at r Take) 0) ≡ takes.reach
+    first_is : reach_of plan.geometry plan.take (get_or s.words (own_at r Take) 0) ≡ takes.reach
     first_is = by_mode plan.take refl
       where
-        of_word : (len few : ℕ) → few < RESERVED_RANGE → reach_of Hts (len * RESERVED_RANGE + few) ≡ len + few
-        of_word len few lt = omega (arith, lt)
+        of_word : (len few : ℕ) → few < range_of plan.geometry → reach_of plan.geometry Hts (len * range_of plan.geometry + few) ≡ len + few
+        of_word len few lt = omega (arith, position_back plan.geometry len few lt, count_back plan.geometry len few lt)
 
-        by_mode : (m : Mode) → plan.take ≡ m → reach_of m (get_or s.words (own_at r Take) 0) ≡ takes.reach
-        by_mode Multi e = word_is tags plans pool s c r plan at Take ∙ ap (λ m. own_word m takes) e
+        by_mode : (m : Mode) → plan.take ≡ m → reach_of plan.geometry m (get_or s.words (own_at r Take) 0) ≡ takes.reach
+        by_mode Multi e = word_is tags plans pool s c r plan at Take ∙ ap (λ m. own_word plan.geometry m takes) e
         by_mode Hts e =
-            ap (reach_of Hts) (word_is tags plans pool s c r plan at Take ∙ ap (λ m. own_word m takes) e)
+            ap (reach_of plan.geometry Hts) (word_is tags plans pool s c r plan at Take ∙ ap (λ m. own_word plan.geometry m takes) e)
             ∙ (of_word takes.len takes.open_count ((side_ruled tags plans pool s c r plan at Take).small e) ∙ sym (hts_reach Take e))
 
-    end_is : position_of plan.put (get_or s.words (settled_word_at plan.put r Put) 0) ≡ puts.len
+    end_is : position_of plan.geometry plan.put (get_or s.words (settled_word_at plan.put r Put) 0) ≡ puts.len
     end_is = by_mode plan.put refl
       where
-        by_mode : (m : Mode) → plan.put ≡ m → position_of m (get_or s.words (settled_word_at m r Put) 0) ≡ puts.len
+        by_mode : (m : Mode) → plan.put ≡ m → position_of plan.geometry m (get_or s.words (settled_word_at m r Put) 0) ≡ puts.len
         by_mode Multi e = c.words.tail r Put plan at e
         by_mode Hts e =
-            ap (position_of Hts) (word_is tags plans pool s c r plan at Put ∙ ap (λ m. own_word m puts) e)
-            ∙ position_base Hts puts (λ _. (side_ruled tags plans pool s c r plan at Put).small e)
+            ap (position_of plan.geometry Hts) (word_is tags plans pool s c r plan at Put ∙ ap (λ m. own_word plan.geometry m puts) e)
+            ∙ position_base plan.geometry Hts puts (λ _. (side_ruled tags plans pool s c r plan at Put).small e)
 
     pub lies : LiesLeft plans s r plan
     lies =

@@ -37,7 +37,7 @@ module _ {T : Type 0} (tags : T → List ℕ) (plans : List RingPlan) (pool : �
       → side_of after r side ≡ side_of parties r side) where
     words_as : AreWords plans s.words after
     words_as = record {
-      own = λ r side plan at. c.words.own r side plan at ∙ ap (own_word (mode_of plan side)) (sym (same r plan side at));
+      own = λ r side plan at. c.words.own r side plan at ∙ ap (own_word plan.geometry (mode_of plan side)) (sym (same r plan side at));
       tail = λ r side plan at multi. c.words.tail r side plan at multi ∙ ap (λ (l : RingSide T). l.len) (sym (same r plan side at));
     }
 

@@ -20,6 +20,8 @@ use Rattle.ringcore_laws.specs.declared.protocol.Span.{Span}
 use Rattle.ringcore_laws.specs.Party.{newcomer}
 use Rattle.ringcore_laws.specs.RingSide.{RingSide, party_count, party_end, party_items, listed, side_of}
 use Rattle.ringcore_laws.specs.Sound.{Sound, SoundRing, holds, in_ring, moved, occurrences, occurrences_in, place_count}
+use Rattle.geom.specs.Extent.{Extent}
+use Rattle.geom.proofs.Words.{range_some}
 use Rattle.ringcore_laws.specs.HeadTailRule.{HeadTailRule, RuledSide, RuledSpan}
 use Rattle.ringcore_laws.specs.FreeRings.{FreeRule, buffers_had}
 use Rattle.ringcore_laws.specs.History.{own_word}
@@ -87,8 +89,8 @@ module _ {T : Type 0} (tags : T → List ℕ) (plans : List RingPlan) (pool : �
 
   ruled_alone : HeadTailRule plans alone
   ruled_alone = record {
-    sides = λ r side plan at. subst (RuledSide (mode_of plan side)) (sym (side_empty r side))
-        record { behind = omega arith; last = omega arith; small = λ _. omega arith; covered = λ _ p le lt. absurd (omega arith) };
+    sides = λ r side plan at. subst (RuledSide plan.geometry (mode_of plan side)) (sym (side_empty r side))
+        record { behind = omega arith; last = omega arith; small = λ _. range_some plan.geometry; covered = λ _ p le lt. absurd (omega arith) };
     room = λ r plan at. omega (arith, ap (λ (l : RingSide T). l.reach) (side_empty r Put));
     spans = none_open;
   }
@@ -141,7 +143,7 @@ module _ {T : Type 0} (tags : T → List ℕ) (plans : List RingPlan) (pool : �
     words = record {
       own = λ r side plan at.
           zero_at (own_at r side) (own_inside r (length plans) side (slice_get_within plans r plan at))
-          ∙ sym (ap (own_word (mode_of plan side)) (side_empty r side) ∙ no_word (mode_of plan side));
+          ∙ sym (ap (own_word plan.geometry (mode_of plan side)) (side_empty r side) ∙ no_word plan.geometry (mode_of plan side));
       tail = λ r side plan at multi.
           zero_at (tail_at r side) (tail_inside r (length plans) side (slice_get_within plans r plan at))
           ∙ sym (ap (λ (l : RingSide T). l.len) (side_empty r side));
@@ -167,6 +169,6 @@ module _ {T : Type 0} (tags : T → List ℕ) (plans : List RingPlan) (pool : �
       zero_at : (i : ℕ) → i < 64 * length plans → get_or ws i 0 ≡ 0
       zero_at i lt = ap (λ (l : List ℕ). get_or l i 0) zeros ∙ get_or-replicate (64 * length plans) i 0 0 lt
 
-      no_word : (m : Mode) → own_word {I = T} m empty ≡ 0
-      no_word Multi = refl
-      no_word Hts = refl
+      no_word : (e : Extent) (m : Mode) → own_word {I = T} e m empty ≡ 0
+      no_word e Multi = refl
+      no_word e Hts = omega arith

@@ -1,5 +1,5 @@
 -- Refusals are true: what a word that a step found shows about the spans of all hands
-use Rattle.std.proofs.Common.{◌≡◌, ◌≢◌, ℕ, zero, suc, ◌+◌, ◌<◌, ◌≤◌, ◌%◌, inl, inr, List, [], ◌∷◌, refl, sym, ap, ◌∙◌, subst, arith, Bool, true, false}
+use Rattle.std.proofs.Common.{◌≡◌, ◌≢◌, ℕ, zero, suc, ◌+◌, ◌*◌, ◌<◌, ◌≤◌, ◌%◌, inl, inr, List, [], ◌∷◌, refl, sym, ap, ◌∙◌, subst, arith, Bool, true, false}
 use Rattle.std.specs.Prelude.{slice_get, slice_index, slice_index_or, Option, Some, None, ◌&&◌, if◌then◌else◌}
 use mathlib.Core.Option.{some, some-injective}
 use lib.ListN.{get_elem?}
@@ -13,7 +13,8 @@ use Rattle.geom.specs.declared.plan.Mode.TheVariants.{Multi, Hts}
 use Rattle.geom.specs.declared.plan.Side.{Side}
 use Rattle.geom.specs.declared.plan.Side.TheVariants.{Put, Take}
 use Rattle.geom.specs.declared.plan.RingPlan.{RingPlan}
-use Rattle.geom.specs.declared.word.TheConstants.{RESERVED_RANGE}
+use Rattle.geom.specs.Extent.{range_of}
+use Rattle.geom.proofs.Words.{count_back, range_some}
 use Rattle.geom.specs.Plan.{granted, mode_of}
 use Rattle.ringcore_laws.specs.declared.party.Party.{Party}
 use Rattle.ringcore_laws.specs.declared.protocol.Observed.{Observed}
@@ -86,14 +87,17 @@ module _ {T : Type 0} (tags : T → List ℕ) (plans : List RingPlan) (pool : �
     (here : get_elem? s.views id ≡ some v) where
   -- Busy
   pub taken : v.party.span ≡ None → (r : ℕ) (side : Side) (plan : RingPlan) → slice_get plans r ≡ Some plan → mode_of plan side ≡ Hts
-      → slice_index s.words (own_at r side) % RESERVED_RANGE ≢ 0 → IsTaken s.views id r side
+      → slice_index s.words (own_at r side) % range_of plan.geometry ≢ 0 → IsTaken s.views id r side
   unfolding side_of
   taken idle r side plan at hts some_reserved =
       let l : RingSide T = side_of (parties_of_views s.views) r side in
-      let word : slice_index s.words (own_at r side) ≡ own_word Hts l = word_is tags plans pool s c r plan at side ∙ ap (λ m. own_word m l) hts in
+      let word : slice_index s.words (own_at r side) ≡ own_word plan.geometry Hts l =
+      word_is tags plans pool s c r plan at side ∙ ap (λ m. own_word plan.geometry m l) hts in
       let more : 0 < l.open_count = elim (below_or_not 0 l.open_count) [
         | inl more ↦ more
-        | inr none ↦ absurd (some_reserved (omega (arith, word, none)))
+        | inr none ↦ absurd (some_reserved (ap (λ n. n % range_of plan.geometry) word
+            ∙ ap (λ n. (l.len * range_of plan.geometry + n) % range_of plan.geometry) (let zero_open : l.open_count ≡ 0 = omega (arith, none) in zero_open)
+            ∙ count_back plan.geometry l.len 0 (range_some plan.geometry)))
       ] in
       let found = some_hand (λ (p : Party T). span_count r side p.span) s.views more in
       let span = counted r side found.1.party.span found.3 in (
@@ -111,7 +115,7 @@ module _ {T : Type 0} (tags : T → List ℕ) (plans : List RingPlan) (pool : �
 
   -- Contended
   pub made : (r : ℕ) (side : Side) (plan : RingPlan) → slice_get plans r ≡ Some plan
-      → slice_index s.words (own_at r side) ≡ own_word (mode_of plan side) (side_of (parties_of_views s.views) r side)
+      → slice_index s.words (own_at r side) ≡ own_word plan.geometry (mode_of plan side) (side_of (parties_of_views s.views) r side)
   made r side plan at = word_is tags plans pool s c r plan at side
 
   module _ (alive : 0 < v.parts) where
@@ -137,17 +141,17 @@ module _ {T : Type 0} (tags : T → List ℕ) (plans : List RingPlan) (pool : �
 
     -- NoRoom
     pub at_most : (side : Side) (o : Observed) (plan : RingPlan) → v.observed ≡ Some o → o.side ≡ side → slice_get plans o.ring ≡ Some plan
-        → room_on plan s.views o.ring side ≤ room_by_look side plan.geometry.capacity (position_of (mode_of plan side) o.looked_at)
-        (position_of (mode_of plan (other_side side)) (slice_index s.words (settled_word_at (mode_of plan (other_side side)) o.ring (other_side side))))
+        → room_on plan s.views o.ring side ≤ room_by_look side plan.geometry.capacity (position_of plan.geometry (mode_of plan side) o.looked_at)
+        (position_of plan.geometry (mode_of plan (other_side side)) (slice_index s.words (settled_word_at (mode_of plan (other_side side)) o.ring (other_side side))))
     at_most side o plan seen on at =
         let own = side_of (parties_of_views s.views) o.ring side in
-        let behind : position_of (mode_of plan side) o.looked_at ≤ base (mode_of plan side) own =
-        subst (λ (d : Side). position_of (mode_of plan d) o.looked_at ≤ base (mode_of plan d) (side_of (parties_of_views s.views) o.ring d)) on
+        let behind : position_of plan.geometry (mode_of plan side) o.looked_at ≤ base (mode_of plan side) own =
+        subst (λ (d : Side). position_of plan.geometry (mode_of plan d) o.looked_at ≤ base (mode_of plan d) (side_of (parties_of_views s.views) o.ring d)) on
         (((c.views id v here).observed o seen).1 plan at) in
-        room_seen side plan s.views o.ring (position_of (mode_of plan side) o.looked_at)
-        (position_of (mode_of plan (other_side side)) (slice_index s.words (settled_word_at (mode_of plan (other_side side)) o.ring (other_side side))))
+        room_seen side plan s.views o.ring (position_of plan.geometry (mode_of plan side) o.looked_at)
+        (position_of plan.geometry (mode_of plan (other_side side)) (slice_index s.words (settled_word_at (mode_of plan (other_side side)) o.ring (other_side side))))
         (base (mode_of plan side) own) behind (tail_is tags plans pool s c id v here alive o.ring side plan at)
-        (base_low (mode_of plan side) own (side_ruled tags plans pool s c o.ring plan at side)).1
+        (base_low plan.geometry (mode_of plan side) own (side_ruled tags plans pool s c o.ring plan at side)).1
 
 module _ {T : Type 0} (tags : T → List ℕ) (plans : List RingPlan) (pool : ℕ) where
   -- each step may state the moment at which it found its word
@@ -175,12 +179,12 @@ module _ {T : Type 0} (tags : T → List ℕ) (plans : List RingPlan) (pool : �
 
 -- the same for the moment of a step
 module _ {T : Type 0} (tags : T → List ℕ) (ring : ℕ) (side : Side) (plan : RingPlan) (v : View T) (at : slice_get v.plans ring ≡ Some plan) where
-  pub was_taken : (x : ℕ) → v.party.span ≡ None → mode_of plan side ≡ Hts → x % RESERVED_RANGE ≢ 0 → Was tags v (own_at ring side) x → WasTaken tags ring side v x
+  pub was_taken : (x : ℕ) → v.party.span ≡ None → mode_of plan side ≡ Hts → x % range_of plan.geometry ≢ 0 → Was tags v (own_at ring side) x → WasTaken tags ring side v x
   was_taken x idle hts some_reserved was = record {
     was = was;
     always = λ any.
         taken tags v.plans v.pool any.state any.consistent any.id v any.here idle ring side plan at hts
-        (λ e. some_reserved (ap (λ n. n % RESERVED_RANGE) (sym any.found) ∙ e));
+        (λ e. some_reserved (ap (λ n. n % range_of plan.geometry) (sym any.found) ∙ e));
   }
 
   pub was_made : (x : ℕ) → Was tags v (own_at ring side) x → WasMade tags ring side plan v x
@@ -191,8 +195,8 @@ module _ {T : Type 0} (tags : T → List ℕ) (ring : ℕ) (side : Side) (plan :
 
   pub had_at_most : (word x : ℕ) → 0 < v.parts → v.observed ≡ Some record { ring = ring; side = side; looked_at = word; tail_seen = None }
       → Was tags v (settled_word_at (mode_of plan (other_side side)) ring (other_side side)) x
-      → HadAtMost tags ring side plan v (position_of (mode_of plan (other_side side)) x)
-      (room_by_look side plan.geometry.capacity (position_of (mode_of plan side) word) (position_of (mode_of plan (other_side side)) x))
+      → HadAtMost tags ring side plan v (position_of plan.geometry (mode_of plan (other_side side)) x)
+      (room_by_look side plan.geometry.capacity (position_of plan.geometry (mode_of plan side) word) (position_of plan.geometry (mode_of plan (other_side side)) x))
   had_at_most word x alive looked was = (
     x,
     refl,
@@ -200,7 +204,7 @@ module _ {T : Type 0} (tags : T → List ℕ) (ring : ℕ) (side : Side) (plan :
       was = was;
       always = λ any.
           subst (λ n. room_on plan any.state.views ring side
-          ≤ room_by_look side plan.geometry.capacity (position_of (mode_of plan side) word) (position_of (mode_of plan (other_side side)) n)) any.found
+          ≤ room_by_look side plan.geometry.capacity (position_of plan.geometry (mode_of plan side) word) (position_of plan.geometry (mode_of plan (other_side side)) n)) any.found
           (at_most tags v.plans v.pool any.state any.consistent any.id v any.here alive side
           record { ring = ring; side = side; looked_at = word; tail_seen = None } plan looked refl at);
     },

@@ -15,7 +15,7 @@ use Rattle.geom.specs.declared.plan.Mode.TheVariants.{Multi, Hts}
 use Rattle.geom.specs.declared.plan.Side.{Side}
 use Rattle.geom.specs.declared.plan.Side.TheVariants.{Put, Take}
 use Rattle.geom.specs.declared.plan.RingPlan.{RingPlan}
-use Rattle.geom.specs.declared.word.TheConstants.{LAST, RESERVED_RANGE}
+use Rattle.geom.specs.Extent.{Extent, range_of}
 use Rattle.geom.specs.Plan.{mode_of}
 use Rattle.ringcore_laws.specs.declared.party.Party.{Party}
 use Rattle.ringcore_laws.specs.declared.protocol.Observed.{Observed}
@@ -49,10 +49,10 @@ use Rattle.fabric_laws.proofs.Truths.{GoOn, observed_on, true_on}
 use Rattle.fabric_laws.proofs.Views.{parties_set, party_here, party_within}
 
 -- the own word after a reservation: this many positions more
-pub word_reserved : {I : Type 0} (mode : Mode) (l : RingSide I) (span : Span) → IsNext mode l span.start
-    → own_word mode (reserved_on l span) ≡ own_word mode l + span.count
-word_reserved Multi l span next = omega (arith, next.multi refl)
-word_reserved Hts l span next = omega (arith, next.hts refl)
+pub word_reserved : {I : Type 0} (e : Extent) (mode : Mode) (l : RingSide I) (span : Span) → IsNext mode l span.start
+    → own_word e mode (reserved_on l span) ≡ own_word e mode l + span.count
+word_reserved e Multi l span next = omega (arith, next.multi refl)
+word_reserved e Hts l span next = omega (arith, next.hts refl)
 
 base_reserved : {I : Type 0} (mode : Mode) (l : RingSide I) (span : Span) → base mode l ≤ base mode (reserved_on l span)
 base_reserved Multi l span = omega arith
@@ -75,7 +75,8 @@ module _ {T : Type 0} (tags : T → List ℕ) (plans : List RingPlan) (pool : �
   -- the hand reserves a span, and takes its slots with these values; for a take it sees these items
   module _ (span : Span) (plan : RingPlan) (at : slice_get plans span.ring ≡ Some plan) (ys : List (Option T)) (items : List T)
       (positive : 0 < span.count) (next : IsNext (mode_of plan span.side) (side_of parties span.ring span.side) span.start)
-      (low : span.start + span.count ≤ LAST) (within : span.start + span.count ≤ limit plan.geometry parties span.ring span.side)
+      (low : span.start + span.count ≤ plan.geometry.last) (within : span.start + span.count ≤ limit plan.geometry parties span.ring span.side)
+      (small : mode_of plan span.side ≡ Hts → span.count < range_of plan.geometry)
       (few : span.side ≡ Put → plan.free ≡ true → span.count ≤ buffers_had tags pool v.party)
       (many : length ys ≡ span.count)
       (shows : span.side ≡ Take → items ≡ take span.count (drop span.start (listed (side_of parties span.ring Put)))) where
@@ -92,29 +93,7 @@ module _ {T : Type 0} (tags : T → List ℕ) (plans : List RingPlan) (pool : �
     spare = (c.fitting.spare span.ring plan at)
 
     above : (own.len ≤ span.start) × ((p : ℕ) → span.start ≤ p → own.openers p ≡ 0)
-    above = next_above parties span.ring span.side (mode_of plan span.side) span.start (side_ruled tags plans pool s c span.ring plan at span.side) next
-
-    -- an HTS word has room for the count, which is at most the capacity
-    small : mode_of plan span.side ≡ Hts → span.count < RESERVED_RANGE
-    small hts = by_side span.side refl
-      where
-        by_side : (d : Side) → span.side ≡ d → span.count < RESERVED_RANGE
-        by_side Put e =
-            let lim = subst (λ (z : Side). span.start + span.count ≤ limit plan.geometry parties span.ring z) e within in
-            let low' = subst (λ (z : Side). (side_of parties span.ring z).len ≤ span.start) e above.0 in
-            omega (
-              arith,
-              lim,
-              low',
-              takes_le_puts plan.geometry (side_of parties span.ring Put) (side_of parties span.ring Take)
-                  (ring_sound tags plans pool s c span.ring plan at),
-              spare,
-              (c.fitting.small span.ring plan at),
-            )
-        by_side Take e =
-            let lim = subst (λ (z : Side). span.start + span.count ≤ limit plan.geometry parties span.ring z) e within in
-            let low' = subst (λ (z : Side). (side_of parties span.ring z).len ≤ span.start) e above.0 in
-            omega (arith, lim, low', (ring_sound tags plans pool s c span.ring plan at).within_capacity, spare, (c.fitting.small span.ring plan at))
+    above = next_above parties span.ring span.side plan.geometry (mode_of plan span.side) span.start (side_ruled tags plans pool s c span.ring plan at span.side) next
 
     -- the sides after: the own one, and any other
     own_after : side_of after span.ring span.side ≡ reserved_on own span
@@ -156,20 +135,20 @@ module _ {T : Type 0} (tags : T → List ℕ) (plans : List RingPlan) (pool : �
       where
         by_name : (r : ℕ) (side : Side) (plan' : RingPlan) → slice_get plans r ≡ Some plan'
             → ((r ≡ span.ring) × (side ≡ span.side)) ⊎ (is_on span.ring span.side r side ≡ false)
-            → get_or words' (own_at r side) 0 ≡ own_word (mode_of plan' side) (side_of after r side)
+            → get_or words' (own_at r side) 0 ≡ own_word plan'.geometry (mode_of plan' side) (side_of after r side)
         by_name r side plan' at' (inl this) =
             let is : plan ≡ plan' = same_plan (sym at ∙ (ap (slice_get plans) (sym this.0) ∙ at')) in
-            subst (λ (z : ℕ × Side × RingPlan). get_or words' (own_at z.0 z.1) 0 ≡ own_word (mode_of z.2 z.1) (side_of after z.0 z.1))
+            subst (λ (z : ℕ × Side × RingPlan). get_or words' (own_at z.0 z.1) 0 ≡ own_word z.2.geometry (mode_of z.2 z.1) (side_of after z.0 z.1))
             (λ k. (sym this.0 k, sym this.1 k, is k))
             (word_set s.words (own_at span.ring span.side) (get_or s.words (own_at span.ring span.side) 0 + span.count)
             (omega (arith, own_inside span.ring (length plans) span.side (slice_get_within plans span.ring plan at), c.word_count))
             ∙ (ap (λ n. n + span.count) (word_is tags plans pool s c span.ring plan at span.side)
-            ∙ (sym (word_reserved (mode_of plan span.side) own span next) ∙ ap (own_word (mode_of plan span.side)) (sym own_after))))
+            ∙ (sym (word_reserved plan.geometry (mode_of plan span.side) own span next) ∙ ap (own_word plan.geometry (mode_of plan span.side)) (sym own_after))))
         by_name r side plan' at' (inr off) =
             word_else s.words (own_at span.ring span.side) (own_at r side) (get_or s.words (own_at span.ring span.side) 0 + span.count)
             (λ e. let this = own_same r side span.ring span.side e in
             (let t : true ≡ false = sym (on_own span.ring span.side) ∙ ((λ k. is_on span.ring span.side (sym this.0 k) (sym this.1 k)) ∙ off) in cc))
-            ∙ (c.words.own r side plan' at' ∙ ap (own_word (mode_of plan' side)) (sym (untouched r side off)))
+            ∙ (c.words.own r side plan' at' ∙ ap (own_word plan'.geometry (mode_of plan' side)) (sym (untouched r side off)))
 
     abbrev homes' : List (maybe.Option (Option T))
     homes' = emptied s.homes (run (slot_at plans span.ring plan) span.start ys)
@@ -269,10 +248,10 @@ module _ {T : Type 0} (tags : T → List ℕ) (plans : List RingPlan) (pool : �
     -- if the word is still the one looked at, the next span of the side starts there
     next_is : (s : St T) (c : IsConsistent tags plans pool s) → get_elem? s.views id ≡ some me.0 → (side : Side) → o.side ≡ side
         → get_or s.words (own_at r side) 0 ≡ o.looked_at
-        → IsNext (mode_of plan side) (side_of (parties_of_views s.views) r side) (position_of (mode_of plan side) o.looked_at)
+        → IsNext (mode_of plan side) (side_of (parties_of_views s.views) r side) (position_of plan.geometry (mode_of plan side) o.looked_at)
     next_is s c here side on_side hit =
         let k = (c.views id me.0 here).observed o seen in
-        is_next (mode_of plan side) (side_of (parties_of_views s.views) r side) o.looked_at (sym (word_is tags plans pool s c r plan at side) ∙ hit)
+        is_next plan.geometry (mode_of plan side) (side_of (parties_of_views s.views) r side) o.looked_at (sym (word_is tags plans pool s c r plan at side) ∙ hit)
         (λ hts. k.0.whole plan (ap (slice_get plans) on_ring ∙ at) (ap (mode_of plan) on_side ∙ hts)) (side_ruled tags plans pool s c r plan at side).small
 
     seen_tail : (s : St T) (c : IsConsistent tags plans pool s) → get_elem? s.views id ≡ some me.0
@@ -281,15 +260,15 @@ module _ {T : Type 0} (tags : T → List ℕ) (plans : List RingPlan) (pool : �
         subst (λ (z : ℕ). t ≤ (side_of (parties_of_views s.views) z (other_side o.side)).len) on_ring
         (((c.views id me.0 here).observed o seen).0.tail_seen t tail)
 
-    pub reserves_put : o.side ≡ Put → position_of plan.put o.looked_at + n ≤ plan.geometry.capacity + t → position_of plan.put o.looked_at + n ≤ LAST
-        → (plan.free ≡ true → n ≤ buffers_had tags pool me.0.party)
+    pub reserves_put : o.side ≡ Put → position_of plan.geometry plan.put o.looked_at + n ≤ plan.geometry.capacity + t → position_of plan.geometry plan.put o.looked_at + n ≤ plan.geometry.last
+        → (plan.put ≡ Hts → n < range_of plan.geometry) → (plan.free ≡ true → n ≤ buffers_had tags pool me.0.party)
         → Allows (IsConsistent tags plans pool) slots id me (own_at r Put) (λ y. either (eqb y o.looked_at) (o.looked_at + n) y)
         (reserve_put_tells (step slots (own_at r Put) o.looked_at (o.looked_at + n) none) me)
-    reserves_put on_side room low few s c _ here _ =
+    reserves_put on_side room low small few s c _ here _ =
         let i : ℕ = own_at r Put in
         let y : ℕ = get_or s.words i 0 in
         let v : View T = me.0 in
-        let start : ℕ = position_of plan.put o.looked_at in
+        let start : ℕ = position_of plan.geometry plan.put o.looked_at in
         let span : Span = record { ring = r; side = Put; start = start; count = n } in
         let ys : List (Option T) = replicate n None in
         let slot : ℕ → ℕ = slot_at plans r plan in
@@ -299,11 +278,11 @@ module _ {T : Type 0} (tags : T → List ℕ) (plans : List RingPlan) (pool : �
         exchanged y o.looked_at (o.looked_at + n) (Goes s i id me (reserve_put_tells (step slots i o.looked_at (o.looked_at + n) none) me))
         (λ hit.
         let next = next_is s c here Put on_side hit in
-        let first = next_above (parties_of_views s.views) r Put plan.put start (side_ruled tags plans pool s c r plan at Put) next in
+        let first = next_above (parties_of_views s.views) r Put plan.geometry plan.put start (side_ruled tags plans pool s c r plan at Put) next in
         let ring = ring_sound tags plans pool s c r plan at in
         let spare = (c.fitting.spare r plan at) in
         let won =
-        reserve_stays tags plans pool s c id v here alive idle span plan at ys [] positive next low (omega (arith, room, behind)) (λ _. few)
+        reserve_stays tags plans pool s c id v here alive idle span plan at ys [] positive next low (omega (arith, room, behind)) small (λ _. few)
         (length-many {X = Option T} n None)
         (λ e. absurd (let u : Put ≡ Take = e in cc)) in (
           reserved span [] v,
@@ -332,8 +311,8 @@ module _ {T : Type 0} (tags : T → List ℕ) (plans : List RingPlan) (pool : �
               let told = (c.told id v here alive).0 in
               let is : plan ≡ plan' = same_plan (sym at ∙ (ap (slice_get plans) to ∙ (ap (λ (l : List RingPlan). slice_get l q) (sym told) ∙ at'))) in (
                 λ _. (
-                  λ j. reserved record { ring = to j; side = Put; start = position_of (is j).put o.looked_at; count = count j } [] v,
-                  takes_carried me.1 (run slot start ys) ∙ (λ j. run (slot_at (sym told j) (to j) (is j)) (position_of (is j).put o.looked_at)
+                  λ j. reserved record { ring = to j; side = Put; start = position_of (is j).geometry (is j).put o.looked_at; count = count j } [] v,
+                  takes_carried me.1 (run slot start ys) ∙ (λ j. run (slot_at (sym told j) (to j) (is j)) (position_of (is j).geometry (is j).put o.looked_at)
                       (replicate (count j) None) ++ me.1),
                 ),
                 λ miss. absurd (miss hit),
@@ -341,14 +320,15 @@ module _ {T : Type 0} (tags : T → List ℕ) (plans : List RingPlan) (pool : �
         ))
         (λ miss. (missed y v, keeps, tt, lost tags plans pool s c i id v here alive, λ q m plan' e f at'. ((λ hit. absurd (miss hit)), λ _. (refl, refl))))
 
-    pub reserves_take : o.side ≡ Take → position_of plan.take o.looked_at + n ≤ t → position_of plan.take o.looked_at + n ≤ LAST
+    pub reserves_take : o.side ≡ Take → position_of plan.geometry plan.take o.looked_at + n ≤ t → position_of plan.geometry plan.take o.looked_at + n ≤ plan.geometry.last
+        → (plan.take ≡ Hts → n < range_of plan.geometry)
         → Allows (IsConsistent tags plans pool) slots id me (own_at r Take) (λ y. either (eqb y o.looked_at) (o.looked_at + n) y)
         (reserve_take_tells tags (step slots (own_at r Take) o.looked_at (o.looked_at + n) none) me)
-    reserves_take on_side room low s c _ here _ =
+    reserves_take on_side room low small s c _ here _ =
         let i : ℕ = own_at r Take in
         let y : ℕ = get_or s.words i 0 in
         let v : View T = me.0 in
-        let start : ℕ = position_of plan.take o.looked_at in
+        let start : ℕ = position_of plan.geometry plan.take o.looked_at in
         let span : Span = record { ring = r; side = Take; start = start; count = n } in
         let slot : ℕ → ℕ = slot_at plans r plan in
         let k = seen_tail s c here in
@@ -360,7 +340,7 @@ module _ {T : Type 0} (tags : T → List ℕ) (plans : List RingPlan) (pool : �
         exchanged y o.looked_at (o.looked_at + n) (Goes s i id me (reserve_take_tells tags (step slots i o.looked_at (o.looked_at + n) none) me))
         (λ hit.
         let next = next_is s c here Take on_side hit in
-        let first = next_above (parties_of_views s.views) r Take plan.take start (side_ruled tags plans pool s c r plan at Take) next in
+        let first = next_above (parties_of_views s.views) r Take plan.geometry plan.take start (side_ruled tags plans pool s c r plan at Take) next in
         let ring = ring_sound tags plans pool s c r plan at in
         let spare = (c.fitting.spare r plan at) in
         let long : length items ≡ n =
@@ -372,7 +352,7 @@ module _ {T : Type 0} (tags : T → List ℕ) (plans : List RingPlan) (pool : �
           room,
           behind,
         ) in
-        let won = reserve_stays tags plans pool s c id v here alive idle span plan at ys items positive next low (omega (arith, room, behind))
+        let won = reserve_stays tags plans pool s c id v here alive idle span plan at ys items positive next low (omega (arith, room, behind)) small
         (λ e. absurd (let u : Take ≡ Put = e in cc)) (length-cells items ∙ long) (λ _. refl) in (
           reserved span items v,
           takes_all (run slot start ys),
@@ -395,8 +375,8 @@ module _ {T : Type 0} (tags : T → List ℕ) (plans : List RingPlan) (pool : �
                 λ _. (
                   items,
                   long ∙ count,
-                  λ j. reserved record { ring = to j; side = Take; start = position_of (is j).take o.looked_at; count = count j } items v,
-                  takes_carried me.1 (run slot start ys) ∙ (λ j. run (slot_at (sym told j) (to j) (is j)) (position_of (is j).take o.looked_at) ys ++ me.1),
+                  λ j. reserved record { ring = to j; side = Take; start = position_of (is j).geometry (is j).take o.looked_at; count = count j } items v,
+                  takes_carried me.1 (run slot start ys) ∙ (λ j. run (slot_at (sym told j) (to j) (is j)) (position_of (is j).geometry (is j).take o.looked_at) ys ++ me.1),
                   λ free. singles_queued tags n start (side_of (parties_of_views s.views) r Take).len published first.0
                       (singles_drop tags (side_of (parties_of_views s.views) r Take).len published
                       (c.free.singles r plan at (ap (λ (p : RingPlan). p.free) is ∙ free))),

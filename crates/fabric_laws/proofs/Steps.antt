@@ -12,7 +12,8 @@ use Rattle.geom.specs.declared.plan.Mode.TheVariants.{Multi, Hts}
 use Rattle.geom.specs.declared.plan.Side.{Side}
 use Rattle.geom.specs.declared.plan.Side.TheVariants.{Put, Take}
 use Rattle.geom.specs.declared.plan.RingPlan.{RingPlan}
-use Rattle.geom.specs.declared.word.TheConstants.{RESERVED_RANGE}
+use Rattle.geom.specs.Extent.{Extent, range_of}
+use Rattle.geom.proofs.Words.{position_back}
 use Rattle.geom.specs.Plan.{mode_of}
 use Rattle.ringcore_laws.specs.declared.party.Party.{Party}
 use Rattle.ringcore_laws.specs.declared.protocol.Span.{Span}
@@ -35,13 +36,14 @@ abbrev pub St : Type 0 → Type 0
 St T = State (Option T) (View T)
 
 -- the position that an own word shows
-pub position_base : {I : Type 0} (mode : Mode) (l : RingSide I) → (mode ≡ Hts → l.open_count < RESERVED_RANGE) → position_of mode (own_word mode l) ≡ base mode l
-position_base Multi l small = refl
-position_base Hts l small = let lt = small refl in omega arith
+pub position_base : {I : Type 0} (e : Extent) (mode : Mode) (l : RingSide I) → (mode ≡ Hts → l.open_count < range_of e)
+    → position_of e mode (own_word e mode l) ≡ base mode l
+position_base e Multi l small = refl
+position_base e Hts l small = position_back e l.len l.open_count (small refl)
 
-pub base_low : {I : Type 0} (mode : Mode) (l : RingSide I) → RuledSide mode l → (l.len ≤ base mode l) × (base mode l ≤ l.reach)
-base_low Multi l k = (k.behind, omega arith)
-base_low Hts l k = (omega arith, k.behind)
+pub base_low : {I : Type 0} (e : Extent) (mode : Mode) (l : RingSide I) → RuledSide e mode l → (l.len ≤ base mode l) × (base mode l ≤ l.reach)
+base_low e Multi l k = (k.behind, omega arith)
+base_low e Hts l k = (omega arith, k.behind)
 
 module _ {T : Type 0} (tags : T → List ℕ) (plans : List RingPlan) (pool : ℕ) where
   -- what holds for the hands' parts and for what they know
@@ -109,16 +111,16 @@ module _ {T : Type 0} (tags : T → List ℕ) (plans : List RingPlan) (pool : �
       pub ring_sound : SoundRing plan.geometry (side_of parties r Put) (side_of parties r Take)
       ring_sound = c.sound.rings r plan at
 
-      pub side_ruled : (side : Side) → RuledSide (mode_of plan side) (side_of parties r side)
+      pub side_ruled : (side : Side) → RuledSide plan.geometry (mode_of plan side) (side_of parties r side)
       side_ruled side = c.ruled.sides r side plan at
 
       -- the own word, and the position that it shows
-      pub word_is : (side : Side) → get_or s.words (own_at r side) 0 ≡ own_word (mode_of plan side) (side_of parties r side)
+      pub word_is : (side : Side) → get_or s.words (own_at r side) 0 ≡ own_word plan.geometry (mode_of plan side) (side_of parties r side)
       word_is side = c.words.own r side plan at
 
-      pub position_is : (side : Side) → position_of (mode_of plan side) (get_or s.words (own_at r side) 0) ≡ base (mode_of plan side) (side_of parties r side)
+      pub position_is : (side : Side) → position_of plan.geometry (mode_of plan side) (get_or s.words (own_at r side) 0) ≡ base (mode_of plan side) (side_of parties r side)
       position_is side =
-          ap (position_of (mode_of plan side)) (word_is side) ∙ position_base (mode_of plan side) (side_of parties r side) (side_ruled side).small
+          ap (position_of plan.geometry (mode_of plan side)) (word_is side) ∙ position_base plan.geometry (mode_of plan side) (side_of parties r side) (side_ruled side).small
 
       -- what open takes hold is published
       pub takes_within : (p : ℕ) → 0 < (side_of parties r Take).openers p → p < (side_of parties r Put).len

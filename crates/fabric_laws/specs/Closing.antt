@@ -8,7 +8,7 @@ use Rattle.geom.specs.declared.plan.Mode.{Mode}
 use Rattle.geom.specs.declared.plan.Mode.TheVariants.{Multi, Hts}
 use Rattle.geom.specs.declared.plan.Side.TheVariants.{Put, Take}
 use Rattle.geom.specs.declared.plan.RingPlan.{RingPlan}
-use Rattle.geom.specs.declared.word.TheConstants.{LAST, RESERVED_RANGE}
+use Rattle.geom.specs.Extent.{Extent, range_of}
 use Rattle.ringcore_laws.specs.RingSide.{listed, side_of}
 use Rattle.ringcore_laws.specs.History.{position_of}
 use Rattle.ringcore_laws.specs.Sound.{Sound, queue}
@@ -17,16 +17,16 @@ use Rattle.fabric_laws.specs.Rule.{all_parts, parties_of_views}
 use Rattle.fabric_laws.specs.Words.{own_at, settled_word_at, slot_at}
 
 -- how far a side is reserved, by its own word
-abbrev pub reach_of : Mode → ℕ → ℕ
-reach_of Multi word = word
-reach_of Hts word = word / RESERVED_RANGE + word % RESERVED_RANGE
+abbrev pub reach_of : Extent → Mode → ℕ → ℕ
+reach_of e Multi word = word
+reach_of e Hts word = word / range_of e + word % range_of e
 
 -- the first position of a ring that no take has reserved, and the end of its published ones, by its words
 abbrev pub first_left : List ℕ → ℕ → RingPlan → ℕ
-first_left words r plan = reach_of plan.take (slice_index words (own_at r Take))
+first_left words r plan = reach_of plan.geometry plan.take (slice_index words (own_at r Take))
 
 abbrev pub end_left : List ℕ → ℕ → RingPlan → ℕ
-end_left words r plan = position_of plan.put (slice_index words (settled_word_at plan.put r Put))
+end_left words r plan = position_of plan.geometry plan.put (slice_index words (settled_word_at plan.put r Put))
 
 module _ {T : Type 0} where
   -- the published items of a ring at positions that no take has reserved
@@ -41,7 +41,7 @@ module _ {T : Type 0} where
     pub end : end_left s.words r plan ≡ (side_of (parties_of_views s.views) r Put).len
     -- all of it is in one turn of the ring
     pub turn : end_left s.words r plan ≤ first_left s.words r plan + plan.geometry.capacity
-    pub last : end_left s.words r plan ≤ LAST
+    pub last : end_left s.words r plan ≤ plan.geometry.last
     -- each position has its item at home
     pub there : (p : ℕ) → first_left s.words r plan ≤ p → p < end_left s.words r plan
         → (x : T) × (slice_get (listed (side_of (parties_of_views s.views) r Put)) p ≡ Some x)

@@ -62,13 +62,13 @@ module _ {T : Type 0} (tags : T → List ℕ) where
   -- Contended: the own word was x, as the spans of all hands made it
   abbrev pub WasMade : ℕ → Side → RingPlan → View T → ℕ → Type 0
   WasMade ring side plan v x = Found v (own_at ring side) x
-      (λ views id. x ≡ own_word (mode_of plan side) (side_of (parties_of_views views) ring side))
+      (λ views id. x ≡ own_word plan.geometry (mode_of plan side) (side_of (parties_of_views views) ring side))
 
   -- NoRoom: the other side was settled up to `tail`, and there was room for at most this many
   abbrev pub HadAtMost : ℕ → Side → RingPlan → View T → ℕ → ℕ → Type 0
   HadAtMost ring side plan v tail left =
       let other = other_side side in
-      (x : ℕ) × (position_of (mode_of plan other) x ≡ tail)
+      (x : ℕ) × (position_of plan.geometry (mode_of plan other) x ≡ tail)
       × Found v (settled_word_at (mode_of plan other) ring other) x (λ views id. room_on plan views ring side ≤ left)
 
   -- NotYet: the tail was x, and an earlier span of the side was open

@@ -11,6 +11,7 @@ use Rattle.geom.specs.declared.plan.Mode.TheVariants.{Multi}
 use Rattle.geom.specs.declared.plan.Side.{Side}
 use Rattle.geom.specs.declared.plan.Side.TheVariants.{Put, Take}
 use Rattle.geom.specs.declared.plan.RingPlan.{RingPlan}
+use Rattle.geom.specs.Extent.{range_of}
 use Rattle.geom.specs.Plan.{mode_of}
 use Rattle.ringcore_laws.specs.declared.party.Party.{Party}
 use Rattle.ringcore_laws.specs.declared.party.Settled.{Settled}
@@ -30,11 +31,12 @@ use Rattle.fabric_laws.specs.Words.{own_at, slot_at, slot_count, tail_at}
 abbrev pub all_parts : ℕ
 all_parts = 2 ^ 63
 
--- a plan that a fabric may have: each ring has at least one slot more than items, and a free ring has room for all
--- buffers
+-- a plan that a fabric may have: each ring has at least one slot more than items, a word has room for each of its
+-- positions with each count, and a free ring has room for all buffers
 pub record IsFitting (plans : List RingPlan) (pool : ℕ) : Type 0 where
   pub spare : (r : ℕ) (plan : RingPlan) → slice_get plans r ≡ Some plan → plan.geometry.capacity < plan.geometry.size
   pub small : (r : ℕ) (plan : RingPlan) → slice_get plans r ≡ Some plan → plan.geometry.size ≤ 2 ^ 20
+  pub words : (r : ℕ) (plan : RingPlan) → slice_get plans r ≡ Some plan → (plan.geometry.last + 1) * range_of plan.geometry ≤ 2 ^ 64
   pub free_rings : (r : ℕ) (plan : RingPlan) → slice_get plans r ≡ Some plan → plan.free ≡ true
       → pool ≤ plan.geometry.capacity
 
@@ -46,7 +48,7 @@ module _ {T : Type 0} where
   -- each own word is the one that the hands' spans make, and each tail of a multi side is how far it is settled
   pub record AreWords (plans : List RingPlan) (words : List ℕ) (parties : List (Party T)) : Type 0 where
     pub own : (r : ℕ) (side : Side) (plan : RingPlan) → slice_get plans r ≡ Some plan
-        → slice_index words (own_at r side) ≡ own_word (mode_of plan side) (side_of parties r side)
+        → slice_index words (own_at r side) ≡ own_word plan.geometry (mode_of plan side) (side_of parties r side)
     pub tail : (r : ℕ) (side : Side) (plan : RingPlan) → slice_get plans r ≡ Some plan → mode_of plan side ≡ Multi
         → slice_index words (tail_at r side) ≡ (side_of parties r side).len
 

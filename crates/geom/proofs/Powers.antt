@@ -7,7 +7,7 @@ use Rattle.std.proofs.Math.Pow.{pow_mono, pow-lt}
 use Rattle.std.proofs.Math.Nat.{pow-suc, div-add-mod, mul-le-mul_left}
 use Rattle.std.specs.Int.{IsPowerOfTwo}
 use Rattle.geom.specs.Sizes.{power_above, size_of, is_power, power_gives, exact_gives}
-use Rattle.geom.specs.Extent.{IsExtent}
+use Rattle.geom.specs.Extent.{IsExtent, range_of}
 use Rattle.geom.specs.declared.geometry.GeomFault.TheVariants.{NotPower}
 
 -- half of a power of two is at least each smaller one
@@ -64,16 +64,23 @@ mod_apart n a b some after near same =
     ]
 
 -- the next power of two from a capacity's successor on is a size that a ring may have
-pub next_extent : (n p : ℕ) → 0 < n → n < 2 ^ 20 → IsPowerOfTwo p → n + 1 ≤ p → p / 2 < max 1 (n + 1) → IsExtent record { size = p; capacity = n }
+pub next_extent : (n p : ℕ) → 0 < n → n < 2 ^ 20 → IsPowerOfTwo p → n + 1 ≤ p → p / 2 < max 1 (n + 1)
+    → IsExtent record { size = p; capacity = n; last = 2 ^ 44 - 1; count_bits = 20 }
 next_extent n p some small power lower upper =
     let e : p ≡ 2 ^ power.0 = power.1 in
     let bound : 2 ^ power.0 < 2 ^ 21 = omega arith in
     let within : 2 ^ power.0 ≤ 2 ^ 20 = pow_mono (exponent_small power.0 bound) in
-    record { power = power; some = some; spare = omega arith; small = omega arith }
+    record { power = power; some = some; spare = omega arith; small = omega arith; counts = omega arith; shorter = omega arith; words = omega arith }
+
+-- a power of two from 2 on is a size that a ring may have
+pub power_extent : (n p : ℕ) → 1 < n → n ≤ 2 ^ 20 → IsPowerOfTwo p → p ≡ n
+    → IsExtent record { size = n; capacity = n - 1; last = 2 ^ 44 - 1; count_bits = 20 }
+power_extent n p some small power same =
+    record { power = (power.0, sym same ∙ power.1); some = omega arith; spare = omega arith; small = small; counts = omega arith; shorter = omega arith; words = omega arith }
 
 -- an exact capacity in range, and what it gives
 pub exact_given : (n p : ℕ) → n ≢ 0 → n < 2 ^ 20 → IsPowerOfTwo p → n + 1 ≤ p → p / 2 < max 1 (n + 1)
-    → Ok record { size = p; capacity = n } ≡ exact_gives n
+    → Ok record { size = p; capacity = n; last = 2 ^ 44 - 1; count_bits = 20 } ≡ exact_gives n
 exact_given n p some small power lower upper =
     rw (ne_eqb n 0 some, le-ltb (2 ^ 20 - 1) n (omega arith), size_of-next n p small power lower upper) refl
 
@@ -85,7 +92,7 @@ is_power-next n p some small power lower upper =
 
 -- a count that is the next power of two from itself on gives a ring
 pub power_given : (n p : ℕ) → 1 < n → n ≤ 2 ^ 20 → IsPowerOfTwo p → n ≤ p → p / 2 < max 1 n → p ≡ n
-    → Ok record { size = n; capacity = n - 1 } ≡ power_gives n
+    → Ok record { size = n; capacity = n - 1; last = 2 ^ 44 - 1; count_bits = 20 } ≡ power_gives n
 power_given n p some small power lower upper same =
     rw (le-ltb n 2 (omega arith), le-ltb (2 ^ 20) n small, is_power-next n p some small power lower upper, eq-eqb p n same) refl
 

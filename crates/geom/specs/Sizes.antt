@@ -1,5 +1,6 @@
 -- Which sizes and capacities a ring may be made with, and which it then has
-use Rattle.std.specs.Prelude.{ℕ, zero, suc, Bool, ◌+◌, ◌-◌, ◌^◌, ◌==◌, nat_lt, if◌then◌else◌, Result, Ok, Err}
+use Rattle.std.specs.Prelude.{ℕ, zero, suc, Bool, ◌||◌, ◌+◌, ◌-◌, ◌/◌, ◌^◌, ◌==◌, nat_lt, if◌then◌else◌, Result, Ok, Err, Option}
+use Rattle.std.specs.Prelude.{Some, None}
 use Rattle.geom.specs.Extent.{Extent}
 use Rattle.geom.specs.declared.geometry.GeomFault.{GeomFault}
 use Rattle.geom.specs.declared.geometry.GeomFault.TheVariants.{NotPower, TooSmall, TooLarge}
@@ -22,11 +23,17 @@ abbrev pub power_gives : ℕ → Result Extent GeomFault
 power_gives count =
     if nat_lt count 2 then Err TooSmall
     else (if nat_lt (2 ^ 20) count then Err TooLarge
-    else (if is_power count then Ok record { size = count; capacity = count - 1 } else Err NotPower))
+    else (if is_power count then Ok record { size = count; capacity = count - 1; last = 2 ^ 44 - 1; count_bits = 20 } else Err NotPower))
 
 -- a ring for exactly this many items
 abbrev pub exact_gives : ℕ → Result Extent GeomFault
 exact_gives capacity =
     if capacity == 0 then Err TooSmall
     else (if nat_lt (2 ^ 20 - 1) capacity then Err TooLarge
-    else Ok record { size = size_of capacity; capacity = capacity })
+    else Ok record { size = size_of capacity; capacity = capacity; last = 2 ^ 44 - 1; count_bits = 20 })
+
+-- the same ring with another greatest position, and another number of bits for a count: a word has 64 bits for both
+abbrev pub with_positions : Extent → (last count_bits : ℕ) → Option Extent
+with_positions e last count_bits =
+    if (count_bits == 0) || nat_lt 63 count_bits || nat_lt ((2 ^ 64 - 1) / 2 ^ count_bits) last then None
+    else Some record { size = e.size; capacity = e.capacity; last = last; count_bits = count_bits }

@@ -7,13 +7,17 @@ ghost use Rattle.std.specs.Prelude.{◌≡◌, ◌≢◌, ℕ, ◌+◌, ◌-◌,
 ghost use Rattle.std.specs.Int.{IsPowerOfTwo};
 ghost use Rattle.geom.specs.Extent.{IsExtent, slot_of};
 ghost use Rattle.geom.specs.Fault.{number_of};
-ghost use Rattle.geom.specs.Sizes.{power_gives, exact_gives};
+ghost use Rattle.geom.specs.Sizes.{power_gives, exact_gives, with_positions};
 
+use crate::word::{COUNT_BITS, LAST};
 use std::marker::Model;
 use thiserror::Error;
 
 /// The maximum number of slots of a ring.
 const MAX_SIZE: u64 = 1 << 20;
+
+/// The maximum number of items that a ring holds, and so the length of the longest span.
+pub const MAX_CAPACITY: u64 = MAX_SIZE - 1;
 
 /// Why a ring can't have the requested size or capacity.
 #[derive(Clone, Copy, Debug, PartialEq, Eq, Error)]
@@ -41,8 +45,10 @@ impl GeomFault {
 /// The number of slots and the capacity of a ring: a power of two of slots, and fewer items than slots.
 #[derive(Clone, Copy, Debug)]
 pub struct Geometry {
-    size: u64,
-    capacity: u64,
+    last: u64,
+    size: u32,
+    capacity: u32,
+    count_bits: u32,
 }
 
 impl Model for Geometry {
@@ -52,11 +58,12 @@ impl Model for Geometry {
 
     ghost coded = { extent_code };
 
-    ghost view = { λ g. record { size = g.size; capacity = g.capacity } };
+    ghost view = { λ g. record { size = g.size; capacity = g.capacity; last = g.last; count_bits = g.count_bits } };
 
-    ghost invariant = { λ g. IsExtent record { size = g.size; capacity = g.capacity } };
+    ghost invariant = { λ g. IsExtent
+        record { size = g.size; capacity = g.capacity; last = g.last; count_bits = g.count_bits } };
 
-    ghost inverse = { λ e. record { size = e.size; capacity = e.capacity } };
+    ghost inverse = { λ e. record { size = e.size; capacity = e.capacity; last = e.last; count_bits = e.count_bits } };
 }
 
 impl Geometry {
@@ -78,8 +85,10 @@ impl Geometry {
             return Err(GeomFault::NotPower);
         }
         Ok(Geometry {
-            size: count,
-            capacity: count - 1,
+            last: LAST,
+            size: count as u32,
+            capacity: (count - 1) as u32,
+            count_bits: COUNT_BITS,
         })
     }
 
@@ -93,12 +102,30 @@ impl Geometry {
         if capacity == 0 {
             return Err(GeomFault::TooSmall);
         }
-        if capacity > MAX_SIZE - 1 {
+        if capacity > MAX_CAPACITY {
             return Err(GeomFault::TooLarge);
         }
         Ok(Geometry {
-            size: (capacity + 1).next_power_of_two(),
-            capacity,
+            last: LAST,
+            size: (capacity + 1).next_power_of_two() as u32,
+            capacity: capacity as u32,
+            count_bits: COUNT_BITS,
+        })
+    }
+
+    /// The same ring with another greatest position, and another number of low bits for the count in a head/tail-sync
+    /// word. `None` if a word of 64 bits has no room for both, or if `count_bits` isn't from 1 to 63.
+    pub fn with_positions(self, last: u64, count_bits: u32) -> Option<Geometry>
+        ensures { result ≡ with_positions self last count_bits }
+    {
+        if count_bits == 0 || count_bits > 63 || last > u64::MAX >> count_bits {
+            return None;
+        }
+        Some(Geometry {
+            last,
+            size: self.size,
+            capacity: self.capacity,
+            count_bits,
         })
     }
 
@@ -107,7 +134,7 @@ impl Geometry {
         ensures value { result ≡ self.size }
         ensures extent { IsExtent self }
     {
-        self.size
+        self.size as u64
     }
 
     /// The number of items the ring can hold: at least 1, and less than the number of slots.
@@ -115,7 +142,24 @@ impl Geometry {
         ensures value { result ≡ self.capacity }
         ensures extent { IsExtent self }
     {
-        self.capacity
+        self.capacity as u64
+    }
+
+    /// The greatest position that the ring ever has: a reservation that ends above it is refused.
+    pub const fn last(self) -> u64
+        ensures value { result ≡ self.last }
+        ensures extent { IsExtent self }
+        ensures small { self.last < 2 ^ 63 }
+    {
+        self.last
+    }
+
+    /// The number of low bits of a head/tail-sync word that hold the count of reserved positions, 1 to 63.
+    pub const fn count_bits(self) -> u32
+        ensures value { result ≡ self.count_bits }
+        ensures extent { IsExtent self }
+    {
+        self.count_bits
     }
 
     /// The slot of a position, below the size. Two positions less than the size apart have different slots.
@@ -124,6 +168,6 @@ impl Geometry {
         ensures within { result < self.size }
         ensures apart { (other : ℕ) → position < other → other < position + self.size → slot_of self other ≢ result }
     {
-        position & (self.size - 1)
+        position & (self.size as u64 - 1)
     }
 }

@@ -17,6 +17,6 @@ mod geometry;
 mod plan;
 mod word;
 
-pub use geometry::{GeomFault, Geometry};
+pub use geometry::{GeomFault, Geometry, MAX_CAPACITY};
 pub use plan::{How, MAX_ACTORS, MAX_BUFFERS, MAX_RINGS, Mode, RingPlan, Side, all_fit};
 pub use word::{LAST, RESERVED_RANGE, pack, unpack};

@@ -1,6 +1,8 @@
 //! The plan of a ring: its geometry, the mode of each side, and whether it holds the free buffers.
 
 ghost use Rattle.std.specs.Prelude.{◌≡◌, ◌↔◌, IsTrue};
+ghost use Rattle.geom.specs.declared.plan.Mode.TheVariants.{Hts};
+ghost use Rattle.geom.specs.declared.plan.Side.{Side};
 ghost use Rattle.geom.specs.Fit.{AllFit, Fits};
 ghost use Rattle.geom.specs.Plan.{mode_of, granted};
 
@@ -92,21 +94,33 @@ impl RingPlan {
         }
     }
 
-    /// Whether the ring can be used with this many buffers: a free ring needs room for all of them.
-    pub const fn holds_all(self, buffers: u64) -> bool
-        ensures { IsTrue result ↔ Fits self buffers }
+    /// Whether a side of the ring has a head/tail-sync word.
+    const fn has_hts(self) -> bool
+        ensures { IsTrue result ↔ (side : Side) × (mode_of self side ≡ Hts) }
+    {
+        matches!(self.put, Mode::Hts) || matches!(self.take, Mode::Hts)
+    }
+
+    /// Whether the ring can be used with this many buffers, by spans of at most `longest` positions: a free ring needs
+    /// room for all buffers, and a head/tail-sync word room for the count of each span.
+    pub fn fits(self, buffers: u64, longest: u64) -> bool
+        ensures { IsTrue result ↔ Fits self buffers longest }
     {
         let capacity = self.geometry.capacity();
-        !self.free || buffers <= capacity
+        let range = self.geometry.range();
+        if self.free && buffers > capacity {
+            return false;
+        }
+        !self.has_hts() || longest < range
     }
 }
 
-/// Whether each of the rings can be used with this many buffers.
-pub fn all_fit(rings: &[RingPlan], buffers: u64) -> bool
-    ensures { IsTrue result ↔ AllFit rings.now buffers }
+/// Whether each of the rings can be used with this many buffers, by spans of at most `longest` positions.
+pub fn all_fit(rings: &[RingPlan], buffers: u64, longest: u64) -> bool
+    ensures { IsTrue result ↔ AllFit rings.now buffers longest }
 {
     for plan in rings {
-        if !plan.holds_all(buffers) {
+        if !plan.fits(buffers, longest) {
             return false;
         }
     }

@@ -56,7 +56,7 @@ module _ {T : Type 0} (tags : T → List ℕ) (most : ℕ) (how : How) (n ring :
       omega (
         arith,
         is.granted,
-        granted_few how n (room_by_look side plan.geometry.capacity (position_of (mode_of plan side) is.word) is.tail),
+        granted_few how n (room_by_look side plan.geometry.capacity (position_of plan.geometry (mode_of plan side) is.word) is.tail),
       )
 
   pub first_reserved : (v : View T) (starts : List (View T × StartFault)) (seen : View T) (start count left : ℕ) (shown : List T) (w : View T)

@@ -54,6 +54,11 @@ all_below n (x ∷ xs) each =
     both true b one two = two
     both false b one two = one
 
+pub each_below : (n : ℕ) (xs : List ℕ) → list_all (λ g. nat_lt g n) xs ≡ true → (b : ℕ) → b < length xs → slice_index xs b < n
+each_below n [] all b lt = absurd (omega arith)
+each_below n (x ∷ xs) all zero lt = let first = (and_true (nat_lt x n) (list_all (λ g. nat_lt g n) xs) all).0 in grind (arith, nat_tests, first)
+each_below n (x ∷ xs) all (suc b) lt = each_below n xs (and_true (nat_lt x n) (list_all (λ g. nat_lt g n) xs) all).1 b (omega arith)
+
 -- a range, and what passes a test of it, with one number more
 pub range_more : (a n k : ℕ) → a + n ≡ k → range_with_len a (n + 1) ≡ range_with_len a n ++ k ∷ []
 range_more a zero k at = ap (λ v. v ∷ []) (let h : a ≡ k = omega (arith, at) in h)

@@ -5,7 +5,7 @@ use Rattle.std.proofs.lemmas.List.{length-set}
 use Rattle.std.proofs.lemmas.List.FromFn.{length-map-range_with_len}
 use Rattle.geom.specs.declared.plan.RingPlan.{RingPlan}
 use Rattle.std.proofs.lemmas.List.{append-nil}
-use Rattle.geom.specs.Fit.{AllFit}
+use Rattle.geom.specs.Fit.{AllFitAny}
 use Rattle.ringcore_laws.specs.declared.protocol.Step.{Step}
 use Rattle.ringcore_laws.specs.declared.protocol.Reply.{Reply}
 use Rattle.ringcore_laws.specs.History.{Actor, Event, IsRun, reply_to, after, after_all, after_step, one_stepped}
@@ -51,7 +51,7 @@ right_followed h events right more =
 -- one step of a world that is what a right history leaves
 pub step_followed : (old new : World) (h : History) (actor : ℕ) (step : Step) (reply : Reply)
     → (plans_of new) ≡ (plans_of old)
-    → ((pool : ℕ) (actors : List Actor) → AllFit (plans_of old) pool → Invariant (plans_of old) pool actors
+    → ((pool : ℕ) (actors : List Actor) → AllFitAny (plans_of old) pool → Invariant (plans_of old) pool actors
     → ListsAgree (plans_of old) pool (world_rings old) old.places.items old.members.items actors
     → (reply ≡ reply_to (plans_of old) pool actors actor step)
     × ListsAgree (plans_of old) pool (world_rings new) new.places.items new.members.items (after actors record { actor = actor; step = step; reply = reply }))
@@ -61,7 +61,7 @@ pub step_followed : (old new : World) (h : History) (actor : ℕ) (step : Step) 
     × IsRight (followed_by h (record { actor = actor; step = step; reply = reply } ∷ []))
 step_followed old new h actor step reply same goes agree right =
     let e : Event = record { actor = actor; step = step; reply = reply } in
-    let there = subst (λ (ps : List RingPlan). (pool : ℕ) (actors : List Actor) → AllFit ps pool → Invariant ps pool actors
+    let there = subst (λ (ps : List RingPlan). (pool : ℕ) (actors : List Actor) → AllFitAny ps pool → Invariant ps pool actors
     → ListsAgree ps pool (world_rings old) old.places.items old.members.items actors
     → (reply ≡ reply_to ps pool actors actor step)
     × ListsAgree ps pool (world_rings new) new.places.items new.members.items (after actors record { actor = actor; step = step; reply = reply }))
@@ -80,13 +80,13 @@ step_followed old new h actor step reply same goes agree right =
 -- a list of steps of a world that is what a right history leaves
 pub run_followed : (old new : World) (h : History) (entries : List (ℕ × Step)) (replies : List Reply)
     → (plans_of new) ≡ (plans_of old)
-    → ((pool : ℕ) (actors : List Actor) → AllFit (plans_of old) pool → Invariant (plans_of old) pool actors
+    → ((pool : ℕ) (actors : List Actor) → AllFitAny (plans_of old) pool → Invariant (plans_of old) pool actors
     → ListsAgree (plans_of old) pool (world_rings old) old.places.items old.members.items actors
     → RunsTo (plans_of old) pool actors entries replies [] (world_rings new) new.places.items new.members.items)
     → AgreesWith old h → IsRight h
     → (length replies ≡ length entries) × AgreesWith new (followed_by h (events_of entries replies)) × IsRight (followed_by h (events_of entries replies))
 run_followed old new h entries replies same goes agree right =
-    let there = subst (λ (ps : List RingPlan). (pool : ℕ) (actors : List Actor) → AllFit ps pool → Invariant ps pool actors
+    let there = subst (λ (ps : List RingPlan). (pool : ℕ) (actors : List Actor) → AllFitAny ps pool → Invariant ps pool actors
     → ListsAgree ps pool (world_rings old) old.places.items old.members.items actors
     → RunsTo ps pool actors entries replies [] (world_rings new) new.places.items new.members.items) agree.plans goes in
     let run = there (pool_size h) (actors_of h) right.plan.rings (right_kept h right) agree.lists in

@@ -2,7 +2,7 @@
 use Rattle.std.proofs.Common.{ℕ, ◌+◌, ◌≡◌, ◌∙◌, List, [], ◌∷◌, ◌++◌, length, refl, ap, sym, subst, arith}
 use Rattle.std.proofs.lemmas.List.{append_assoc, length-append}
 use Rattle.geom.specs.declared.plan.RingPlan.{RingPlan}
-use Rattle.geom.specs.Fit.{AllFit}
+use Rattle.geom.specs.Fit.{AllFitAny}
 use Rattle.ringcore_laws.specs.declared.protocol.Step.{Step}
 use Rattle.ringcore_laws.specs.declared.protocol.Reply.{Reply}
 use Rattle.ringcore_laws.specs.Invariant.{Invariant}
@@ -39,7 +39,7 @@ replies_more plans pool actors (x ∷ xs) e right h = (right.0, replies_more pla
 
 pub run_more : (plans : List RingPlan) (pool : ℕ) (actors : List Actor) (entries : List (ℕ × Step)) (replies : List Reply) (rest : List (ℕ × Step))
     (rings new_rings : List Ring) (places new_places : List Place) (members new_members : List Member) (i : ℕ) (step : Step) (r : Reply)
-    → AllFit plans pool → (run : RunsTo plans pool actors entries replies ((i, step) ∷ rest) rings places members)
+    → AllFitAny plans pool → (run : RunsTo plans pool actors entries replies ((i, step) ∷ rest) rings places members)
     → ((now : List Actor) → Invariant plans pool now → ListsAgree plans pool rings places members now → (r ≡ reply_to plans pool now i step)
     × ListsAgree plans pool new_rings new_places new_members (after now record { actor = i; step = step; reply = r }))
     → RunsTo plans pool actors entries (replies ++ r ∷ []) rest new_rings new_places new_members
@@ -77,14 +77,14 @@ run_starts plans pool actors entries rings places members k agree = record { don
 pub run_goes_on : (plans : List RingPlan) (old new : World) (pool : ℕ) (actors : List Actor) (entries : List (ℕ × Step)) (replies : List Reply)
     (left rest : List (ℕ × Step)) (i : ℕ) (step : Step) (r : Reply)
     → (plans_of old) ≡ plans → left ≡ (i, step) ∷ rest
-    → ((pool : ℕ) (now : List Actor) → AllFit (plans_of old) pool → Invariant (plans_of old) pool now
+    → ((pool : ℕ) (now : List Actor) → AllFitAny (plans_of old) pool → Invariant (plans_of old) pool now
     → ListsAgree (plans_of old) pool (world_rings old) old.places.items old.members.items now
     → (r ≡ reply_to (plans_of old) pool now i step)
     × ListsAgree (plans_of old) pool (world_rings new) new.places.items new.members.items (after now record { actor = i; step = step; reply = r }))
-    → AllFit plans pool → RunsTo plans pool actors entries replies left (world_rings old) old.places.items old.members.items
+    → AllFitAny plans pool → RunsTo plans pool actors entries replies left (world_rings old) old.places.items old.members.items
     → RunsTo plans pool actors entries (replies ++ r ∷ []) rest (world_rings new) new.places.items new.members.items
 run_goes_on plans old new pool actors entries replies left rest i step r same first goes fits run =
-    let there = subst (λ (ps : List RingPlan). (pool : ℕ) (now : List Actor) → AllFit ps pool → Invariant ps pool now
+    let there = subst (λ (ps : List RingPlan). (pool : ℕ) (now : List Actor) → AllFitAny ps pool → Invariant ps pool now
     → ListsAgree ps pool (world_rings old) old.places.items old.members.items now
     → (r ≡ reply_to ps pool now i step)
     × ListsAgree ps pool (world_rings new) new.places.items new.members.items (after now record { actor = i; step = step; reply = r })) same goes in
@@ -127,13 +127,13 @@ events_are plans pool actors (s ∷ done) (r ∷ replies) same run =
 
 -- a list of steps that was not done to its end, of a world that is what a right history leaves
 pub beginning_followed : (old new : World) (entries : List (ℕ × Step)) → (plans_of new) ≡ (plans_of old)
-    → ((pool : ℕ) (actors : List Actor) → AllFit (plans_of old) pool → Invariant (plans_of old) pool actors
+    → ((pool : ℕ) (actors : List Actor) → AllFitAny (plans_of old) pool → Invariant (plans_of old) pool actors
     → ListsAgree (plans_of old) pool (world_rings old) old.places.items old.members.items actors
     → (replies : List Reply) × (rest : List (ℕ × Step))
     × RunsTo (plans_of old) pool actors entries replies rest (world_rings new) new.places.items new.members.items)
     → LeavesBeginning old new entries
 beginning_followed old new entries same goes h agree right =
-    let there = subst (λ (ps : List RingPlan). (pool : ℕ) (actors : List Actor) → AllFit ps pool → Invariant ps pool actors
+    let there = subst (λ (ps : List RingPlan). (pool : ℕ) (actors : List Actor) → AllFitAny ps pool → Invariant ps pool actors
     → ListsAgree ps pool (world_rings old) old.places.items old.members.items actors
     → (replies : List Reply) × (rest : List (ℕ × Step))
     × RunsTo ps pool actors entries replies rest (world_rings new) new.places.items new.members.items) agree.plans goes in

@@ -461,10 +461,10 @@ module _ (plans : List RingPlan) (pool : ℕ) (rings : List Ring) (members : Lis
           (subst (λ (v : Ring). RingAgrees plan parties_now ring v) (sym same_x) (agree.each_ring ring plan x hp hr))
           (λ r p z apart hp' hz. agree.each_ring r p z hp' hz)))
 
-  pub put_agrees : (items : List Item) (reply : Reply) (new_places : List Place) → reply ≡ put_reply plan ring parties_now a items a.party.span
+  pub put_agrees : (items : List Item) (reply : Reply) (new_places : List Place) → plan.geometry.last < 2 ^ 63 → reply ≡ put_reply plan ring parties_now a items a.party.span
       → PutResult plan ring m n x y places new_places items reply
       → BothAgree new_places (after_settle_put a items reply)
-  put_agrees items (Done c its) new_places answer r =
+  put_agrees items (Done c its) new_places low answer r =
       subst (λ (v : Option Span). BothAgree new_places record { party = settled_span a.party v items; observed = a.observed; cached = a.cached })
       (sym is_busy) (
         lift plans rings (slice_set rings ring y) members actors i b n agree lt
@@ -519,7 +519,7 @@ module _ (plans : List RingPlan) (pool : ℕ) (rings : List Ring) (members : Lis
       ends = ap (λ (v : Option Span). end_at v (length items)) (h.span ∙ is_busy)
 
       put : y.put ≡ words_moved_to plan.put x.put (s.start + length items)
-      put = did.put (omega (arith, ends, fits.0, own, (k.ruled.sides ring Put plan hp).last)) ∙ ap (words_moved_to plan.put x.put) ends
+      put = did.put (omega (arith, ends, fits.0, own, low, (k.ruled.sides ring Put plan hp).last)) ∙ ap (words_moved_to plan.put x.put) ends
 
       -- the row of slots has room
       room : length x.queue.items + length items ≤ x.queue.capacity
@@ -579,7 +579,7 @@ module _ (plans : List RingPlan) (pool : ℕ) (rings : List Ring) (members : Lis
 
       is_new_places : new_places ≡ with_items_at places ring s.start items
       is_new_places =
-          did.places (omega (arith, ends, fits.0, own, (k.ruled.sides ring Put plan hp).last))
+          did.places (omega (arith, ends, fits.0, own, low, (k.ruled.sides ring Put plan hp).last))
           ∙ ap (λ v. with_items_at places ring v items) (ap start_at (h.span ∙ is_busy))
 
       entries : EntriesAgree pool (slice_set rings ring y) new_places (slice_set members i n) (slice_set actors i b)
@@ -588,12 +588,12 @@ module _ (plans : List RingPlan) (pool : ℕ) (rings : List Ring) (members : Lis
           (entries_put pool rings places members actors i a b m n ring x y e ha hm hr small did.member.number refl s.start items
           (λ v some. held_at_is pool places i a m hand v ∙ passes (is_held a) numbers v mine.0 some) once starts did.taking (did.queue room) did.counted
           (λ v. left_after_put a span items v refl ∙ ap (λ w. holds tags v a.party - w) (times_in_is tags v items)))
-  put_agrees items _ new_places answer r = unchanged new_places (r.refused refl)
+  put_agrees items _ new_places low answer r = unchanged new_places (r.refused refl)
 
-  pub take_agrees : (count : ℕ) (reply : Reply) (new_places : List Place) → reply ≡ take_reply plan ring parties_now count a.party.span
+  pub take_agrees : (count : ℕ) (reply : Reply) (new_places : List Place) → plan.geometry.last < 2 ^ 63 → reply ≡ take_reply plan ring parties_now count a.party.span
       → TakeResult plan m n x y places new_places count reply
       → BothAgree new_places (after_settle_take a reply)
-  take_agrees count (Done c items) new_places answer r =
+  take_agrees count (Done c items) new_places low answer r =
       subst (λ (v : Option Span). BothAgree new_places record { party = settled_span a.party v items; observed = a.observed; cached = a.cached })
       (sym is_busy) (
         lift plans rings (slice_set rings ring y) members actors i b n agree lt
@@ -671,7 +671,7 @@ module _ (plans : List RingPlan) (pool : ℕ) (rings : List Ring) (members : Lis
       ends = ap (λ (v : Option Span). end_at v count) (h.span ∙ is_busy)
 
       taking : y.take ≡ words_moved_to plan.take x.take (s.start + length items)
-      taking = did.taking (omega (arith, ends, fits.0, own.1, (k.ruled.sides ring Take plan hp).last))
+      taking = did.taking (omega (arith, ends, fits.0, own.1, low, (k.ruled.sides ring Take plan hp).last))
           ∙ ap (words_moved_to plan.take x.take) (ends ∙ ap (λ v. s.start + v) (sym many))
 
       b : Actor
@@ -714,4 +714,4 @@ module _ (plans : List RingPlan) (pool : ℕ) (rings : List Ring) (members : Lis
           (entries_take pool rings places members actors i a b m n ring x y e ha hm hr small did.member.number refl count once at_tail did.queue did.counted
           (λ v. left_after_take a span items v refl (had v)
           ∙ ap (λ w. holds tags v a.party + w) (times_in_is tags v items ∙ ap (λ w. occurrences v (flat_map tags w)) is_items)))
-  take_agrees count _ new_places answer r = unchanged new_places (r.refused refl)
+  take_agrees count _ new_places low answer r = unchanged new_places (r.refused refl)

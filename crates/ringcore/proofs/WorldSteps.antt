@@ -7,7 +7,8 @@ use Rattle.geom.specs.declared.plan.Side.TheVariants.{Put, Take}
 use Rattle.geom.specs.declared.plan.How.{How}
 use Rattle.geom.specs.declared.plan.RingPlan.{RingPlan}
 use Rattle.geom.specs.Plan.{mode_of}
-use Rattle.geom.specs.Fit.{AllFit}
+use Rattle.geom.specs.Fit.{AllFitAny}
+use Rattle.geom.proofs.Words.{last_small}
 use Rattle.ringcore_laws.specs.declared.contents.Item.{Item}
 use Rattle.ringcore_laws.specs.declared.protocol.Step.{Step}
 use Rattle.ringcore_laws.specs.declared.protocol.Step.TheVariants.{Look, Room, Reserve, SettlePut, SettleTake, Stash, Unstash}
@@ -38,7 +39,7 @@ use Rattle.ringcore.proofs.SettleSteps.{put_answer_is, take_answer_is, put_agree
 use Rattle.ringcore.proofs.HandSteps.{each_queued, entries_kept, entries_stashed, entries_unstashed}
 
 module _ (plans : List RingPlan) (pool : ℕ) (rings : List Ring) (places : List Place) (members : List Member) (actors : List Actor) (i : ℕ)
-    (fits : AllFit plans pool)
+    (fits : AllFitAny plans pool)
     (k : Invariant plans pool actors) (agree : ListsAgree plans pool rings places members actors) (within : i < length members) where
   abbrev Goes : Step → Reply → List Ring → List Place → List Member → Type 0
   Goes step reply new_rings new_places new_members =
@@ -84,13 +85,13 @@ module _ (plans : List RingPlan) (pool : ℕ) (rings : List Ring) (places : List
   pub look_goes : (ring : ℕ) (side : Side) (reply : Reply) (new_members : List Member) → ring < length plans
       → ((m : Member) → slice_get members i ≡ Some m → new_members ≡ slice_set members i (member_looked m ring side reply))
       → ((m : Member) (plan : RingPlan) (r : Ring) → slice_get members i ≡ Some m → slice_get plans ring ≡ Some plan → slice_get rings ring ≡ Some r
-      → (l : RingSide Item) (a : Actor) → RuledSide (mode_of plan side) l → WordsAgree (mode_of plan side) l (side_words r side) → a.party.span ≡ m.span
-      → reply ≡ look_reply (mode_of plan side) l a)
+      → (l : RingSide Item) (a : Actor) → RuledSide plan.geometry (mode_of plan side) l → WordsAgree (mode_of plan side) l (side_words r side) → a.party.span ≡ m.span
+      → reply ≡ look_reply plan.geometry (mode_of plan side) l a)
       → Goes (Look ring side) reply rings places new_members
   look_goes ring side reply new_members in_plans member is =
       finish (Look ring side) reply rings places new_members
       (is mine.0 plan.0 x.0 mine.1 plan.1 x.1 (side_of (parties_of actors) ring side) me.0 (k.ruled.sides ring side plan.0 plan.1) (words side) (sym own.span)
-      ∙ sym (ap (λ o. on_ring o (λ p. look_reply (mode_of p side) (side_of (parties_of actors) ring side) me.0)) plan.1))
+      ∙ sym (ap (λ o. on_ring o (λ p. look_reply p.geometry (mode_of p side) (side_of (parties_of actors) ring side) me.0)) plan.1))
       (subst (λ (v : List Member). ListsAgree plans pool rings places v (slice_set actors i (after_step me.0 (Look ring side) reply)))
       (sym (member mine.0 mine.1))
       record {
@@ -160,7 +161,7 @@ module _ (plans : List RingPlan) (pool : ℕ) (rings : List Ring) (places : List
       → ((m : Member) → slice_get members i ≡ Some m → new_members ≡ slice_set members i (member_tried m ring side reply))
       → ((r : Ring) → slice_get rings ring ≡ Some r → new_rings ≡ slice_set rings ring (ring_tried r side reply))
       → ((m : Member) (plan : RingPlan) (r : Ring) → slice_get members i ≡ Some m → slice_get plans ring ≡ Some plan → slice_get rings ring ≡ Some r
-      → (l : RingSide Item) → RuledSide (mode_of plan side) l → WordsAgree (mode_of plan side) l (side_words r side) → TailFits plan m.observed
+      → (l : RingSide Item) → RuledSide plan.geometry (mode_of plan side) l → WordsAgree (mode_of plan side) l (side_words r side) → TailFits plan m.observed
       → reply ≡ (if is_some m.span then NoSpan else reserve_seen plan side how count l m.count (seen_on ring side m.observed)))
       → Goes (Reserve ring side how count) reply new_rings places new_members
   reserve_goes ring side how count reply new_rings new_members in_plans member rung is =
@@ -199,7 +200,7 @@ module _ (plans : List RingPlan) (pool : ℕ) (rings : List Ring) (places : List
           let look = k.observations i me.0 s lt (ap (λ (v : Actor). v.observed) (at me.0) ∙ (sym own.observed ∙ seen)) in
           let there = element plans s.ring look.known in
           let bound = k.ruled.sides s.ring (other_side s.side) there.0 there.1 in
-          omega (arith, look.tail_seen t tail, bound.behind, bound.last, (fits ring plan.0 plan.1).extent.small, (fits ring plan.0 plan.1).extent.spare)
+          omega (arith, look.tail_seen t tail, bound.behind, bound.last, last_small there.0.geometry (fits s.ring there.0 there.1).extent, (fits ring plan.0 plan.1).extent.small, (fits ring plan.0 plan.1).extent.spare)
 
       had : mine.0.count ≡ buffers_of_actor pool me.0
       had = hand.count
@@ -279,7 +280,7 @@ module _ (plans : List RingPlan) (pool : ℕ) (rings : List Ring) (places : List
           (slice_set actors i (after_step me.0 (SettlePut ring items) reply))
       both =
           put_agrees plans pool rings members actors i me.0 mine.0 done.0 ring plan.0 x.0 done.1 agree.spans lt at k own plan.1 x.1 places agree.entries me.1
-          mine.1 small items reply new_places answer done.4
+          mine.1 small items reply new_places (last_small plan.0.geometry (fits ring plan.0 plan.1).extent) answer done.4
 
   pub take_goes : (ring count : ℕ) (reply : Reply) (new_rings : List Ring) (new_places : List Place) (new_members : List Member)
       → length places < 2 ^ 64 → ring < length plans
@@ -318,7 +319,7 @@ module _ (plans : List RingPlan) (pool : ℕ) (rings : List Ring) (places : List
           (slice_set actors i (after_step me.0 (SettleTake ring count) reply))
       both =
           take_agrees plans pool rings members actors i me.0 mine.0 done.0 ring plan.0 x.0 done.1 agree.spans lt at k own plan.1 x.1 places agree.entries me.1
-          mine.1 small count reply new_places answer done.4
+          mine.1 small count reply new_places (last_small plan.0.geometry (fits ring plan.0 plan.1).extent) answer done.4
 
   -- a local step, which leaves rings and members as they are
   local : (step : Step) (reply : Reply) (new_places : List Place) → reply ≡ actor_reply plans pool (parties_of actors) me.0 step

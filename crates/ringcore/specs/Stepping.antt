@@ -1,7 +1,7 @@
 -- What a step finds in a world, and what it leaves there
 use Rattle.std.specs.Prelude.{ℕ, ◌≡◌, List, slice_get, slice_set, vec_len, Some}
 use Rattle.geom.specs.declared.plan.RingPlan.{RingPlan}
-use Rattle.geom.specs.Fit.{AllFit}
+use Rattle.geom.specs.Fit.{AllFitAny}
 use Rattle.ringcore_laws.specs.declared.protocol.Step.{Step}
 use Rattle.ringcore_laws.specs.declared.protocol.Reply.{Reply}
 use Rattle.ringcore_laws.specs.Invariant.{Invariant}
@@ -57,7 +57,7 @@ BothSet old new actor ring P = (n : Member) × (y : Ring) × SetMember old new a
 -- after it
 abbrev pub Answers : World → World → ℕ → Step → Reply → Type 0
 Answers old new actor step reply =
-    (pool : ℕ) (actors : List Actor) → AllFit (plans_of old) pool → Invariant (plans_of old) pool actors
+    (pool : ℕ) (actors : List Actor) → AllFitAny (plans_of old) pool → Invariant (plans_of old) pool actors
     → ListsAgree (plans_of old) pool (world_rings old) old.places.items old.members.items actors
     → (reply ≡ reply_to (plans_of old) pool actors actor step)
     × ListsAgree (plans_of old) pool (world_rings new) new.places.items new.members.items
@@ -66,14 +66,14 @@ Answers old new actor step reply =
 -- the same for entries with these replies, without the rest
 abbrev pub AnswersAll : World → World → List (ℕ × Step) → List Reply → List (ℕ × Step) → Type 0
 AnswersAll old new entries replies rest =
-    (pool : ℕ) (actors : List Actor) → AllFit (plans_of old) pool → Invariant (plans_of old) pool actors
+    (pool : ℕ) (actors : List Actor) → AllFitAny (plans_of old) pool → Invariant (plans_of old) pool actors
     → ListsAgree (plans_of old) pool (world_rings old) old.places.items old.members.items actors
     → RunsTo (plans_of old) pool actors entries replies rest (world_rings new) new.places.items new.members.items
 
 -- the same for some prefix
 abbrev pub AnswersSome : World → World → List (ℕ × Step) → Type 0
 AnswersSome old new entries =
-    (pool : ℕ) (actors : List Actor) → AllFit (plans_of old) pool → Invariant (plans_of old) pool actors
+    (pool : ℕ) (actors : List Actor) → AllFitAny (plans_of old) pool → Invariant (plans_of old) pool actors
     → ListsAgree (plans_of old) pool (world_rings old) old.places.items old.members.items actors
     → (replies : List Reply) × (rest : List (ℕ × Step))
     × RunsTo (plans_of old) pool actors entries replies rest (world_rings new) new.places.items new.members.items

@@ -17,9 +17,9 @@ use ringcore_laws::{Observed, Reply};
 
 /// Loads the own word of a side; the member keeps the word found, unless the side is busy.
 pub fn look(plan: &RingPlan, ring: &Ring, number: usize, side: Side, member: &mut Member) -> Reply
-    ensures reply { (l : RingSide AnItem) (a : Actor) → RuledSide (mode_of plan.now side) l
+    ensures reply { (l : RingSide AnItem) (a : Actor) → RuledSide plan.now.geometry (mode_of plan.now side) l
         → WordsAgree (mode_of plan.now side) l (side_words ring.now side)
-        → a.party.span ≡ member.old.span → result ≡ look_reply (mode_of plan.now side) l a }
+        → a.party.span ≡ member.old.span → result ≡ look_reply plan.now.geometry (mode_of plan.now side) l a }
     ensures after { member.new ≡ member_looked member.old number side result }
 {
     if member.span.is_some() {
@@ -30,7 +30,7 @@ pub fn look(plan: &RingPlan, ring: &Ring, number: usize, side: Side, member: &mu
         Side::Put => &ring.put,
         Side::Take => &ring.take,
     };
-    let word = words.word(mode);
+    let word = words.word(plan.geometry, mode);
     if words.is_busy(mode) {
         member.observed = None;
         return Reply::Busy(word);

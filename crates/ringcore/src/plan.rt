@@ -6,7 +6,7 @@ ghost use Rattle.ringcore_laws.specs.Runs.{IsPlan};
 ghost use Rattle.ringcore.specs.Fault.{number_of};
 ghost use Rattle.ringcore.specs.Opening.{AreFew};
 
-use geom::{MAX_ACTORS, MAX_RINGS, RingPlan, all_fit};
+use geom::{MAX_ACTORS, MAX_CAPACITY, MAX_RINGS, RingPlan, all_fit};
 use thiserror::Error;
 
 /// The maximum number of buffers, as a `usize`.
@@ -56,7 +56,7 @@ impl WorldPlan {
         if !are_below(&self.gifts, self.actors) {
             return false;
         }
-        all_fit(&self.rings, self.gifts.len() as u64)
+        all_fit(&self.rings, self.gifts.len() as u64, MAX_CAPACITY)
     }
 }
 

@@ -28,7 +28,7 @@ pub fn reserve(
     count: u64,
     member: &mut Member,
 ) -> Reply
-    ensures reply { (l : RingSide AnItem) → RuledSide (mode_of plan.now side) l
+    ensures reply { (l : RingSide AnItem) → RuledSide plan.now.geometry (mode_of plan.now side) l
         → WordsAgree (mode_of plan.now side) l (side_words ring.old side)
         → TailFits plan.now member.old.observed
         → result ≡ reserve_answer plan.now number side how count l member.old }
@@ -50,7 +50,7 @@ fn reserve_on(
     count: u64,
     member: &mut Member,
 ) -> Reply
-    ensures reply { (l : RingSide AnItem) → RuledSide (mode_of plan.now side) l
+    ensures reply { (l : RingSide AnItem) → RuledSide plan.now.geometry (mode_of plan.now side) l
         → WordsAgree (mode_of plan.now side) l words.old
         → TailFits plan.now member.old.observed
         → result ≡ reserve_answer plan.now number side how count l member.old }
@@ -76,7 +76,7 @@ fn reserve_seen(
     had: u64,
     observed: Option<Observed>,
 ) -> Reply
-    ensures reply { (l : RingSide AnItem) → RuledSide (mode_of plan.now side) l
+    ensures reply { (l : RingSide AnItem) → RuledSide plan.now.geometry (mode_of plan.now side) l
         → WordsAgree (mode_of plan.now side) l words.old → TailFits plan.now observed
         → result ≡ seen_reply plan.now side how count l had (seen_on number side observed) }
     ensures words { words.new ≡ words_after words.old result }

@@ -51,7 +51,8 @@ fn publish(
     ensures { IsPublished plan.now number member.old member.new ring.old ring.new places.old places.new items.items }
 {
     let start = first_of(member.span);
-    // A span that was granted ends at `LAST` at most, so the sum is exact; the member alone doesn't show that.
+    // A span that was granted ends at the ring's last position at most, so the sum is exact; the member alone doesn't
+    // show that.
     let end = start.saturating_add(items.len() as u64);
     queue_items(places, number, start, &items);
     // The member holds the buffers of a put that is done, so the difference is exact; its count alone doesn't show

@@ -31,7 +31,7 @@ module _ {I : Type 0} where
       → ((r : ℕ) (plan : RingPlan) (side : Side) → slice_get plans r ≡ Some plan → side_of after r side ≡ side_of before r side)
       → ((k : ℕ) (d : Party I) → k < length after → (s : Span) → (slice_index_or after k d).span ≡ Some s → RuledSpan plans before s) → HeadTailRule plans after
   orderly_as plans before after o same spans = record {
-    sides = λ r side plan h. subst (λ (v : RingSide I). RuledSide (mode_of plan side) v) (sym (same r plan side h)) (o.sides r side plan h);
+    sides = λ r side plan h. subst (λ (v : RingSide I). RuledSide plan.geometry (mode_of plan side) v) (sym (same r plan side h)) (o.sides r side plan h);
     room = λ r plan h. omega (
       arith,
       o.room r plan h,

@@ -10,7 +10,7 @@ use Rattle.geom.specs.declared.plan.Mode.TheVariants.{Multi, Hts}
 use Rattle.geom.specs.declared.plan.Side.{Side}
 use Rattle.geom.specs.declared.plan.Side.TheVariants.{Put, Take}
 use Rattle.geom.specs.declared.plan.RingPlan.{RingPlan}
-use Rattle.geom.specs.declared.word.TheConstants.{LAST, RESERVED_RANGE}
+use Rattle.geom.specs.Extent.{Extent, range_of}
 use Rattle.geom.specs.Plan.{mode_of}
 use Rattle.ringcore_laws.specs.declared.protocol.Span.{Span}
 use Rattle.ringcore_laws.specs.declared.party.Party.{Party}
@@ -152,11 +152,11 @@ module _ {I : Type 0} where
     pub multi : mode ≡ Multi → start ≡ l.reach
     pub hts : mode ≡ Hts → (start ≡ l.len) × (l.open_count ≡ 0)
 
-  pub next_above : (parties : List (Party I)) (ring : ℕ) (side : Side) (mode : Mode) (start : ℕ) → RuledSide mode (side_of parties ring side)
+  pub next_above : (parties : List (Party I)) (ring : ℕ) (side : Side) (e : Extent) (mode : Mode) (start : ℕ) → RuledSide e mode (side_of parties ring side)
       → IsNext mode (side_of parties ring side) start
       → ((side_of parties ring side).len ≤ start) × ((p : ℕ) → start ≤ p → (side_of parties ring side).openers p ≡ 0)
-  next_above parties ring side Multi start o n =
-      let e = n.multi refl in (
+  next_above parties ring side e Multi start o n =
+      let is = n.multi refl in (
         omega (arith, o.behind),
         λ p le. elim (below_or_not 0 ((side_of parties ring side).openers p)) [
           | inl h ↦
@@ -164,12 +164,12 @@ module _ {I : Type 0} where
           | inr none ↦ omega arith
         ],
       )
-  next_above parties ring side Hts start o n =
-      let e = n.hts refl in (
-        omega (arith, e.0),
+  next_above parties ring side e Hts start o n =
+      let is = n.hts refl in (
+        omega (arith, is.0),
         λ p le. elim (below_or_not 0 ((side_of parties ring side).openers p)) [
           | inl h ↦
-              absurd (omega (arith, (reserved_tells parties ring side p h).1, e.1))
+              absurd (omega (arith, (reserved_tells parties ring side p h).1, is.1))
           | inr none ↦ omega arith
         ],
       )
@@ -224,16 +224,16 @@ module _ {I : Type 0} where
       → i < length parties → (slice_index_or parties i d).span ≡ None
       → slice_get plans span.ring ≡ Some plan → 0 < span.count → span.ring < length plans
       → IsNext (mode_of plan span.side) (side_of parties span.ring span.side) span.start
-      → span.start + span.count ≤ LAST → span.start + span.count ≤ limit plan.geometry parties span.ring span.side
-      → (mode_of plan span.side ≡ Hts → span.count < RESERVED_RANGE) → HeadTailRule plans (reserved_by parties i d span)
+      → span.start + span.count ≤ plan.geometry.last → span.start + span.count ≤ limit plan.geometry parties span.ring span.side
+      → (mode_of plan span.side ≡ Hts → span.count < range_of plan.geometry) → HeadTailRule plans (reserved_by parties i d span)
   orderly_reserved plans parties i d span plan o lt idle there some known next last within small = record {
     sides = λ r side plan' h. elim (other_side_reserved parties i d span r side lt idle) [
       | inl own ↦
           let e : plan' ≡ plan = same_plan' (sym h ∙ (ap (slice_get plans) own.0 ∙ there)) in
-          subst (λ (v : ℕ). RuledSide (mode_of plan' side) (side_of new v side)) (sym own.0)
-          (subst (λ (v : Side). RuledSide (mode_of plan' v) (side_of new span.ring v)) (sym own.1)
-          (subst (λ (v : RingPlan). RuledSide (mode_of v span.side) (side_of new span.ring span.side)) (sym e) own_side))
-      | inr same ↦ subst (λ (v : RingSide I). RuledSide (mode_of plan' side) v) (sym same) (o.sides r side plan' h)
+          subst (λ (v : ℕ). RuledSide plan'.geometry (mode_of plan' side) (side_of new v side)) (sym own.0)
+          (subst (λ (v : Side). RuledSide plan'.geometry (mode_of plan' v) (side_of new span.ring v)) (sym own.1)
+          (subst (λ (v : RingPlan). RuledSide v.geometry (mode_of v span.side) (side_of new span.ring span.side)) (sym e) own_side))
+      | inr same ↦ subst (λ (v : RingSide I). RuledSide plan'.geometry (mode_of plan' side) v) (sym same) (o.sides r side plan' h)
     ];
     room = λ r plan' h.
         let put = step r Put in
@@ -282,7 +282,7 @@ module _ {I : Type 0} where
           cond_le true n = omega arith
           cond_le false n = omega arith
 
-      old_side : RuledSide (mode_of plan span.side) (side_of parties span.ring span.side)
+      old_side : RuledSide plan.geometry (mode_of plan span.side) (side_of parties span.ring span.side)
       old_side = o.sides span.ring span.side plan there
 
       on : is_on span.ring span.side span.ring span.side ≡ true
@@ -291,7 +291,7 @@ module _ {I : Type 0} where
       end : span_end span.ring span.side (Some span) ≡ span.start + span.count
       end = ap (λ v. if v then span.start + span.count else 0) on
 
-      own_side : RuledSide (mode_of plan span.side) (side_of new span.ring span.side)
+      own_side : RuledSide plan.geometry (mode_of plan span.side) (side_of new span.ring span.side)
       own_side = record {
         behind = omega (arith, old_side.behind, (step span.ring span.side).len, (step span.ring span.side).reach);
         last = omega (arith, old_side.last, (step span.ring span.side).reach, end);
@@ -355,10 +355,10 @@ module _ {I : Type 0} where
     sides = λ r side plan' h. elim (on_or_off span.ring r span.side side) [
       | inl own ↦
           let e : plan' ≡ plan = same_plan' (sym h ∙ (ap (slice_get plans) own.0 ∙ there)) in
-          subst (λ (v : ℕ). RuledSide (mode_of plan' side) (side_of new v side)) (sym own.0)
-          (subst (λ (v : Side). RuledSide (mode_of plan' v) (side_of new span.ring v)) (sym own.1)
-          (subst (λ (v : RingPlan). RuledSide (mode_of v span.side) (side_of new span.ring span.side)) (sym e) own_side))
-      | inr off ↦ subst (λ (v : RingSide I). RuledSide (mode_of plan' side) v) (sym (other r side off)) (o.sides r side plan' h)
+          subst (λ (v : ℕ). RuledSide plan'.geometry (mode_of plan' side) (side_of new v side)) (sym own.0)
+          (subst (λ (v : Side). RuledSide plan'.geometry (mode_of plan' v) (side_of new span.ring v)) (sym own.1)
+          (subst (λ (v : RingPlan). RuledSide v.geometry (mode_of v span.side) (side_of new span.ring span.side)) (sym e) own_side))
+      | inr off ↦ subst (λ (v : RingSide I). RuledSide plan'.geometry (mode_of plan' side) v) (sym (other r side off)) (o.sides r side plan' h)
     ];
     room = λ r plan' h. omega (arith, o.room r plan' h, (step r Put).reach, (step r Put).own_end, ends r Put, (step r Take).len);
     spans = λ k d' s lt' busy'. elim (same_or_not k i) [
@@ -397,7 +397,7 @@ module _ {I : Type 0} where
           cond_le true = omega arith
           cond_le false = omega arith
 
-      old_side : RuledSide (mode_of plan span.side) (side_of parties span.ring span.side)
+      old_side : RuledSide plan.geometry (mode_of plan span.side) (side_of parties span.ring span.side)
       old_side = o.sides span.ring span.side plan there
 
       on : is_on span.ring span.side span.ring span.side ≡ true
@@ -409,7 +409,7 @@ module _ {I : Type 0} where
       count : settled_count span.ring span.side done ≡ length items
       count = ap (λ v. if v then length items else 0) on
 
-      own_side : RuledSide (mode_of plan span.side) (side_of new span.ring span.side)
+      own_side : RuledSide plan.geometry (mode_of plan span.side) (side_of new span.ring span.side)
       own_side =
           let s = step span.ring span.side in
           let e = ends span.ring span.side in

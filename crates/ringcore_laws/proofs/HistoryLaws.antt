@@ -1,5 +1,5 @@
 -- Every history in which each reply is the one to its step is sound after each event
-use Rattle.std.proofs.Common.{ℕ, zero, suc, ◌+◌, ◌-◌, ◌*◌, ◌<◌, ◌≤◌, ◌≢◌, ◌≡◌, ◌⊎◌, inl, inr, List, [], ◌∷◌, length, take, drop, refl, ap, sym, subst, ◌∙◌}
+use Rattle.std.proofs.Common.{ℕ, zero, suc, ◌+◌, ◌-◌, ◌*◌, ◌/◌, ◌<◌, ◌≤◌, ◌≢◌, ◌≡◌, ◌⊎◌, inl, inr, List, [], ◌∷◌, length, take, drop, refl, ap, sym, subst, ◌∙◌}
 use Rattle.std.proofs.Common.{arith, true, false, Bool}
 use Rattle.std.specs.Prelude.{slice_get, slice_set, slice_index_or, Option, Some, None, is_some, not, ◌&&◌, ◌||◌, ◌==◌, nat_lt, if◌then◌else◌}
 use Rattle.std.specs.List.{list_all, flat_map, filter}
@@ -7,6 +7,7 @@ use Rattle.std.proofs.lemmas.List.{length-set, length-take, length-drop, get_or-
 use Rattle.std.proofs.lemmas.List.Sums.{sum_by-cons}
 use Rattle.std.proofs.lemmas.Option.{slice_get_within, get_or_from_slice_get}
 use Rattle.std.proofs.lemmas.Bool.Decides.{nat_tests}
+use Rattle.std.proofs.lemmas.Nat.{same_from_place}
 use Rattle.geom.specs.declared.plan.Mode.{Mode}
 use Rattle.geom.specs.declared.plan.Mode.TheVariants.{Multi, Hts}
 use Rattle.geom.specs.declared.plan.Side.{Side}
@@ -14,10 +15,10 @@ use Rattle.geom.specs.declared.plan.Side.TheVariants.{Put, Take}
 use Rattle.geom.specs.declared.plan.How.{How}
 use Rattle.geom.specs.declared.plan.How.TheVariants.{Bulk, Burst}
 use Rattle.geom.specs.declared.plan.RingPlan.{RingPlan}
-use Rattle.geom.specs.declared.word.TheConstants.{LAST, RESERVED_RANGE}
-use Rattle.geom.specs.Extent.{IsExtent}
+use Rattle.geom.specs.Extent.{Extent, range_of}
 use Rattle.geom.specs.Plan.{mode_of, granted}
-use Rattle.geom.specs.Fit.{AllFit}
+use Rattle.geom.specs.Fit.{AllFitAny, FitsAny}
+use Rattle.geom.proofs.Words.{position_back}
 use Rattle.ringcore_laws.specs.declared.contents.Item.{Item}
 use Rattle.ringcore_laws.specs.declared.protocol.Step.{Step}
 use Rattle.ringcore_laws.specs.declared.protocol.Step.TheVariants.{Look, Room, Reserve, SettlePut, SettleTake, Stash, Unstash}
@@ -46,15 +47,17 @@ pub on_true : (ring r : ℕ) (side s : Side) → is_on ring side r s ≡ true �
 on_true ring r side s on = elim (on_or_off ring r side s) [ inl own ↦ own | inr off ↦ absurd (let h : true ≡ false = sym on ∙ off in cc) ]
 
 -- an own word that is the word looked at shows where the next span starts
-pub is_next : {I : Type 0} (mode : Mode) (l : RingSide I) (word : ℕ) → own_word mode l ≡ word → (mode ≡ Hts → (q : ℕ) × (word ≡ q * RESERVED_RANGE))
-    → (mode ≡ Hts → l.open_count < RESERVED_RANGE) → IsNext mode l (position_of mode word)
-is_next Multi l word won whole small = record { multi = λ _. sym won; hts = λ h. absurd (let h' : Multi ≡ Hts = h in cc) }
-is_next Hts l word won whole small =
+pub is_next : {I : Type 0} (e : Extent) (mode : Mode) (l : RingSide I) (word : ℕ) → own_word e mode l ≡ word
+    → (mode ≡ Hts → (q : ℕ) × (word ≡ q * range_of e)) → (mode ≡ Hts → l.open_count < range_of e) → IsNext mode l (position_of e mode word)
+is_next e Multi l word won whole small = record { multi = λ _. sym won; hts = λ h. absurd (let h' : Multi ≡ Hts = h in cc) }
+is_next e Hts l word won whole small =
     let q = (whole refl).0 in
-    let e : word ≡ q * RESERVED_RANGE = (whole refl).1 in
+    let is : word ≡ q * range_of e = (whole refl).1 in
     let lt = small refl in
-    let same : l.len ≡ q = omega arith in
-    record { multi = λ h. absurd (let h' : Hts ≡ Multi = h in cc); hts = λ _. (omega arith, omega arith) }
+    let both : l.len * range_of e + l.open_count ≡ q * range_of e + 0 = omega (arith, won) in
+    let same = same_from_place l.len l.open_count q 0 (range_of e) lt (omega arith) both in
+    let start : word / range_of e ≡ q = ap (λ n. n / range_of e) (let whole_word : word ≡ q * range_of e + 0 = omega arith in whole_word) ∙ position_back e q 0 (omega arith) in
+    record { multi = λ h. absurd (let h' : Hts ≡ Multi = h in cc); hts = λ _. (omega (arith, same.0), omega (arith, same.1)) }
 
 -- how a settle's count fits its span
 pub settle_fits : (mode : Mode) (count reserved : ℕ) → is_bad_settle mode count reserved ≡ false → (count ≤ reserved) × (mode ≡ Multi → count ≡ reserved)
@@ -191,13 +194,13 @@ module _ (plans : List RingPlan) (pool : ℕ) (actors : List Actor) (i : ℕ) (a
   lookless = same_party record { party = a.party; observed = None; cached = a.cached } refl (λ s h. absurd (let h' : None ≡ Some s = h in cc))
 
   look_kept : (ring : ℕ) (side : Side) (plan : RingPlan) → slice_get plans ring ≡ Some plan
-      → Invariant plans pool (slice_set actors i (after_step a (Look ring side) (look_reply (mode_of plan side) (side_of (parties_of actors) ring side) a)))
+      → Invariant plans pool (slice_set actors i (after_step a (Look ring side) (look_reply plan.geometry (mode_of plan side) (side_of (parties_of actors) ring side) a)))
   look_kept ring side plan there =
-      if_cases P (is_some a.party.span) NoSpan (if is_busy mode l then Busy (own_word mode l) else Seen (own_word mode l)) (λ _. unchanged)
-      (λ _. if_cases P (is_busy mode l) (Busy (own_word mode l)) (Seen (own_word mode l)) (λ _. lookless)
+      if_cases P (is_some a.party.span) NoSpan (if is_busy mode l then Busy (own_word plan.geometry mode l) else Seen (own_word plan.geometry mode l)) (λ _. unchanged)
+      (λ _. if_cases P (is_busy mode l) (Busy (own_word plan.geometry mode l)) (Seen (own_word plan.geometry mode l)) (λ _. lookless)
       (λ idle. same_party record {
         party = a.party;
-        observed = Some record { ring = ring; side = side; looked_at = own_word mode l; tail_seen = None };
+        observed = Some record { ring = ring; side = side; looked_at = own_word plan.geometry mode l; tail_seen = None };
         cached =
             a.cached;
       } refl
@@ -205,7 +208,8 @@ module _ (plans : List RingPlan) (pool : ℕ) (actors : List Actor) (i : ℕ) (a
         known = slice_get_within plans ring plan there;
         whole = λ plan' h' hts.
             let e : plan' ≡ plan = same_plan (sym h' ∙ there) in
-            whole mode (ap (λ (v : RingPlan). mode_of v side) (sym e) ∙ hts) idle;
+            let found = whole mode (ap (λ (v : RingPlan). mode_of v side) (sym e) ∙ hts) idle in
+            (found.0, found.1 ∙ ap (λ (v : RingPlan). found.0 * range_of v.geometry) (sym e));
         tail_seen = λ t h'. absurd (let h'' : None ≡ Some t = h' in cc);
       })))
     where
@@ -218,7 +222,7 @@ module _ (plans : List RingPlan) (pool : ℕ) (actors : List Actor) (i : ℕ) (a
       P : Reply → Type 0
       P r = Invariant plans pool (slice_set actors i (after_step a (Look ring side) r))
 
-      whole : (m : Mode) → m ≡ Hts → is_busy m l ≡ false → (q : ℕ) × (own_word m l ≡ q * RESERVED_RANGE)
+      whole : (m : Mode) → m ≡ Hts → is_busy m l ≡ false → (q : ℕ) × (own_word plan.geometry m l ≡ q * range_of plan.geometry)
       whole Multi h idle = absurd (let h' : Multi ≡ Hts = h in cc)
       whole Hts h idle = (l.len, let none : l.open_count ≡ 0 = grind (arith, nat_tests) in omega arith)
 
@@ -255,9 +259,9 @@ module _ (plans : List RingPlan) (pool : ℕ) (actors : List Actor) (i : ℕ) (a
           }))
 
   -- a span is reserved
-  reserved_kept : (ring : ℕ) (side : Side) (plan : RingPlan) (start count : ℕ) → slice_get plans ring ≡ Some plan → IsExtent plan.geometry → a.party.span ≡ None
+  reserved_kept : (ring : ℕ) (side : Side) (plan : RingPlan) (start count : ℕ) → slice_get plans ring ≡ Some plan → FitsAny plan pool → a.party.span ≡ None
       → 0 < count
-      → IsNext (mode_of plan side) (side_of (parties_of actors) ring side) start → start + count ≤ LAST
+      → IsNext (mode_of plan side) (side_of (parties_of actors) ring side) start → start + count ≤ plan.geometry.last
       → start + count ≤ limit plan.geometry (parties_of actors) ring side
       → Invariant plans pool (slice_set actors i record {
         party =
@@ -265,9 +269,9 @@ module _ (plans : List RingPlan) (pool : ℕ) (actors : List Actor) (i : ℕ) (a
         observed = None;
         cached = a.cached;
       })
-  reserved_kept ring side plan start count there extent idle some next last room = record {
+  reserved_kept ring side plan start count there fit idle some next last room = record {
     sound = subst (λ (v : List (Party Item)). Sound tags plans pool v) (sym is_new)
-        (reserve_keeps tags plans pool parties i a.party span plan k.sound lt' idle' there extent.spare
+        (reserve_keeps tags plans pool parties i a.party span plan k.sound lt' idle' there fit.extent.spare
         (record { behind = above.0; above = above.1; room = room }));
     ruled = subst (λ (v : List (Party Item)). HeadTailRule plans v) (sym is_new)
         (orderly_reserved plans parties i a.party span plan k.ruled lt' idle' there some (slice_get_within plans ring plan there) next last room small);
@@ -298,26 +302,26 @@ module _ (plans : List RingPlan) (pool : ℕ) (actors : List Actor) (i : ℕ) (a
       is_new = parties_set actors i b ∙ ap (λ (v : Party Item). slice_set parties i (with_open v span)) (sym here)
 
       above : ((side_of parties ring side).len ≤ start) × ((p : ℕ) → start ≤ p → (side_of parties ring side).openers p ≡ 0)
-      above = next_above parties ring side (mode_of plan side) start (k.ruled.sides ring side plan there) next
+      above = next_above parties ring side plan.geometry (mode_of plan side) start (k.ruled.sides ring side plan there) next
 
       ring_sound : SoundRing plan.geometry (side_of parties ring Put) (side_of parties ring Take)
       ring_sound = k.sound.rings ring plan there
 
-      small : mode_of plan side ≡ Hts → count < RESERVED_RANGE
+      small : mode_of plan side ≡ Hts → count < range_of plan.geometry
       small hts = by_side side (next.hts hts).0 room
         where
-          by_side : (v : Side) → start ≡ (side_of parties ring v).len → start + count ≤ limit plan.geometry parties ring v → count < RESERVED_RANGE
-          by_side Put first fits = omega (arith, extent.small, takes_le_puts plan.geometry (side_of parties ring Put) (side_of parties ring Take) ring_sound)
-          by_side Take first fits = omega (arith, extent.small, ring_sound.within_capacity)
+          by_side : (v : Side) → start ≡ (side_of parties ring v).len → start + count ≤ limit plan.geometry parties ring v → count < range_of plan.geometry
+          by_side Put first fits = omega (arith, fit.extent.spare, fit.extent.small, fit.counts side hts, takes_le_puts plan.geometry (side_of parties ring Put) (side_of parties ring Take) ring_sound)
+          by_side Take first fits = omega (arith, fit.extent.spare, fit.extent.small, fit.counts side hts, ring_sound.within_capacity)
 
   granted_le : (how : How) (count room : ℕ) → granted how count room ≤ room
   granted_le Bulk count room = grind (arith, nat_tests)
   granted_le Burst count room = omega arith
 
-  reserve_kept : (ring : ℕ) (side : Side) (how : How) (count : ℕ) (plan : RingPlan) → slice_get plans ring ≡ Some plan → IsExtent plan.geometry
+  reserve_kept : (ring : ℕ) (side : Side) (how : How) (count : ℕ) (plan : RingPlan) → slice_get plans ring ≡ Some plan → FitsAny plan pool
       → Invariant plans pool (slice_set actors i (after_step a (Reserve ring side how count)
       (reserve_reply plan pool ring side how count (side_of (parties_of actors) ring side) a)))
-  reserve_kept ring side how count plan there extent =
+  reserve_kept ring side how count plan there fit =
       if_cases P (is_some a.party.span) NoSpan (reserve_seen plan side how count l had (seen_on ring side a.observed)) (λ _. unchanged)
       (λ idle. by_sight (none_of a.party.span idle) a.observed refl)
     where
@@ -346,17 +350,17 @@ module _ (plans : List RingPlan) (pool : ℕ) (actors : List Actor) (i : ℕ) (a
           by_tail None h' on = unchanged
           by_tail (Some t) h' on =
               if_cases P (is_bad_reserve side plan.free count had) BadCount
-              (if m == 0 then NoRoom room else if nat_lt LAST (position + m) then Worn
-              else if own_word mode l == s.looked_at then Granted position m (room - m) else Contended (own_word mode l)) (λ _. lookless)
-              (λ _. if_cases P (m == 0) (NoRoom room) (if nat_lt LAST (position + m) then Worn
-              else if own_word mode l == s.looked_at then Granted position m (room - m) else Contended (own_word mode l)) (λ _. lookless)
-              (λ some. if_cases P (nat_lt LAST (position + m)) Worn
-              (if own_word mode l == s.looked_at then Granted position m (room - m) else Contended (own_word mode l)) (λ _. lookless)
-              (λ last. if_cases P (own_word mode l == s.looked_at) (Granted position m (room - m)) (Contended (own_word mode l))
+              (if m == 0 then NoRoom room else if nat_lt plan.geometry.last (position + m) then Worn
+              else if own_word plan.geometry mode l == s.looked_at then Granted position m (room - m) else Contended (own_word plan.geometry mode l)) (λ _. lookless)
+              (λ _. if_cases P (m == 0) (NoRoom room) (if nat_lt plan.geometry.last (position + m) then Worn
+              else if own_word plan.geometry mode l == s.looked_at then Granted position m (room - m) else Contended (own_word plan.geometry mode l)) (λ _. lookless)
+              (λ some. if_cases P (nat_lt plan.geometry.last (position + m)) Worn
+              (if own_word plan.geometry mode l == s.looked_at then Granted position m (room - m) else Contended (own_word plan.geometry mode l)) (λ _. lookless)
+              (λ last. if_cases P (own_word plan.geometry mode l == s.looked_at) (Granted position m (room - m)) (Contended (own_word plan.geometry mode l))
               (λ won. grant (grind (arith, nat_tests)) (grind (arith, nat_tests)) (grind (arith, nat_tests))) (λ _. lookless))))
             where
               position : ℕ
-              position = position_of mode s.looked_at
+              position = position_of plan.geometry mode s.looked_at
 
               room : ℕ
               room = room_by_look side plan.geometry.capacity position t
@@ -364,10 +368,10 @@ module _ (plans : List RingPlan) (pool : ℕ) (actors : List Actor) (i : ℕ) (a
               m : ℕ
               m = granted how count room
 
-              grant : 0 < m → position + m ≤ LAST → own_word mode l ≡ s.looked_at → P (Granted position m (room - m))
+              grant : 0 < m → position + m ≤ plan.geometry.last → own_word plan.geometry mode l ≡ s.looked_at → P (Granted position m (room - m))
               grant some last won =
-                  reserved_kept ring side plan position m there extent idle some
-                  (is_next mode l s.looked_at won (λ hts. seen.whole plan (ap (slice_get plans) (sym place.0) ∙ there) (ap (mode_of plan) (sym place.1) ∙ hts))
+                  reserved_kept ring side plan position m there fit idle some
+                  (is_next plan.geometry mode l s.looked_at won (λ hts. seen.whole plan (ap (slice_get plans) (sym place.0) ∙ there) (ap (mode_of plan) (sym place.1) ∙ hts))
                   (k.ruled.sides ring side plan there).small)
                   last (fits side bound (granted_le how count room))
                 where
@@ -428,21 +432,21 @@ module _ (plans : List RingPlan) (pool : ℕ) (actors : List Actor) (i : ℕ) (a
           by_tail None is on = λ s m f h. absurd (let u : NoSpan ≡ Granted s m f = h in cc)
           by_tail (Some t) is on =
               if_cases P (is_bad_reserve side plan.free count had) BadCount
-              (if many == 0 then NoRoom room else if nat_lt LAST (position + many) then Worn
-              else if own_word mode l == s.looked_at then Granted position many (room - many)
-              else Contended (own_word mode l)) (λ _ s m f h. absurd (let u : BadCount ≡ Granted s m f = h in cc))
-              (λ _. if_cases P (many == 0) (NoRoom room) (if nat_lt LAST (position + many) then Worn
-              else if own_word mode l == s.looked_at then Granted position many (room - many)
-              else Contended (own_word mode l)) (λ _ s m f h. absurd (let u : NoRoom room ≡ Granted s m f = h in cc))
-              (λ _. if_cases P (nat_lt LAST (position + many)) Worn
-              (if own_word mode l == s.looked_at then Granted position many (room - many) else Contended (own_word mode l))
+              (if many == 0 then NoRoom room else if nat_lt plan.geometry.last (position + many) then Worn
+              else if own_word plan.geometry mode l == s.looked_at then Granted position many (room - many)
+              else Contended (own_word plan.geometry mode l)) (λ _ s m f h. absurd (let u : BadCount ≡ Granted s m f = h in cc))
+              (λ _. if_cases P (many == 0) (NoRoom room) (if nat_lt plan.geometry.last (position + many) then Worn
+              else if own_word plan.geometry mode l == s.looked_at then Granted position many (room - many)
+              else Contended (own_word plan.geometry mode l)) (λ _ s m f h. absurd (let u : NoRoom room ≡ Granted s m f = h in cc))
+              (λ _. if_cases P (nat_lt plan.geometry.last (position + many)) Worn
+              (if own_word plan.geometry mode l == s.looked_at then Granted position many (room - many) else Contended (own_word plan.geometry mode l))
               (λ _ s m f h. absurd (let u : Worn ≡ Granted s m f = h in cc))
-              (λ _. if_cases P (own_word mode l == s.looked_at) (Granted position many (room - many)) (Contended (own_word mode l))
+              (λ _. if_cases P (own_word plan.geometry mode l == s.looked_at) (Granted position many (room - many)) (Contended (own_word plan.geometry mode l))
               (λ won start n left h. (subst (λ v. IsNext mode l v) (start_is start n left h) (next (same won)), idle))
-              (λ _ s m f h. absurd (let u : Contended (own_word mode l) ≡ Granted s m f = h in cc)))))
+              (λ _ s m f h. absurd (let u : Contended (own_word plan.geometry mode l) ≡ Granted s m f = h in cc)))))
             where
               position : ℕ
-              position = position_of mode s.looked_at
+              position = position_of plan.geometry mode s.looked_at
 
               room : ℕ
               room = room_by_look side plan.geometry.capacity position t
@@ -450,7 +454,7 @@ module _ (plans : List RingPlan) (pool : ℕ) (actors : List Actor) (i : ℕ) (a
               many : ℕ
               many = granted how count room
 
-              same : (own_word mode l == s.looked_at) ≡ true → own_word mode l ≡ s.looked_at
+              same : (own_word plan.geometry mode l == s.looked_at) ≡ true → own_word plan.geometry mode l ≡ s.looked_at
               same won = grind (arith, nat_tests)
 
               start_is : (start n left : ℕ) → Granted position many (room - many) ≡ Granted start n left → position ≡ start
@@ -459,9 +463,9 @@ module _ (plans : List RingPlan) (pool : ℕ) (actors : List Actor) (i : ℕ) (a
               place : (ring ≡ s.ring) × (side ≡ s.side)
               place = on_true s.ring ring s.side side on
 
-              next : own_word mode l ≡ s.looked_at → IsNext mode l position
+              next : own_word plan.geometry mode l ≡ s.looked_at → IsNext mode l position
               next won =
-                  is_next mode l s.looked_at won (λ hts. (old_sight s seen).whole plan (ap (slice_get plans) (sym place.0) ∙ there)
+                  is_next plan.geometry mode l s.looked_at won (λ hts. (old_sight s seen).whole plan (ap (slice_get plans) (sym place.0) ∙ there)
                   (ap (mode_of plan) (sym place.1) ∙ hts)) (k.ruled.sides ring side plan there).small
 
           by_on : (b : Bool) → is_on s.ring s.side ring side ≡ b
@@ -667,13 +671,13 @@ module _ (plans : List RingPlan) (pool : ℕ) (actors : List Actor) (i : ℕ) (a
                   ∙ ap (λ v. take (length items) (drop v (listed (side_of parties ring Put)))) first
 
   -- whatever the step, its reply keeps everything
-  pub step_kept : AllFit plans pool → (step : Step) → Invariant plans pool
+  pub step_kept : AllFitAny plans pool → (step : Step) → Invariant plans pool
       (slice_set actors i (after_step a step (actor_reply plans pool (parties_of actors) a step)))
   step_kept fits (Look ring side) = by_plan (slice_get plans ring) refl
     where
       by_plan : (o : Option RingPlan) → slice_get plans ring ≡ o
           → Invariant plans pool (slice_set actors i (after_step a (Look ring side)
-          (on_ring o (λ plan. look_reply (mode_of plan side) (side_of (parties_of actors) ring side) a))))
+          (on_ring o (λ plan. look_reply plan.geometry (mode_of plan side) (side_of (parties_of actors) ring side) a))))
       by_plan None h = unchanged
       by_plan (Some plan) h = look_kept ring side plan h
   step_kept fits (Room ring side) = by_plan (slice_get plans ring) refl
@@ -689,7 +693,7 @@ module _ (plans : List RingPlan) (pool : ℕ) (actors : List Actor) (i : ℕ) (a
           → Invariant plans pool (slice_set actors i (after_step a (Reserve ring side how count)
           (on_ring o (λ plan. reserve_reply plan pool ring side how count (side_of (parties_of actors) ring side) a))))
       by_plan None h = unchanged
-      by_plan (Some plan) h = reserve_kept ring side how count plan h (fits ring plan h).extent
+      by_plan (Some plan) h = reserve_kept ring side how count plan h (fits ring plan h)
   step_kept fits (SettlePut ring items) = by_plan (slice_get plans ring) refl
     where
       by_plan : (o : Option RingPlan) → slice_get plans ring ≡ o
@@ -712,7 +716,7 @@ module _ (plans : List RingPlan) (pool : ℕ) (actors : List Actor) (i : ℕ) (a
       (λ _. same_party record { party = a.party; observed = a.observed; cached = filter (λ c. not (c == b)) a.cached } refl old_sight) (λ _. unchanged)
 
 -- one more event, with the right reply
-pub event_kept : (plans : List RingPlan) (pool : ℕ) (actors : List Actor) (e : Event) → AllFit plans pool → e.reply ≡ reply_to plans pool actors e.actor e.step
+pub event_kept : (plans : List RingPlan) (pool : ℕ) (actors : List Actor) (e : Event) → AllFitAny plans pool → e.reply ≡ reply_to plans pool actors e.actor e.step
     → Invariant plans pool actors → Invariant plans pool (after actors e)
 unfolding reply_to after
 event_kept plans pool actors e fits right k = by_actor (slice_get actors e.actor) refl
@@ -727,7 +731,7 @@ event_kept plans pool actors e fits right k = by_actor (slice_get actors e.actor
         (step_kept plans pool actors e.actor a (slice_get_within actors e.actor a h) (λ d. get_or_from_slice_get actors e.actor a d h) k fits e.step))
 
 -- every history
-pub history_sound : (plans : List RingPlan) (pool : ℕ) (actors : List Actor) (events : List Event) → AllFit plans pool → Invariant plans pool actors
+pub history_sound : (plans : List RingPlan) (pool : ℕ) (actors : List Actor) (events : List Event) → AllFitAny plans pool → Invariant plans pool actors
     → IsRun plans pool actors events → StaysSound plans pool actors events
 history_sound plans pool actors [] fits k right = k.sound
 history_sound plans pool actors (e ∷ events) fits k right =

@@ -8,7 +8,9 @@ use Rattle.geom.specs.declared.plan.Mode.{Mode}
 use Rattle.geom.specs.declared.plan.Mode.TheVariants.{Multi, Hts}
 use Rattle.geom.specs.declared.plan.RingPlan.{RingPlan}
 use Rattle.geom.specs.declared.plan.Side.{Side}
+use Rattle.geom.specs.Extent.{Extent}
 use Rattle.geom.specs.Plan.{mode_of}
+use Rattle.geom.proofs.Words.{position_back, range_some}
 use Rattle.ringcore_laws.specs.declared.contents.Item.{Item}
 use Rattle.ringcore_laws.specs.declared.protocol.Observed.{Observed}
 use Rattle.ringcore_laws.specs.declared.protocol.Step.{Step}
@@ -60,9 +62,11 @@ no_room_answer (Stash b) = refl
 no_room_answer (Unstash b) = refl
 
 -- the position of the word of a side that is free
-own_position : (mode : Mode) (l : RingSide Item) → is_busy mode l ≡ false → position_of mode (own_word mode l) ≡ base mode l
-own_position Multi l free = refl
-own_position Hts l free = let none : l.open_count ≡ 0 = grind (arith, nat_tests) in omega arith
+own_position : (e : Extent) (mode : Mode) (l : RingSide Item) → is_busy mode l ≡ false → position_of e mode (own_word e mode l) ≡ base mode l
+own_position e Multi l free = refl
+own_position e Hts l free =
+    let none : l.open_count ≡ 0 = grind (arith, nat_tests) in
+    position_back e l.len l.open_count (omega (arith, range_some e))
 
 module _ (plans : List RingPlan) (pool : ℕ) (actors : List Actor) (found : ℕ → Option (List Actor)) (looks : Looks plans pool actors found)
     (j : ℕ) (me : Actor) (mine : slice_get actors j ≡ Some me) (k : Invariant plans pool actors) (rule : FreeRule tags plans pool (parties_of actors)) where
@@ -112,15 +116,15 @@ module _ (plans : List RingPlan) (pool : ℕ) (actors : List Actor) (found : ℕ
 
   -- a new look
   new_look : (ring : ℕ) (side : Side) (w : ℕ) (o : Option RingPlan) → slice_get plans ring ≡ o
-      → on_ring o (λ plan. look_reply (mode_of plan side) (side_of parties ring side) me) ≡ Seen w → (s : Observed)
+      → on_ring o (λ plan. look_reply plan.geometry (mode_of plan side) (side_of parties ring side) me) ≡ Seen w → (s : Observed)
       → Some record { ring = ring; side = side; looked_at = w; tail_seen = None } ≡ Some s
       → LookLaw plans pool (slice_set actors j (after_step me (Look ring side) (Seen w))) (found j) j (after_step me (Look ring side) (Seen w)) s
   new_look ring side w o is right s seen =
       let told =
-      on_some_ring o (λ plan. look_reply (mode_of plan side) (side_of parties ring side) me) (Seen w) (λ e. (let u : NoSpan ≡ Seen w = e in cc)) right in
-      let look = look_seen_tells (mode_of told.0 side) (side_of parties ring side) me w told.2 in
-      let position : position_of (mode_of told.0 side) w ≡ base (mode_of told.0 side) (side_of parties ring side) =
-      ap (position_of (mode_of told.0 side)) (sym look.2) ∙ own_position (mode_of told.0 side) (side_of parties ring side) look.1 in
+      on_some_ring o (λ plan. look_reply plan.geometry (mode_of plan side) (side_of parties ring side) me) (Seen w) (λ e. (let u : NoSpan ≡ Seen w = e in cc)) right in
+      let look = look_seen_tells told.0.geometry (mode_of told.0 side) (side_of parties ring side) me w told.2 in
+      let position : position_of told.0.geometry (mode_of told.0 side) w ≡ base (mode_of told.0 side) (side_of parties ring side) =
+      ap (position_of told.0.geometry (mode_of told.0 side)) (sym look.2) ∙ own_position told.0.geometry (mode_of told.0 side) (side_of parties ring side) look.1 in
       subst (λ (v : Observed). LookLaw plans pool (slice_set actors j (after_step me (Look ring side) (Seen w))) (found j) j
       (after_step me (Look ring side) (Seen w)) v)
       (same_plan seen) record {
@@ -130,7 +134,7 @@ module _ (plans : List RingPlan) (pool : ℕ) (actors : List Actor) (found : ℕ
             let same : told.0 ≡ plan = same_plan (sym (is ∙ told.1) ∙ there) in
             omega (
               arith,
-              ap (λ (v : RingPlan). position_of (mode_of v side) w) same,
+              ap (λ (v : RingPlan). position_of v.geometry (mode_of v side) w) same,
               ap (λ (v : RingPlan). base (mode_of v side) (side_of parties ring side)) same,
               position,
             ));

@@ -9,7 +9,8 @@ use Rattle.geom.specs.declared.plan.Side.{Side}
 use Rattle.geom.specs.declared.plan.Side.TheVariants.{Put, Take}
 use Rattle.geom.specs.declared.plan.RingPlan.{RingPlan}
 use Rattle.geom.specs.Extent.{Extent}
-use Rattle.geom.specs.Fit.{AllFit}
+use Rattle.geom.specs.Fit.{AllFitAny}
+use Rattle.geom.proofs.Words.{range_some}
 use Rattle.ringcore_laws.specs.declared.contents.Item.{Item}
 use Rattle.ringcore_laws.specs.declared.party.Party.{Party}
 use Rattle.ringcore_laws.specs.Party.{newcomer}
@@ -214,8 +215,8 @@ opening_kept plans actors gifts named = subst (λ (v : List Actor). Invariant pl
     };
   };
   ruled = record {
-    sides = λ r side plan h. subst (λ (v : RingSide Item). RuledSide (mode_of plan side) v) (sym (side_of_fresh gs r side))
-        record { behind = omega arith; last = omega arith; small = λ _. omega arith; covered = λ multi p le lt. absurd (omega arith) };
+    sides = λ r side plan h. subst (λ (v : RingSide Item). RuledSide plan.geometry (mode_of plan side) v) (sym (side_of_fresh gs r side))
+        record { behind = omega arith; last = omega arith; small = λ _. range_some plan.geometry; covered = λ multi p le lt. absurd (omega arith) };
     room = λ r plan h. omega (arith, ap (λ (v : RingSide Item). v.reach) (side_of_fresh gs r Put));
     spans = λ k d s lt busy. absurd (let h : None ≡ Some s = sym (party_fresh gs k d lt).0 ∙ busy in cc);
   };
@@ -240,7 +241,7 @@ opening_kept plans actors gifts named = subst (λ (v : List Actor). Invariant pl
         omega (arith, held_fresh gs b, sum_gifts actors 0 gifts b)
 
 -- every history from an opening on
-pub from_opening : (plans : List RingPlan) (actors : ℕ) (gifts : List ℕ) (events : List Event) → AllFit plans (length gifts)
+pub from_opening : (plans : List RingPlan) (actors : ℕ) (gifts : List ℕ) (events : List Event) → AllFitAny plans (length gifts)
     → ((b : ℕ) → b < length gifts → slice_index gifts b < actors)
     → IsRun plans (length gifts) (opening actors gifts) events → StaysSound plans (length gifts) (opening actors gifts) events
 from_opening plans actors gifts events fits named right =

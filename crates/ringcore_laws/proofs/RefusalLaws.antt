@@ -14,7 +14,8 @@ use Rattle.geom.specs.declared.plan.RingPlan.{RingPlan}
 use Rattle.geom.specs.declared.plan.Side.{Side}
 use Rattle.geom.specs.declared.plan.Side.TheVariants.{Put, Take}
 use Rattle.geom.specs.Plan.{mode_of, granted}
-use Rattle.geom.specs.Fit.{AllFit}
+use Rattle.geom.specs.Extent.{Extent}
+use Rattle.geom.specs.Fit.{AllFitAny}
 use Rattle.ringcore_laws.specs.declared.contents.Item.{Item}
 use Rattle.ringcore_laws.specs.declared.protocol.Observed.{Observed}
 use Rattle.ringcore_laws.specs.declared.protocol.Span.{Span}
@@ -95,7 +96,7 @@ pub record Standing (plans : List RingPlan) (pool : ℕ) (actors : List Actor) (
   pub looks : Looks plans pool actors found
 
 along : (plans : List RingPlan) (pool : ℕ) (actors : List Actor) (found : ℕ → Option (List Actor)) (events : List Event)
-    → AllFit plans pool → IsRun plans pool actors events → Standing plans pool actors found
+    → AllFitAny plans pool → IsRun plans pool actors events → Standing plans pool actors found
     → Standing plans pool (after_all actors events) (λ i. at_last_room actors (found i) i events)
 along plans pool actors found [] fits run s = s
 along plans pool actors found (e ∷ events) fits run s =
@@ -164,9 +165,9 @@ too_little Bulk count room there some none le = by_test (nat_le count room) refl
     by_test false e h = let more : room < count = grind (arith, nat_tests) in omega (arith, more, le)
 too_little Burst count room there some none le = omega (arith, some, none, le)
 
-base_le : (mode : Mode) (l : RingSide Item) → RuledSide mode l → base mode l ≤ l.reach
-base_le Multi l ruled = omega arith
-base_le Hts l ruled = ruled.behind
+base_le : (e : Extent) (mode : Mode) (l : RingSide Item) → RuledSide e mode l → base mode l ≤ l.reach
+base_le e Multi l ruled = omega arith
+base_le e Hts l ruled = ruled.behind
 
 -- an element that makes a sum positive, or a test of some element true
 some_positive : {X : Type 0} (f : X → ℕ) (xs : List X) → 0 < sum_by f xs → (j : ℕ) × (x : X) × (slice_get xs j ≡ Some x) × (0 < f x)
@@ -275,9 +276,9 @@ module _ (plans : List RingPlan) (pool : ℕ) (now : List Actor) (found : ℕ �
         let place = on_true r.look.ring ring r.look.side side r.on in
         let some = positive_count side plan.free count (buffers_of_actor pool a) n.0 in
         let at_look : slice_get plans r.look.ring ≡ Some plan = ap (slice_get plans) (sym place.0) ∙ there in
-        let behind : position_of (mode_of plan side) r.look.looked_at ≤ base (mode_of plan side) (side_of (parties_of q.past) ring side) =
-        subst (λ (v : ℕ). position_of (mode_of plan side) r.look.looked_at ≤ base (mode_of plan side) (side_of (parties_of q.past) v side)) (sym place.0)
-        (subst (λ (v : Side). position_of (mode_of plan v) r.look.looked_at ≤ base (mode_of plan v) (side_of (parties_of q.past) r.look.ring v)) (sym place.1)
+        let behind : position_of plan.geometry (mode_of plan side) r.look.looked_at ≤ base (mode_of plan side) (side_of (parties_of q.past) ring side) =
+        subst (λ (v : ℕ). position_of plan.geometry (mode_of plan side) r.look.looked_at ≤ base (mode_of plan side) (side_of (parties_of q.past) v side)) (sym place.0)
+        (subst (λ (v : Side). position_of plan.geometry (mode_of plan v) r.look.looked_at ≤ base (mode_of plan v) (side_of (parties_of q.past) r.look.ring v)) (sym place.1)
         (q.behind plan at_look)) in
         let seen : r.tail ≡ (side_of (parties_of q.past) ring (other_side side)).len =
         q.seen ∙ (ap (λ v. (side_of (parties_of q.past) v (other_side r.look.side)).len) (sym place.0)
@@ -285,14 +286,14 @@ module _ (plans : List RingPlan) (pool : ℕ) (now : List Actor) (found : ℕ �
         record {
           past = q.past;
           is = q.is;
-          room = room_by_look side plan.geometry.capacity (position_of (mode_of plan side) r.look.looked_at) r.tail;
+          room = room_by_look side plan.geometry.capacity (position_of plan.geometry (mode_of plan side) r.look.looked_at) r.tail;
           none = n.1;
           some = some;
-          little = little side (parties_of q.past) (position_of (mode_of plan side) r.look.looked_at) r.tail
+          little = little side (parties_of q.past) (position_of plan.geometry (mode_of plan side) r.look.looked_at) r.tail
               (base (mode_of plan side) (side_of (parties_of q.past) ring side))
-              behind seen (base_le (mode_of plan side) (side_of (parties_of q.past) ring side) (q.kept.ruled.sides ring side plan there));
+              behind seen (base_le plan.geometry (mode_of plan side) (side_of (parties_of q.past) ring side) (q.kept.ruled.sides ring side plan there));
           enough = λ put free fits.
-              enough side put (parties_of q.past) (position_of (mode_of plan side) r.look.looked_at) r.tail (buffers_of_actor pool a) behind seen
+              enough side put (parties_of q.past) (position_of plan.geometry (mode_of plan side) r.look.looked_at) r.tail (buffers_of_actor pool a) behind seen
               (subst (λ (v : ℕ). base plan.put (side_of (parties_of q.past) ring Put) + v ≤ plan.geometry.capacity
               + (side_of (parties_of q.past) ring Take).len)
               (ap (buffers_had tags pool) (party_at q.past i a.party q.me q.at ∙ q.same))
@@ -362,9 +363,9 @@ module _ (plans : List RingPlan) (pool : ℕ) (now : List Actor) (found : ℕ �
   is_taken ring side word right =
       let me = asked_actor (Look ring side) (Busy word) (λ e. (let u : NoSpan ≡ Busy word = e in cc)) right in
       let told =
-      on_some_ring (slice_get plans ring) (λ p. look_reply (mode_of p side) (side_of (parties_of now) ring side) me.0) (Busy word)
+      on_some_ring (slice_get plans ring) (λ p. look_reply p.geometry (mode_of p side) (side_of (parties_of now) ring side) me.0) (Busy word)
       (λ e. (let u : NoSpan ≡ Busy word = e in cc)) me.2 in
-      let busy = look_busy_tells (mode_of told.0 side) (side_of (parties_of now) ring side) me.0 word told.2 in
+      let busy = look_busy_tells told.0.geometry (mode_of told.0 side) (side_of (parties_of now) ring side) me.0 word told.2 in
       let open_one = some_open ring side (parties_of now) (busy_open (mode_of told.0 side) (side_of (parties_of now) ring side) busy.1) in
       let c = party_of_actor now open_one.0 open_one.1 open_one.2 in
       let span : c.0.party.span ≡ Some open_one.3 = ap (λ (p : Party Item). p.span) c.2 ∙ open_one.4 in (
@@ -400,7 +401,7 @@ module _ (plans : List RingPlan) (pool : ℕ) (now : List Actor) (found : ℕ �
 -- 3. Free rings, along a run
 
 room_along : (plans : List RingPlan) (pool : ℕ) (actors : List Actor) (found : ℕ → Option (List Actor)) (events : List Event)
-    → AllFit plans pool → IsRun plans pool actors events → Standing plans pool actors found → PutsFindRoom plans events
+    → AllFitAny plans pool → IsRun plans pool actors events → Standing plans pool actors found → PutsFindRoom plans events
 room_along plans pool actors found [] fits run s = tt
 room_along plans pool actors found (e ∷ events) fits run s =
     let next = event_looks plans pool actors found e run.0 s.kept s.rule s.looks in (

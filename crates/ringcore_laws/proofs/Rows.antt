@@ -1,5 +1,5 @@
 -- Worked examples, computed by the definitions
-use Rattle.std.proofs.Common.{ℕ, [], ◌∷◌, refl, true, false, Bool}
+use Rattle.std.proofs.Common.{◌-◌, ◌^◌, ℕ, [], ◌∷◌, refl, true, false, Bool}
 use Rattle.geom.specs.declared.plan.Mode.{Mode}
 use Rattle.geom.specs.declared.plan.Mode.TheVariants.{Multi, Hts}
 use Rattle.geom.specs.declared.plan.Side.TheVariants.{Put, Take}
@@ -19,7 +19,7 @@ abbrev pub event : ℕ → Step → Reply → Event
 event i step reply = record { actor = i; step = step; reply = reply }
 
 abbrev pub ring : ℕ → ℕ → Mode → Mode → Bool → RingPlan
-ring size capacity put take free = record { geometry = record { size = size; capacity = capacity }; put = put; take = take; free = free }
+ring size capacity put take free = record { geometry = record { size = size; capacity = capacity; last = 2 ^ 44 - 1; count_bits = 20 }; put = put; take = take; free = free }
 
 -- two actors look, one reserves, the other is contended and tries again
 pub contended : IsRun (ring 4 3 Multi Multi false ∷ []) 0 (opening 2 ([])) (

@@ -4,7 +4,7 @@ use Rattle.std.specs.Prelude.{slice_get, Option, Some, None, is_some, not, take,
 use Rattle.geom.specs.declared.plan.Side.TheVariants.{Put, Take}
 use Rattle.geom.specs.declared.plan.RingPlan.{RingPlan}
 use Rattle.geom.specs.Plan.{mode_of}
-use Rattle.geom.specs.Fit.{AllFit}
+use Rattle.geom.specs.Fit.{AllFitAny}
 use Rattle.ringcore_laws.specs.declared.contents.Item.{Item}
 use Rattle.ringcore_laws.specs.declared.protocol.Span.{Span}
 use Rattle.ringcore_laws.specs.declared.protocol.Step.{Step}
@@ -38,7 +38,7 @@ every_list_of_steps plans actors gifts steps p =
 
 -- what a run keeps
 pub run_kept : (plans : List RingPlan) (pool : ℕ) (actors : List Actor) (events : List Event)
-    → AllFit plans pool → Invariant plans pool actors → IsRun plans pool actors events → Invariant plans pool (after_all actors events)
+    → AllFitAny plans pool → Invariant plans pool actors → IsRun plans pool actors events → Invariant plans pool (after_all actors events)
 run_kept plans pool actors [] fits k run = k
 run_kept plans pool actors (e ∷ events) fits k run =
     run_kept plans pool (after actors e) events fits (event_kept plans pool actors e fits run.0 k) run.1
@@ -97,7 +97,7 @@ take_grants_none plan ring parties count (Some s) =
 granted_when_idle : (plans : List RingPlan) (pool : ℕ) (parties : List (Party Item)) (a : Actor) (step : Step)
     → is_grant (actor_reply plans pool parties a step) ≡ true → a.party.span ≡ None
 granted_when_idle plans pool parties a (Look ring side) h =
-    on_a_ring (slice_get plans ring) (λ plan. look_reply (mode_of plan side) (side_of parties ring side) a) (λ plan g. open_refused a.party.span _ g) h
+    on_a_ring (slice_get plans ring) (λ plan. look_reply plan.geometry (mode_of plan side) (side_of parties ring side) a) (λ plan g. open_refused a.party.span _ g) h
 granted_when_idle plans pool parties a (Room ring side) h =
     on_a_ring (slice_get plans ring) (λ plan. room_reply ring side (side_of parties ring (other_side side)) a) (λ plan g. open_refused a.party.span _ g) h
 granted_when_idle plans pool parties a (Reserve ring side how count) h =

@@ -8,7 +8,7 @@ use Rattle.geom.specs.declared.plan.Mode.{Mode}
 use Rattle.geom.specs.declared.plan.RingPlan.{RingPlan}
 use Rattle.geom.specs.declared.plan.Side.{Side}
 use Rattle.geom.specs.declared.plan.Side.TheVariants.{Put, Take}
-use Rattle.geom.specs.declared.word.TheConstants.{LAST}
+use Rattle.geom.specs.Extent.{Extent}
 use Rattle.geom.specs.Plan.{mode_of, granted}
 use Rattle.ringcore_laws.specs.declared.contents.Item.{Item}
 use Rattle.ringcore_laws.specs.declared.protocol.Observed.{Observed}
@@ -44,17 +44,17 @@ pub on_some_ring : (o : Option RingPlan) (reply : RingPlan → Reply) (r : Reply
 on_some_ring None reply r some h = absurd (some h)
 on_some_ring (Some plan) reply r some h = (plan, refl, h)
 
-pub look_seen_tells : (mode : Mode) (l : RingSide Item) (a : Actor) (w : ℕ) → look_reply mode l a ≡ Seen w → (a.party.span ≡ None) × (is_busy mode l ≡ false)
-    × (own_word mode l ≡ w)
-look_seen_tells mode l a w h =
-    let idle = passed (is_some a.party.span) (λ e. (let u : NoSpan ≡ Seen w = e in cc)) h in
-    let free = passed (is_busy mode l) (λ e. (let u : Busy (own_word mode l) ≡ Seen w = e in cc)) idle.1 in
-    (none_of a.party.span idle.0, free.0, (let u : Seen (own_word mode l) ≡ Seen w = free.1 in cc))
+pub look_seen_tells : (e : Extent) (mode : Mode) (l : RingSide Item) (a : Actor) (w : ℕ) → look_reply e mode l a ≡ Seen w → (a.party.span ≡ None) × (is_busy mode l ≡ false)
+    × (own_word e mode l ≡ w)
+look_seen_tells e mode l a w h =
+    let idle = passed (is_some a.party.span) (λ h'. (let u : NoSpan ≡ Seen w = h' in cc)) h in
+    let free = passed (is_busy mode l) (λ h'. (let u : Busy (own_word e mode l) ≡ Seen w = h' in cc)) idle.1 in
+    (none_of a.party.span idle.0, free.0, (let u : Seen (own_word e mode l) ≡ Seen w = free.1 in cc))
 
-pub look_busy_tells : (mode : Mode) (l : RingSide Item) (a : Actor) (w : ℕ) → look_reply mode l a ≡ Busy w → (a.party.span ≡ None) × (is_busy mode l ≡ true)
-look_busy_tells mode l a w h =
-    let idle = passed (is_some a.party.span) (λ e. (let u : NoSpan ≡ Busy w = e in cc)) h in
-    let busy = stopped_at (is_busy mode l) (λ e. (let u : Seen (own_word mode l) ≡ Busy w = e in cc)) idle.1 in
+pub look_busy_tells : (e : Extent) (mode : Mode) (l : RingSide Item) (a : Actor) (w : ℕ) → look_reply e mode l a ≡ Busy w → (a.party.span ≡ None) × (is_busy mode l ≡ true)
+look_busy_tells e mode l a w h =
+    let idle = passed (is_some a.party.span) (λ h'. (let u : NoSpan ≡ Busy w = h' in cc)) h in
+    let busy = stopped_at (is_busy mode l) (λ h'. (let u : Seen (own_word e mode l) ≡ Busy w = h' in cc)) idle.1 in
     (none_of a.party.span idle.0, busy.0)
 
 pub room_seen_tells : (ring : ℕ) (side : Side) (other : RingSide Item) (a : Actor) (t : ℕ) → room_reply ring side other a ≡ Seen t
@@ -104,7 +104,7 @@ granted_few Burst count room = omega arith
 
 module _ (plan : RingPlan) (side : Side) (how : How) (count : ℕ) (l : RingSide Item) (had looked tail : ℕ) where
   abbrev room_seen : ℕ
-  room_seen = room_by_look side plan.geometry.capacity (position_of (mode_of plan side) looked) tail
+  room_seen = room_by_look side plan.geometry.capacity (position_of plan.geometry (mode_of plan side) looked) tail
 
   abbrev many : ℕ
   many = granted how count room_seen
@@ -114,11 +114,11 @@ module _ (plan : RingPlan) (side : Side) (how : How) (count : ℕ) (l : RingSide
   granted_tells start n left h =
       let good = passed (is_bad_reserve side plan.free count had) (λ e. (let u : BadCount ≡ Granted start n left = e in cc)) h in
       let some = passed (many == 0) (λ e. (let u : NoRoom room_seen ≡ Granted start n left = e in cc)) good.1 in
-      let last = passed (nat_lt LAST (position_of (mode_of plan side) looked + many)) (λ e. (let u : Worn ≡ Granted start n left = e in cc)) some.1 in
+      let last = passed (nat_lt plan.geometry.last (position_of plan.geometry (mode_of plan side) looked + many)) (λ e. (let u : Worn ≡ Granted start n left = e in cc)) some.1 in
       let won =
-      stopped_at (own_word (mode_of plan side) l == looked) (λ e. (let u : Contended (own_word (mode_of plan side) l) ≡ Granted start n left = e in cc))
+      stopped_at (own_word plan.geometry (mode_of plan side) l == looked) (λ e. (let u : Contended (own_word plan.geometry (mode_of plan side) l) ≡ Granted start n left = e in cc))
       last.1 in
-      let same : many ≡ n = (let u : Granted (position_of (mode_of plan side) looked) many (room_seen - many) ≡ Granted start n left = won.1 in cc) in
+      let same : many ≡ n = (let u : Granted (position_of plan.geometry (mode_of plan side) looked) many (room_seen - many) ≡ Granted start n left = won.1 in cc) in
       (good.0, omega (arith, same, granted_few how count room_seen))
 
   pub no_room_tells : (room : ℕ) → reserve_seen plan side how count l had (Some (looked, tail)) ≡ NoRoom room
@@ -126,25 +126,25 @@ module _ (plan : RingPlan) (side : Side) (how : How) (count : ℕ) (l : RingSide
   no_room_tells room h =
       let good = passed (is_bad_reserve side plan.free count had) (λ e. (let u : BadCount ≡ NoRoom room = e in cc)) h in
       let none = stopped_at (many == 0)
-      (λ e. not_room (nat_lt LAST (position_of (mode_of plan side) looked + many)) (own_word (mode_of plan side) l == looked) e) good.1 in
+      (λ e. not_room (nat_lt plan.geometry.last (position_of plan.geometry (mode_of plan side) looked + many)) (own_word plan.geometry (mode_of plan side) l == looked) e) good.1 in
       (good.0, grind (arith, nat_tests, none.0), (let u : NoRoom room_seen ≡ NoRoom room = none.1 in cc))
     where
-      not_room : (b c : Bool) → (if b then Worn else if c then Granted (position_of (mode_of plan side) looked) many (room_seen - many)
-          else Contended (own_word (mode_of plan side) l)) ≡ NoRoom room → ⊥
+      not_room : (b c : Bool) → (if b then Worn else if c then Granted (position_of plan.geometry (mode_of plan side) looked) many (room_seen - many)
+          else Contended (own_word plan.geometry (mode_of plan side) l)) ≡ NoRoom room → ⊥
       not_room true c e = (let u : Worn ≡ NoRoom room = e in cc)
-      not_room false true e = (let u : Granted (position_of (mode_of plan side) looked) many (room_seen - many) ≡ NoRoom room = e in cc)
-      not_room false false e = (let u : Contended (own_word (mode_of plan side) l) ≡ NoRoom room = e in cc)
+      not_room false true e = (let u : Granted (position_of plan.geometry (mode_of plan side) looked) many (room_seen - many) ≡ NoRoom room = e in cc)
+      not_room false false e = (let u : Contended (own_word plan.geometry (mode_of plan side) l) ≡ NoRoom room = e in cc)
 
   pub contended_tells : (word : ℕ) → reserve_seen plan side how count l had (Some (looked, tail)) ≡ Contended word
-      → (own_word (mode_of plan side) l ≡ word) × (own_word (mode_of plan side) l ≢ looked)
+      → (own_word plan.geometry (mode_of plan side) l ≡ word) × (own_word plan.geometry (mode_of plan side) l ≢ looked)
   contended_tells word h =
       let good = passed (is_bad_reserve side plan.free count had) (λ e. (let u : BadCount ≡ Contended word = e in cc)) h in
       let some = passed (many == 0) (λ e. (let u : NoRoom room_seen ≡ Contended word = e in cc)) good.1 in
-      let last = passed (nat_lt LAST (position_of (mode_of plan side) looked + many)) (λ e. (let u : Worn ≡ Contended word = e in cc)) some.1 in
+      let last = passed (nat_lt plan.geometry.last (position_of plan.geometry (mode_of plan side) looked + many)) (λ e. (let u : Worn ≡ Contended word = e in cc)) some.1 in
       let lost =
-      passed (own_word (mode_of plan side) l == looked) (λ e.
-      (let u : Granted (position_of (mode_of plan side) looked) many (room_seen - many) ≡ Contended word = e in cc)) last.1 in
-      ((let u : Contended (own_word (mode_of plan side) l) ≡ Contended word = lost.1 in cc), grind (arith, nat_tests, lost.0))
+      passed (own_word plan.geometry (mode_of plan side) l == looked) (λ e.
+      (let u : Granted (position_of plan.geometry (mode_of plan side) looked) many (room_seen - many) ≡ Contended word = e in cc)) last.1 in
+      ((let u : Contended (own_word plan.geometry (mode_of plan side) l) ≡ Contended word = lost.1 in cc), grind (arith, nat_tests, lost.0))
 
 -- what a settle that is answered Done, or NotYet, had
 pub put_done_tells : (plan : RingPlan) (ring : ℕ) (parties : List (Party Item)) (a : Actor) (items : List Item) (o : Option Span) (n : ℕ) (its : List Item)

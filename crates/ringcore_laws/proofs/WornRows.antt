@@ -119,3 +119,21 @@ pub worn_ends : IsRun (plan Multi ∷ []) 0 (inside (span 0 Put 17592186044412 2
     ∷ [])
 unfolding reply_to after side_of party_items party_count party_end listed holds moved buffers_had
 worn_ends = (refl, (refl, (refl, tt)))
+
+-- a ring whose last position is another one: 99, and beyond 2^44
+abbrev ending : ℕ → RingPlan
+ending last = record {
+  geometry = record { size = 4; capacity = 3; last = last; count_bits = 12 };
+  put = Multi;
+  take = Multi;
+  free = false;
+}
+
+pub ends_at_99 : reply_to (ending 99 ∷ []) 0 (inside (span 0 Put 97 2) ∷ looking Put 99 99 ∷ []) 1 (Reserve 0 Put Bulk 1) ≡ Worn
+unfolding reply_to after side_of party_items party_count party_end listed holds moved buffers_had
+ends_at_99 = refl
+
+pub goes_on : reply_to (ending 4503599627370495 ∷ []) 0 (inside (span 0 Put 17592186044413 2) ∷ looking Put 17592186044415 17592186044415 ∷ [])
+    1 (Reserve 0 Put Bulk 3) ≡ Granted 17592186044415 3 0
+unfolding reply_to after side_of party_items party_count party_end listed holds moved buffers_had
+goes_on = refl

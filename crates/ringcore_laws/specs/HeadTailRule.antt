@@ -5,7 +5,7 @@ use Rattle.geom.specs.declared.plan.Mode.TheVariants.{Multi, Hts}
 use Rattle.geom.specs.declared.plan.Side.{Side}
 use Rattle.geom.specs.declared.plan.Side.TheVariants.{Put, Take}
 use Rattle.geom.specs.declared.plan.RingPlan.{RingPlan}
-use Rattle.geom.specs.declared.word.TheConstants.{LAST, RESERVED_RANGE}
+use Rattle.geom.specs.Extent.{Extent, range_of}
 use Rattle.geom.specs.Plan.{mode_of}
 use Rattle.ringcore_laws.specs.declared.protocol.Span.{Span}
 use Rattle.ringcore_laws.specs.declared.party.Party.{Party}
@@ -20,10 +20,10 @@ module _ {I : Type 0} where
 
   -- a side of a ring: it reaches at least as far as it is settled, and on a multi side all positions from there up to
   -- its reach are reserved
-  pub record RuledSide (mode : Mode) (l : RingSide I) : Type 0 where
+  pub record RuledSide (e : Extent) (mode : Mode) (l : RingSide I) : Type 0 where
     pub behind : l.len ≤ l.reach
-    pub last : l.reach ≤ LAST
-    pub small : mode ≡ Hts → l.open_count < RESERVED_RANGE
+    pub last : l.reach ≤ e.last
+    pub small : mode ≡ Hts → l.open_count < range_of e
     pub covered : mode ≡ Multi → (p : ℕ) → l.len ≤ p → p < l.reach → 0 < l.openers p
 
   -- an open span: on an HTS side it is the only one, and starts where the settled items end
@@ -35,7 +35,7 @@ module _ {I : Type 0} where
 
   pub record HeadTailRule (plans : List RingPlan) (parties : List (Party I)) : Type 0 where
     pub sides : (r : ℕ) (side : Side) (plan : RingPlan) → slice_get plans r ≡ Some plan
-        → RuledSide (mode_of plan side) (side_of parties r side)
+        → RuledSide plan.geometry (mode_of plan side) (side_of parties r side)
     pub room : (r : ℕ) (plan : RingPlan) → slice_get plans r ≡ Some plan
         → (side_of parties r Put).reach ≤ (side_of parties r Take).len + plan.geometry.capacity
     pub spans : (k : ℕ) (d : Party I) (s : Span) → k < length parties

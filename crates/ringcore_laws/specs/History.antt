@@ -12,7 +12,7 @@ use Rattle.geom.specs.declared.plan.Side.{Side}
 use Rattle.geom.specs.declared.plan.Side.TheVariants.{Put, Take}
 use Rattle.geom.specs.declared.plan.How.{How}
 use Rattle.geom.specs.declared.plan.RingPlan.{RingPlan}
-use Rattle.geom.specs.declared.word.TheConstants.{LAST, RESERVED_RANGE}
+use Rattle.geom.specs.Extent.{Extent, range_of}
 use Rattle.geom.specs.Plan.{mode_of, granted}
 use Rattle.ringcore_laws.specs.declared.protocol.Span.{Span}
 use Rattle.ringcore_laws.specs.declared.protocol.Observed.{Observed}
@@ -107,24 +107,24 @@ after_step a (Unstash b) reply = after_unstash a b reply
 
 -- The word of a side. A multi side shows how far it is reserved, an HTS side how far it is settled and how many
 -- positions are reserved from there on
-abbrev pub own_word : {I : Type 0} → Mode → RingSide I → ℕ
-own_word Multi l = l.reach
-own_word Hts l = l.len * RESERVED_RANGE + l.open_count
+abbrev pub own_word : {I : Type 0} → Extent → Mode → RingSide I → ℕ
+own_word e Multi l = l.reach
+own_word e Hts l = l.len * range_of e + l.open_count
 
 -- the position in a word that was seen, with nothing reserved
-abbrev pub position_of : Mode → ℕ → ℕ
-position_of Multi word = word
-position_of Hts word = word / RESERVED_RANGE
+abbrev pub position_of : Extent → Mode → ℕ → ℕ
+position_of e Multi word = word
+position_of e Hts word = word / range_of e
 
 abbrev pub is_busy : {I : Type 0} → Mode → RingSide I → Bool
 is_busy Multi l = false
 is_busy Hts l = nat_lt 0 l.open_count
 
-abbrev pub look_reply : Mode → RingSide Item → Actor → Reply
-look_reply mode l a =
+abbrev pub look_reply : Extent → Mode → RingSide Item → Actor → Reply
+look_reply e mode l a =
     if is_some a.party.span then NoSpan
-    else if is_busy mode l then Busy (own_word mode l)
-    else Seen (own_word mode l)
+    else if is_busy mode l then Busy (own_word e mode l)
+    else Seen (own_word e mode l)
 
 abbrev pub sees : ℕ → Side → Option Observed → Bool
 sees ring side None = false
@@ -162,13 +162,13 @@ seen_on ring side (Some s) = if is_on s.ring s.side ring side then both_seen s.l
 abbrev pub reserve_seen : RingPlan → Side → How → ℕ → RingSide Item → ℕ → Option (ℕ × ℕ) → Reply
 reserve_seen plan side how count l buffers None = NoSpan
 reserve_seen plan side how count l buffers (Some seen) =
-    let own = own_word (mode_of plan side) l in
-    let position = position_of (mode_of plan side) seen.0 in
+    let own = own_word plan.geometry (mode_of plan side) l in
+    let position = position_of plan.geometry (mode_of plan side) seen.0 in
     let room = room_by_look side plan.geometry.capacity position seen.1 in
     let m = granted how count room in
     if is_bad_reserve side plan.free count buffers then BadCount
     else if m == 0 then NoRoom room
-    else if nat_lt LAST (position + m) then Worn
+    else if nat_lt plan.geometry.last (position + m) then Worn
     else if own == seen.0 then Granted position m (room - m)
     else Contended own
 
@@ -233,7 +233,7 @@ on_ring (Some plan) reply = reply plan
 -- the reply to a step of this actor
 abbrev pub actor_reply : List RingPlan → ℕ → List (Party Item) → Actor → Step → Reply
 actor_reply plans pool parties a (Look ring side) =
-    on_ring (slice_get plans ring) (λ plan. look_reply (mode_of plan side) (side_of parties ring side) a)
+    on_ring (slice_get plans ring) (λ plan. look_reply plan.geometry (mode_of plan side) (side_of parties ring side) a)
 actor_reply plans pool parties a (Room ring side) =
     on_ring (slice_get plans ring) (λ plan. room_reply ring side (side_of parties ring (other_side side)) a)
 actor_reply plans pool parties a (Reserve ring side how count) =

@@ -3,7 +3,7 @@
 use Rattle.std.specs.Prelude.{ℕ, ◌*◌, ◌<◌, ◌≤◌, ◌≡◌, List, length, slice_get, slice_index_or, Some}
 use Rattle.geom.specs.declared.plan.Mode.TheVariants.{Hts}
 use Rattle.geom.specs.declared.plan.RingPlan.{RingPlan}
-use Rattle.geom.specs.declared.word.TheConstants.{RESERVED_RANGE}
+use Rattle.geom.specs.Extent.{range_of}
 use Rattle.geom.specs.Plan.{mode_of}
 use Rattle.ringcore_laws.specs.declared.protocol.Observed.{Observed}
 use Rattle.ringcore_laws.specs.declared.party.Party.{Party}
@@ -16,13 +16,13 @@ use Rattle.ringcore_laws.specs.History.{Actor, tags, parties_of, other_side, pos
 pub record TrueObserved {I : Type 0} (plans : List RingPlan) (parties : List (Party I)) (s : Observed) : Type 0 where
   pub known : s.ring < length plans
   pub whole : (plan : RingPlan) → slice_get plans s.ring ≡ Some plan → mode_of plan s.side ≡ Hts → (q : ℕ)
-      × (s.looked_at ≡ q * RESERVED_RANGE)
+      × (s.looked_at ≡ q * range_of plan.geometry)
   pub tail_seen : (t : ℕ) → s.tail_seen ≡ Some t → t ≤ (side_of parties s.ring (other_side s.side)).len
 
 -- a look is at or below the position that the own word of its side shows now
 abbrev pub IsBehind : {I : Type 0} → List RingPlan → List (Party I) → Observed → Type 0
 IsBehind plans parties s = (plan : RingPlan) → slice_get plans s.ring ≡ Some plan
-    → position_of (mode_of plan s.side) s.looked_at ≤ base (mode_of plan s.side) (side_of parties s.ring s.side)
+    → position_of plan.geometry (mode_of plan s.side) s.looked_at ≤ base (mode_of plan s.side) (side_of parties s.ring s.side)
 
 -- what each event keeps
 pub record Invariant (plans : List RingPlan) (pool : ℕ) (actors : List Actor) : Type 0 where

@@ -56,7 +56,7 @@ HadNoRoom plan actors events i ring side how count =
 -- Contended: the own word isn't the one the actor looked at
 abbrev pub HasMoved : RingPlan → List Actor → ℕ → ℕ → Side → ℕ → Type 0
 HasMoved plan actors i ring side word =
-    (word ≡ own_word (mode_of plan side) (side_of (parties_of actors) ring side))
+    (word ≡ own_word plan.geometry (mode_of plan side) (side_of (parties_of actors) ring side))
     × ((a : Actor) (s : Observed) → slice_get actors i ≡ Some a → a.observed ≡ Some s → s.looked_at ≢ word)
 
 -- Busy: another actor's span of the side is open

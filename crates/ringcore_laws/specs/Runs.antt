@@ -1,7 +1,7 @@
 -- Runs of the machine: the history of a list of steps, and what the headline states about it
 use Rattle.std.specs.Prelude.{ℕ, ◌<◌, ◌≤◌, ◌≡◌, Bool, true, false, List, [], ◌∷◌, map, length, slice_get, slice_index}
 use Rattle.std.specs.Prelude.{Some, None}
-use Rattle.geom.specs.Fit.{AllFit}
+use Rattle.geom.specs.Fit.{AllFitAny}
 use Rattle.geom.specs.declared.plan.RingPlan.{RingPlan}
 use Rattle.ringcore_laws.specs.declared.protocol.Step.{Step}
 use Rattle.ringcore_laws.specs.declared.protocol.Reply.{Reply}
@@ -17,7 +17,7 @@ pub record IsPlan (plans : List RingPlan) (actors : ℕ) (gifts : List ℕ) : Ty
   pub few_buffers : length gifts ≤ 65536
   pub to_actors : (b : ℕ) → b < length gifts → slice_index gifts b < actors
   -- each ring may have its size, and all buffers fit into each free ring
-  pub rings : AllFit plans (length gifts)
+  pub rings : AllFitAny plans (length gifts)
 
 -- the history of a list of steps, each an actor and what it does: each step with the reply to it
 abbrev pub history_of : List RingPlan → ℕ → List Actor → List (ℕ × Step) → List Event

@@ -7,7 +7,7 @@ ghost use Rattle.geom.specs.declared.plan.How.{How};
 ghost use Rattle.geom.specs.declared.plan.RingPlan.{RingPlan};
 ghost use Rattle.geom.specs.declared.plan.Side.{Side};
 ghost use Rattle.geom.specs.declared.plan.Side.TheVariants.{Put, Take};
-ghost use Rattle.geom.specs.Fit.{AllFit};
+ghost use Rattle.geom.specs.Fit.{AllFitAny};
 ghost use Rattle.ringcore_laws.specs.declared.protocol.Reply.TheVariants.{Busy, Contended, NoRoom, NotYet};
 ghost use Rattle.ringcore_laws.specs.declared.protocol.Step.TheVariants.{Look, Reserve, SettlePut, SettleTake};
 ghost use Rattle.ringcore_laws.specs.HeadTailRule.{HeadTailRule};
@@ -105,7 +105,7 @@ pub fn a_right_history_is_that_of_its_steps()
 /// The same for given histories: if each reply is the one to its step, the history is sound throughout.
 pub fn every_history_is_sound()
     ensures { (plans : List RingPlan) (actors : ℕ) (gifts : List ℕ) (events : List Event)
-        → AllFit plans (length gifts)
+        → AllFitAny plans (length gifts)
         → ((b : ℕ) → b < length gifts → slice_index gifts b < actors)
         → IsRun plans (length gifts) (opening actors gifts) events
         → StaysSound plans (length gifts) (opening actors gifts) events }

@@ -35,9 +35,9 @@ impl World {
         ensures member { MemberAt self.old actor (λ m.
             SetMember self.old self.new actor (member_looked m ring side result)) }
         ensures reply { FoundAt self.old actor ring (λ m plan r. (l : RingSide AnItem) (a : Actor)
-            → RuledSide (mode_of plan side) l → WordsAgree (mode_of plan side) l (side_words r side)
+            → RuledSide plan.geometry (mode_of plan side) l → WordsAgree (mode_of plan side) l (side_words r side)
             → a.party.span ≡ m.span
-            → result ≡ look_reply (mode_of plan side) l a) }
+            → result ≡ look_reply plan.geometry (mode_of plan side) l a) }
     {
         let there = &self.rings[ring];
         look(
@@ -82,7 +82,7 @@ impl World {
             SetMember self.old self.new actor (member_tried m ring side result)) }
         ensures ring { RingAt self.old ring (λ r. SetRing self.old self.new ring (ring_tried r side result)) }
         ensures reply { FoundAt self.old actor ring (λ m plan r. (l : RingSide AnItem)
-            → RuledSide (mode_of plan side) l → WordsAgree (mode_of plan side) l (side_words r side)
+            → RuledSide plan.geometry (mode_of plan side) l → WordsAgree (mode_of plan side) l (side_words r side)
             → TailFits plan m.observed
             → result ≡ (if is_some m.span then NoSpan
             else seen_reply plan side how count l m.count (seen_on ring side m.observed))) }

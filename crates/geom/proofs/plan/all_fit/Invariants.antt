@@ -5,4 +5,4 @@ use Rattle.geom.specs.Fit.{Fits}
 use Rattle.geom.proofs.plan.all_fit.Given as goal
 
 abbrev pub invariant-loop-plan : goal.invariant-loop-plan
-invariant-loop-plan l = (r : ℕ) (plan : RingPlan) → r < l.plan-index → slice_get l.rings r ≡ Some plan → Fits plan l.buffers
+invariant-loop-plan l = (r : ℕ) (plan : RingPlan) → r < l.plan-index → slice_get l.rings r ≡ Some plan → Fits plan l.buffers l.longest

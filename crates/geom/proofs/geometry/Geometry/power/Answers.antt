@@ -1,5 +1,5 @@
 use Rattle.std.proofs.Common.{arith}
-use Rattle.geom.proofs.Powers.{power_given, power_refused, next_self}
+use Rattle.geom.proofs.Powers.{power_given, power_refused, next_self, power_extent}
 use Rattle.geom.proofs.geometry.Geometry.power.Goals as goal
 
 pub returns-then-next_power_of_two-count-clause-given : goal.returns-then-next_power_of_two-count-clause-given
@@ -19,3 +19,8 @@ returns-clause-given c =
     let next = c.next_power_of_two.ensures in
     power_given c.args.count c.next_power_of_two.result (omega arith) (omega arith) next.power next.lower_bound next.upper_bound
     c.if-next_power_of_two-count.false
+
+pub invariant_of-result : goal.invariant_of-result
+invariant_of-result c =
+    let next = c.next_power_of_two.ensures in
+    power_extent c.args.count c.next_power_of_two.result (omega arith) (omega arith) next.power c.if-next_power_of_two-count.false

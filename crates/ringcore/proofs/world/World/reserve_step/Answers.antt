@@ -22,16 +22,16 @@ returns-clause-reply c = λ m plan r hm hp hr l.
     let ep : c.index.result.now.plan ≡ plan = ap (λ (v : PlannedRing). v.plan) c.index.ensures ∙ plan_there c.args.self.now.rings.items c.args.ring plan _ hp in
     let er : c.index_mut.result.now.ring ≡ r = ap (λ (v : PlannedRing). v.ring) c.index_mut.ensures.value
     ∙ ring_there c.args.self.now.rings.items c.args.ring r _ hr in
-    subst (λ (v : Member). RuledSide (mode_of plan c.args.side) l → WordsAgree (mode_of plan c.args.side) l (side_words r c.args.side)
+    subst (λ (v : Member). RuledSide plan.geometry (mode_of plan c.args.side) l → WordsAgree (mode_of plan c.args.side) l (side_words r c.args.side)
     → TailFits plan v.observed
     → c.reserve.result ≡ (if is_some v.span then NoSpan else reserve_seen plan c.args.side c.args.how c.args.count l v.count
     (seen_on c.args.ring c.args.side v.observed))) em
-    (subst (λ (p : RingPlan). RuledSide (mode_of p c.args.side) l → WordsAgree (mode_of p c.args.side) l (side_words r c.args.side)
+    (subst (λ (p : RingPlan). RuledSide p.geometry (mode_of p c.args.side) l → WordsAgree (mode_of p c.args.side) l (side_words r c.args.side)
     → TailFits p c.index_mut-2.result.now.observed
     → c.reserve.result ≡ (if is_some c.index_mut-2.result.now.span then NoSpan
     else reserve_seen p c.args.side c.args.how c.args.count l c.index_mut-2.result.now.count
     (seen_on c.args.ring c.args.side c.index_mut-2.result.now.observed))) ep
-    (subst (λ (x : Ring). RuledSide (mode_of c.index.result.now.plan c.args.side) l
+    (subst (λ (x : Ring). RuledSide c.index.result.now.plan.geometry (mode_of c.index.result.now.plan c.args.side) l
     → WordsAgree (mode_of c.index.result.now.plan c.args.side) l (side_words x c.args.side) → TailFits c.index.result.now.plan c.index_mut-2.result.now.observed
     → c.reserve.result ≡ (if is_some c.index_mut-2.result.now.span then NoSpan
     else reserve_seen c.index.result.now.plan c.args.side c.args.how c.args.count l c.index_mut-2.result.now.count
