@@ -20,7 +20,7 @@ use Rattle.pool_laws.proofs.Wholes.{same_mine}
 module _ {T : Type 0} {S : Type 0} {C : Type 0} {G : Ghosts T} {H : StoredGhosts S T} {N : ℕ} {K : StoreGhosts C T}
     (l : Local T N S C G H K) where
   pub cache_own : AreOwnBuffers G.numbers (view_of l) (cache_of l)
-  cache_own = ((λ b. omega (arith, l.kept b)), l.single)
+  cache_own = (l.own, l.single)
 
   -- a hand that is there has no buffer twice
   held_once : (o : Option (CacheHand T S G H)) → is_some o ≡ true → (b : ℕ) → holds G.numbers b (view_in o).party ≤ 1

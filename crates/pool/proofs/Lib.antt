@@ -1,5 +1,9 @@
 pub mod Apart
+pub mod Asides
 pub mod ByValue
 pub mod Filled
+pub mod Opened
+pub mod Placing
+pub mod Reaches
 pub mod Shown
 pub mod Stacks

@@ -1,4 +1,8 @@
 pub mod Stacks
+pub mod Places
+pub mod WordStacks
+pub mod Asides
+pub mod Spares
 pub mod Slices
 pub mod Wholes
 pub mod Locals

@@ -1,5 +1,5 @@
 //! A cache of any items: a list, whose items move through bursts. And what it asks of its free ring.
-ghost use Rattle.std.specs.Prelude.{◌≡◌, ◌+◌, ◌-◌, ◌<◌, ◌≤◌, ◌++◌, [], length, take, drop, reverse, IfOk, IfErr};
+ghost use Rattle.std.specs.Prelude.{◌≡◌, ◌+◌, ◌-◌, ◌<◌, ◌≤◌, ◌++◌, [], length, take, drop, reverse, true, IfOk, IfErr};
 ghost use Rattle.ringcore_laws.specs.FreeRings.{AreSingle};
 ghost use Rattle.fabric.specs.Hands.{IsHandOf, OnRing, view};
 ghost use Rattle.fabric.specs.CacheHands.{IsCacheHandOf, Keeps, SameCacheHand, view_of_cache_hand};
@@ -192,6 +192,10 @@ impl<T: Tagged, const N: usize> Store<T> for Burst<T, N> {
 
     ghost room = { λ _. N };
 
+    ghost reach = { λ _ _. true };
+
+    ghost aside = { true };
+
     #[inline(always)]
     fn len(&self) -> usize {
         Burst::len(self)
@@ -252,8 +256,22 @@ impl<T: Tagged, const N: usize> Gives<T, Burst<T, N>> for Burst<T, N> {
 }
 
 impl<T: Tagged, const N: usize> Accepts<T, Burst<T, N>> for Burst<T, N> {
-    #[inline]
-    fn push_all(&mut self, list: &mut Burst<T, N>) {
-        push_all(self, list);
+    #[inline(always)]
+    fn admit<S: Stored<T>>(
+        &mut self,
+        cache_hand: &mut CacheHand<T, S>,
+        list: &mut Burst<T, N>,
+    ) -> bool {
+        let may = cache_hand.set_aside(list);
+        if may {
+            push_all(self, list);
+        }
+        may
+    }
+
+    /// Never: the hand sets its buffers aside.
+    #[inline(always)]
+    fn has_any(&self, _list: &Burst<T, N>) -> bool {
+        false
     }
 }

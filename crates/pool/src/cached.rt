@@ -6,6 +6,7 @@ ghost use Rattle.pool.specs.Locals.{HasSameHand, SameRing, cache_of, cache_size,
 ghost use Rattle.pool.specs.Slices.{put_from, undone};
 
 use crate::local::Local;
+use crate::set_aside::may_admit;
 use crate::store::{Accepts, Gives, Store};
 use burst::Tagged;
 use fabric::{PutItems, Stored, TakeItems};
@@ -54,14 +55,16 @@ impl<T: Tagged, const N: usize, S: Stored<T>, C: Store<T> + Drop> Local<T, N, S,
             Some(cache_hand) => cache_hand,
             None => unreachable!(),
         };
-        if !cache_hand.set_aside(list) {
+        if list.len() > 3 * self.size / 2 - self.cache.len() {
+            return if may_admit(cache_hand, &self.cache, list) {
+                Err(PoolFault::CacheFull)
+            } else {
+                Err(PoolFault::NotYours)
+            };
+        }
+        if !self.cache.admit(cache_hand, list) {
             return Err(PoolFault::NotYours);
         }
-        if list.len() > 3 * self.size / 2 - self.cache.len() {
-            cache_hand.restore(list);
-            return Err(PoolFault::CacheFull);
-        }
-        self.cache.push_all(list);
         Ok(())
     }
 }

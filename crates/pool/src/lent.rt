@@ -10,7 +10,8 @@ ghost use Rattle.pool.specs.Locals.{HasSameHand, IsLocalOf, SameCache, SameRing,
 
 use crate::bursts::{empty, fetch, shed};
 use crate::local::Local;
-use crate::set_aside::{admit, keep_back, whole_hand};
+use crate::set_aside::{keep_back, whole_hand};
+use crate::store::Accepts;
 use burst::{Burst, Tagged};
 use fabric::{Fabric, StartFault, Stored};
 use pool_laws::{PoolFault, take_hand};
@@ -78,7 +79,7 @@ impl<T: Tagged, const N: usize, S: Stored<T>> Local<T, N, S> {
     {
         let before = self.cache.len();
         let may = match &mut self.hand {
-            Some(cache_hand) => admit(cache_hand, &mut self.cache, list),
+            Some(cache_hand) => self.cache.admit(cache_hand, list),
             None => unreachable!(),
         };
         if !may {

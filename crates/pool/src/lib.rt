@@ -2,12 +2,12 @@
 //! buffers that this thread's hand owns, so that most gets and puts touch no word of the ring.
 //!
 //! `local` is the cache. It holds its buffers in a `store`: a list of items of any kind, which move through bursts
-//! (`bursts`, `list_moves`), or an array of plain words, which are copied to and from slices (`words`, `stack`,
-//! `stack_moves`). These have one body for both: `cached` has the gets and puts of the cache alone, `other_rings` those
-//! on another ring of the fabric, `opening` makes a cache, and `queries` look at it. The calls by name: `lent` with a
-//! burst that is borrowed, `values` with one by value, `slices` with a slice, `tries` with a slice and tried once.
-//! Below them, `set_aside` has the hand that sets the cached buffers aside, and `ring_requests` the requests of the
-//! free ring.
+//! (`bursts`, `list_moves`), or an array of plain words, which are copied to and from slices (`words`, `word_stack`,
+//! `word_moves`; `stack`, `stack_moves` and `places` are below these). These have one body for both: `cached` has the
+//! gets and puts of the cache alone, `other_rings` those on another ring of the fabric, `opening` makes a cache, and
+//! `queries` look at it. The calls by name: `lent` with a burst that is borrowed, `values` with one by value, `slices`
+//! with a slice, `tries` with a slice and tried once. Below them, `set_aside` has the hand that sets the cached buffers
+//! aside, and `ring_requests` the requests of the free ring.
 #![tactic(auto)]
 
 mod bursts;
@@ -17,6 +17,7 @@ mod list_moves;
 mod local;
 mod opening;
 mod other_rings;
+mod places;
 mod queries;
 mod ring_requests;
 mod set_aside;
@@ -26,10 +27,12 @@ mod stack_moves;
 mod store;
 mod tries;
 mod values;
+mod word_moves;
 mod word_opening;
+mod word_stack;
 mod words;
 
 pub use local::Local;
 pub use slices::LocalWords;
-pub use stack::WordStack;
 pub use word_opening::CacheFault;
+pub use word_stack::WordStack;

@@ -1,5 +1,5 @@
 //! Making a cache, and getting its hand and its items back.
-ghost use Rattle.std.specs.Prelude.{◌≡◌, ◌+◌, ◌<◌, ◌≤◌, ◌⊎◌, ◌++◌, [], length, IfOk, IfErr};
+ghost use Rattle.std.specs.Prelude.{◌≡◌, ◌+◌, ◌<◌, ◌≤◌, ◌⊎◌, ◌++◌, [], length, true, IfOk, IfErr};
 ghost use Rattle.fabric.specs.Hands.{SameHand, view};
 ghost use Rattle.fabric.specs.Settles.{AreNotOwnBuffers, AreOwnBuffers};
 ghost use Rattle.pool_laws.specs.Caches.{threshold};
@@ -20,6 +20,7 @@ impl<T: Tagged, const N: usize, S: Stored<T>, C: Store<T> + Drop> Local<T, N, S,
     pub(crate) fn over(hand: Hand<T, S>, cache: C, ring: usize, size: usize) -> Local<T, N, S, C>
         requires free { IsFreeRing (view hand).plans ring }
         requires empty { C.items cache ≡ [] }
+        requires reach { C.reach cache (view hand).pool ≡ true }
         requires small { size ≤ 512 }
         requires fits { threshold size + 64 ≤ N }
         requires room { threshold size + 64 ≤ C.room cache }
@@ -47,6 +48,7 @@ impl<T: Tagged, const N: usize, S: Stored<T>, C: Store<T> + Drop> Local<T, N, S,
         C: Accepts<T, I>,
         requires free { IsFreeRing (view hand).plans ring }
         requires empty { C.items cache ≡ [] }
+        requires reach { C.reach cache (view hand).pool ≡ true }
         requires small { size ≤ 512 }
         requires fits { threshold size + 64 ≤ N }
         requires room { threshold size + 64 ≤ C.room cache }
@@ -55,21 +57,14 @@ impl<T: Tagged, const N: usize, S: Stored<T>, C: Store<T> + Drop> Local<T, N, S,
         ensures back { IfErr result (λ e. SameHand hand e.0 × (I.items list.new ≡ I.items list.old)) }
         ensures refused { IfErr result (λ e. RefusesCache T.numbers (view hand) size N (I.items list.old) e.1) }
     {
-        let mut cache_hand = hand.into_cache_hand();
-        if !cache_hand.set_aside(list) {
-            return Err((whole_hand(cache_hand, &cache), PoolFault::NotYours));
+        let mut local = Local::over(hand, cache, ring, size);
+        match local.put_in_cache(list) {
+            Ok(()) => Ok(local),
+            Err(fault) => {
+                let (hand, _) = local.into_hand();
+                Err((hand, fault))
+            }
         }
-        if list.len() > 3 * size / 2 {
-            return Err((cache_hand.into_hand(list), PoolFault::CacheFull));
-        }
-        let mut cache = cache;
-        cache.push_all(list);
-        Ok(Local {
-            hand: Some(cache_hand),
-            ring,
-            size,
-            cache,
-        })
     }
 
     /// The hand, and what has the items of the cache, the oldest first: the burst, or the stack of words

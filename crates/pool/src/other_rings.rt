@@ -1,9 +1,11 @@
 //! Puts and takes on any ring of the fabric by a hand that sets the buffers of a cache aside, for any kind of list: the
 //! cache isn't changed.
 ghost use Rattle.std.specs.Prelude.{◌≡◌, ◌<◌, ◌≤◌, [], ℕ, Some, length};
-ghost use Rattle.ringcore_laws.specs.FreeRings.{AreSingle};
+ghost use Rattle.ringcore_laws.specs.Moves.{Owns};
 ghost use Rattle.fabric.specs.Hands.{OnRing, rings_of};
-ghost use Rattle.fabric.specs.CacheHands.{IsCacheHandOf, Keeps};
+ghost use Rattle.fabric.specs.CacheHands.{IsCacheHandOf, Keeps, view_of_cache_hand};
+ghost use Rattle.fabric.specs.Settles.{AreOwnBuffers};
+ghost use Rattle.pool.specs.Asides.{set_aside_of};
 ghost use Rattle.ringapi.specs.Views.{by_burst};
 ghost use Rattle.pool_laws.specs.Beside.{IsPutBeside, IsTakenBeside, PutOwns, Receives, Sends, TakeOwns, unsent_of};
 ghost use Rattle.pool.specs.Locals.{IsLocalOf, SameCache, SameRing, cache_of, hand_of};
@@ -11,7 +13,7 @@ ghost use Rattle.pool.specs.Slices.{KeepsRoom, left_by};
 
 use crate::local::Local;
 use crate::set_aside::{keep_back, whole_hand};
-use crate::store::Store;
+use crate::store::{Accepts, Store};
 use burst::Tagged;
 use fabric::{CacheHand, Fabric, PutItems, StartFault, Stored, TakeItems};
 use geom::How;
@@ -25,7 +27,8 @@ pub(crate) fn put_answered<T: Tagged, const N: usize, S: Stored<T>, C: Store<T>>
     cache: &C,
 ) -> (CacheHand<T, S>, Result<Moved, Refusal>)
     requires own { PutOwns T.numbers (C.items cache.now) answer }
-    ensures kept { Keeps T.numbers result.0 (C.items cache.now) }
+    ensures kept { Keeps T.numbers result.0 (set_aside_of C.aside (C.items cache.now)) }
+    ensures owned { Owns T.numbers (view_of_cache_hand result.0).party (C.items cache.now) }
     ensures same { IsPutBeside answer.entry result.0 result.1 }
 {
     match answer {
@@ -41,7 +44,8 @@ pub(crate) fn take_answered<T: Tagged, const N: usize, S: Stored<T>, C: Store<T>
     cache: &C,
 ) -> (CacheHand<T, S>, Result<Moved, StartFault>)
     requires own { TakeOwns T.numbers (C.items cache.now) answer }
-    ensures kept { Keeps T.numbers result.0 (C.items cache.now) }
+    ensures kept { Keeps T.numbers result.0 (set_aside_of C.aside (C.items cache.now)) }
+    ensures owned { Owns T.numbers (view_of_cache_hand result.0).party (C.items cache.now) }
     ensures same { IsTakenBeside answer.entry result.0 result.1 }
 {
     match answer {
@@ -52,7 +56,7 @@ pub(crate) fn take_answered<T: Tagged, const N: usize, S: Stored<T>, C: Store<T>
 }
 
 /// Puts as many items of a list as there is room for, from its front.
-fn send_beside<T: Tagged, const N: usize, S: Stored<T>, I: PutItems<T>, C: Store<T>, R: Wait>(
+fn send_beside<T: Tagged, const N: usize, S: Stored<T>, I: PutItems<T>, C: Accepts<T, I>, R: Wait>(
     rt: &R,
     f: &Fabric<T, N, S>,
     cache_hand: CacheHand<T, S>,
@@ -62,15 +66,20 @@ fn send_beside<T: Tagged, const N: usize, S: Stored<T>, I: PutItems<T>, C: Store
 ) -> (CacheHand<T, S>, Result<Moved, Refusal>)
     requires cache_hand { IsCacheHandOf f.now cache_hand }
     requires ring { ring < length (rings_of f.now) }
-    requires kept { Keeps T.numbers cache_hand (C.items cache.now) }
-    requires single { AreSingle T.numbers (C.items cache.now) }
-    ensures cache_hand { IsCacheHandOf f.now result.0 × Keeps T.numbers result.0 (C.items cache.now) }
+    requires kept { Keeps T.numbers cache_hand (set_aside_of C.aside (C.items cache.now)) }
+    requires own { AreOwnBuffers T.numbers (view_of_cache_hand cache_hand) (C.items cache.now) }
+    ensures cache_hand { IsCacheHandOf f.now result.0
+        × Keeps T.numbers result.0 (set_aside_of C.aside (C.items cache.now)) }
+    ensures owned { Owns T.numbers (view_of_cache_hand result.0).party (C.items cache.now) }
     ensures exact { OnRing f.now ring (λ plan. Sends T.numbers by_burst N ring plan (Some cache_hand) (Some result.0)
         (C.items cache.now) (I.items list.old) result.1 (unsent_of result.1 (I.items list.old))) }
     ensures list { I.items list.new ≡ left_by I.after result.1 (I.items list.old) }
 {
     let mut cache_hand = cache_hand;
     if !cache_hand.may_put(f, ring, list) {
+        return (cache_hand, Err(Refusal::NotYours));
+    }
+    if cache.has_any(list) {
         return (cache_hand, Err(Refusal::NotYours));
     }
     let hand = whole_hand(cache_hand, cache);
@@ -89,11 +98,13 @@ fn receive_beside<T: Tagged, const N: usize, S: Stored<T>, I: TakeItems<T>, C: S
 ) -> (CacheHand<T, S>, Result<Moved, StartFault>)
     requires cache_hand { IsCacheHandOf f.now cache_hand }
     requires ring { ring < length (rings_of f.now) }
-    requires kept { Keeps T.numbers cache_hand (C.items cache.now) }
-    requires single { AreSingle T.numbers (C.items cache.now) }
+    requires kept { Keeps T.numbers cache_hand (set_aside_of C.aside (C.items cache.now)) }
+    requires own { AreOwnBuffers T.numbers (view_of_cache_hand cache_hand) (C.items cache.now) }
     requires empty { I.items into.old ≡ [] }
     requires fits { (m : ℕ) → m ≤ n → m ≤ N → m ≤ I.room into.old }
-    ensures cache_hand { IsCacheHandOf f.now result.0 × Keeps T.numbers result.0 (C.items cache.now) }
+    ensures cache_hand { IsCacheHandOf f.now result.0
+        × Keeps T.numbers result.0 (set_aside_of C.aside (C.items cache.now)) }
+    ensures owned { Owns T.numbers (view_of_cache_hand result.0).party (C.items cache.now) }
     ensures exact { OnRing f.now ring (λ plan. Receives T.numbers by_burst N ring plan (Some cache_hand)
         (Some result.0) n result.1 (I.items into.new)) }
     ensures beside { KeepsRoom I.beside into.old result.1 into.new }
@@ -112,6 +123,8 @@ impl<T: Tagged, const N: usize, S: Stored<T>, C: Store<T> + Drop> Local<T, N, S,
         ring: usize,
         list: &mut I,
     ) -> Result<Moved, Refusal>
+    where
+        C: Accepts<T, I>,
         requires local { IsLocalOf f.now self.old }
         requires ring { ring < length (rings_of f.now) }
         ensures local { IsLocalOf f.now self.new }

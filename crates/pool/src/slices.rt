@@ -11,9 +11,9 @@ ghost use Rattle.pool.specs.Locals.{HasSameHand, IsLocalOf, SameCache, SameRing,
 ghost use Rattle.pool.specs.Slices.{filled, undone};
 
 use crate::local::Local;
-use crate::set_aside::{admit, keep_back, whole_hand};
-use crate::stack::WordStack;
-use crate::store::Store;
+use crate::set_aside::{keep_back, whole_hand};
+use crate::store::{Accepts, Store};
+use crate::word_stack::WordStack;
 use crate::words::{empty, fetch, shed};
 use burst::Word;
 use fabric::{Fabric, Front, StartFault, Stored, Words};
@@ -112,7 +112,7 @@ impl<T: Word, const N: usize, S: Stored<T>> Local<T, N, S, WordStack<T>> {
             return self.put_slice_on_ring(rt, f, items);
         }
         let may = match &mut self.hand {
-            Some(cache_hand) => { admit(cache_hand, &mut self.cache, &mut Words { words: items }) }
+            Some(cache_hand) => self.cache.admit(cache_hand, &mut Words { words: items }),
             None => unreachable!(),
         };
         if may {
@@ -139,7 +139,7 @@ impl<T: Word, const N: usize, S: Stored<T>> Local<T, N, S, WordStack<T>> {
     {
         let before = self.cache.len();
         let may = match &mut self.hand {
-            Some(cache_hand) => admit(cache_hand, &mut self.cache, &mut Words { words: items }),
+            Some(cache_hand) => self.cache.admit(cache_hand, &mut Words { words: items }),
             None => unreachable!(),
         };
         if !may {

@@ -1,8 +1,8 @@
-//! Pushes and pops of a stack of words. One word, as in most calls, is moved by itself; a longer run is copied.
+//! Pops of a stack of words, and moves in it. One word, as in most calls, is moved by itself; a longer run is copied.
 ghost use Rattle.std.specs.Prelude.{◌≡◌, ◌<◌, ◌+◌, ◌-◌, ◌≤◌, ◌++◌, ◌∷◌, [], length, take, drop, reverse, IfOk};
 ghost use Rattle.pool.specs.Stacks.{room_of, stacked};
 
-use crate::stack::WordStack;
+use crate::stack::Stack;
 use burst::Word;
 use std::alloc::{AllocError, Global};
 
@@ -18,9 +18,9 @@ fn copy_reversed<T: Word>(from: &[T], into: &mut [T])
     }
 }
 
-impl<T: Word> WordStack<T> {
+impl<T: Word> Stack<T> {
     /// An empty stack with so many places. Takes their memory.
-    pub(crate) fn new(alloc: Global, room: usize) -> Result<WordStack<T>, AllocError>
+    pub(crate) fn new(alloc: Global, room: usize) -> Result<Stack<T>, AllocError>
         ensures empty { IfOk result (λ s. stacked s ≡ []) }
         ensures room { IfOk result (λ s. room_of s ≡ room) }
     {
@@ -28,7 +28,7 @@ impl<T: Word> WordStack<T> {
         for _ in 0..room {
             places.push(T::blank())?;
         }
-        Ok(WordStack { places, count: 0 })
+        Ok(Stack { places, count: 0 })
     }
 
     /// Its words, the oldest first.
@@ -43,21 +43,9 @@ impl<T: Word> WordStack<T> {
     pub fn into_words(self) -> Vec<T>
         ensures { result.items ≡ stacked self }
     {
-        let WordStack { mut places, count } = self;
+        let Stack { mut places, count } = self;
         places.truncate(count);
         places
-    }
-
-    /// Pushes a word. Requires: there is room for it.
-    #[inline]
-    fn push(&mut self, item: T)
-        requires room { length (stacked self.old) < room_of self.old }
-        ensures room { room_of self.new ≡ room_of self.old }
-        ensures pushed { stacked self.new ≡ stacked self.old ++ item ∷ [] }
-    {
-        let count = self.count;
-        self.places[count] = item;
-        self.count = count + 1;
     }
 
     /// Pops the newest word. Requires: there is one.
@@ -71,22 +59,6 @@ impl<T: Word> WordStack<T> {
         let count = self.count - 1;
         self.count = count;
         self.places[count]
-    }
-
-    /// Pushes the words of a slice, in order. Requires: there is room for them.
-    #[inline]
-    pub(crate) fn push_slice(&mut self, items: &[T])
-        requires room { length (stacked self.old) + length items.now ≤ room_of self.old }
-        ensures room { room_of self.new ≡ room_of self.old }
-        ensures pushed { stacked self.new ≡ stacked self.old ++ items.now }
-    {
-        if items.len() == 1 {
-            self.push(items[0]);
-            return;
-        }
-        let end = self.count + items.len();
-        self.places.as_mut_slice()[self.count..end].copy_from_slice(items);
-        self.count = end;
     }
 
     /// Pops as many words as a slice has places into it, the newest first. Requires: there are as many.

@@ -1,42 +1,49 @@
 //! Bulk puts and takes of words that are tried once, for callers that may not wait: by the hand of a cache, on rings
 //! with head/tail-sync sides. There a span is settled at once, so that no open span is left. The cache isn't changed.
-ghost use Rattle.std.specs.Prelude.{◌≡◌, ◌<◌, ◌++◌, List, Some, drop, length};
-ghost use Rattle.ringcore_laws.specs.FreeRings.{AreSingle};
+ghost use Rattle.std.specs.Prelude.{◌≡◌, ◌<◌, ◌++◌, List, [], Some, drop, length};
+ghost use Rattle.ringcore_laws.specs.Moves.{Owns};
 ghost use Rattle.fabric.specs.Hands.{OnRing, rings_of};
-ghost use Rattle.fabric.specs.CacheHands.{IsCacheHandOf, Keeps};
+ghost use Rattle.fabric.specs.CacheHands.{IsCacheHandOf, Keeps, view_of_cache_hand};
+ghost use Rattle.fabric.specs.Settles.{AreOwnBuffers};
 ghost use Rattle.ringapi.specs.Views.{by_bulk};
 ghost use Rattle.pool_laws.specs.Beside.{IsPutByHts, IsTakenByHts, Receives, Sends, unsent_of};
+ghost use Rattle.pool.specs.WordStacks.{words_in};
 ghost use Rattle.pool.specs.Locals.{IsLocalOf, SameCache, SameRing, cache_of, hand_of};
 
 use crate::local::Local;
 use crate::other_rings::{put_answered, take_answered};
 use crate::set_aside::whole_hand;
-use crate::stack::WordStack;
-use crate::store::Store;
+use crate::store::{Accepts, Store};
+use crate::word_stack::WordStack;
 use burst::Word;
 use fabric::{CacheHand, Fabric, StartFault, Stored, Words};
 use pool_laws::take_hand;
 use ringapi::{Moved, Refusal, try_put_bulk_slice, try_take_bulk_slice};
 
 /// Tries once to put all words of a slice.
-fn try_send_beside<T: Word, const N: usize, S: Stored<T>, C: Store<T>>(
+fn try_send_beside<T: Word, const N: usize, S: Stored<T>>(
     f: &Fabric<T, N, S>,
     cache_hand: CacheHand<T, S>,
     ring: usize,
-    cache: &C,
+    cache: &WordStack<T>,
     items: &[T],
 ) -> (CacheHand<T, S>, Result<Moved, Refusal>)
     requires cache_hand { IsCacheHandOf f.now cache_hand }
     requires ring { ring < length (rings_of f.now) }
     requires hts { OnRing f.now ring IsPutByHts }
-    requires kept { Keeps T.numbers cache_hand (C.items cache.now) }
-    requires single { AreSingle T.numbers (C.items cache.now) }
-    ensures cache_hand { IsCacheHandOf f.now result.0 × Keeps T.numbers result.0 (C.items cache.now) }
+    requires kept { Keeps T.numbers cache_hand [] }
+    requires own { AreOwnBuffers T.numbers (view_of_cache_hand cache_hand) (words_in cache.now) }
+    ensures cache_hand { IsCacheHandOf f.now result.0 × Keeps T.numbers result.0 [] }
+    ensures own { Owns T.numbers (view_of_cache_hand result.0).party (words_in cache.now) }
     ensures exact { OnRing f.now ring (λ plan. Sends T.numbers by_bulk N ring plan (Some cache_hand) (Some result.0)
-        (C.items cache.now) items.now result.1 (unsent_of result.1 items.now)) }
+        (words_in cache.now) items.now result.1 (unsent_of result.1 items.now)) }
 {
     let mut cache_hand = cache_hand;
-    if !cache_hand.may_put(f, ring, &Words { words: items }) {
+    let list = Words { words: items };
+    if !cache_hand.may_put(f, ring, &list) {
+        return (cache_hand, Err(Refusal::NotYours));
+    }
+    if cache.has_any(&list) {
         return (cache_hand, Err(Refusal::NotYours));
     }
     let hand = whole_hand(cache_hand, cache);
@@ -44,19 +51,20 @@ fn try_send_beside<T: Word, const N: usize, S: Stored<T>, C: Store<T>>(
 }
 
 /// Tries once to take as many words as a slice has places.
-fn try_receive_beside<T: Word, const N: usize, S: Stored<T>, C: Store<T>>(
+fn try_receive_beside<T: Word, const N: usize, S: Stored<T>>(
     f: &Fabric<T, N, S>,
     cache_hand: CacheHand<T, S>,
     ring: usize,
-    cache: &C,
+    cache: &WordStack<T>,
     into: &mut [T],
 ) -> (CacheHand<T, S>, Result<Moved, StartFault>)
     requires cache_hand { IsCacheHandOf f.now cache_hand }
     requires ring { ring < length (rings_of f.now) }
     requires hts { OnRing f.now ring IsTakenByHts }
-    requires kept { Keeps T.numbers cache_hand (C.items cache.now) }
-    requires single { AreSingle T.numbers (C.items cache.now) }
-    ensures cache_hand { IsCacheHandOf f.now result.0 × Keeps T.numbers result.0 (C.items cache.now) }
+    requires kept { Keeps T.numbers cache_hand [] }
+    requires own { AreOwnBuffers T.numbers (view_of_cache_hand cache_hand) (words_in cache.now) }
+    ensures cache_hand { IsCacheHandOf f.now result.0 × Keeps T.numbers result.0 [] }
+    ensures own { Owns T.numbers (view_of_cache_hand result.0).party (words_in cache.now) }
     ensures exact { (shown : List T) × (into.new ≡ shown ++ drop (length shown) into.old)
         × OnRing f.now ring (λ plan. Receives T.numbers by_bulk N ring plan (Some cache_hand) (Some result.0)
         (length into.old) result.1 shown) }

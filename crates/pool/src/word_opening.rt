@@ -8,7 +8,7 @@ ghost use Rattle.pool.specs.Openings.{RefusesSize, RefusesWords};
 ghost use Rattle.pool.specs.Locals.{HasHand, cache_of, cache_size, ring_of};
 
 use crate::local::Local;
-use crate::stack::WordStack;
+use crate::word_stack::WordStack;
 use burst::Word;
 use fabric::{Hand, Stored, Words};
 use pool_laws::{BATCH, PoolFault, may_be};
@@ -18,7 +18,7 @@ use thiserror::Error;
 /// Why no cache of words is made.
 #[derive(Drop, Clone, Copy, Debug, PartialEq, Eq, Error)]
 pub enum CacheFault {
-    /// Out of memory for its array.
+    /// Out of memory for its arrays.
     #[error("Memory")]
     Memory,
     /// No cache can have this size or these words: `BadSize`, `NotYours` or `CacheFull`.
@@ -40,7 +40,8 @@ impl CacheFault {
 
 impl<T: Word, const N: usize, S: Stored<T>> Local<T, N, S, WordStack<T>> {
     /// An empty cache of this size, 0 to 512, in front of a free ring. Requires: the ring is one of the hand's fabric,
-    /// and free. Takes the memory of its array, `floor(3 * size / 2) + 64` words.
+    /// and free. Takes the memory of its arrays: `floor(3 * size / 2) + 64` words, and two bytes for each buffer of the
+    /// fabric.
     ///
     /// Errors, in the order of the tests: `BadSize` if the size is above 512, or the array would have more than `N`
     /// words; `Memory`. The hand comes back.
@@ -60,14 +61,14 @@ impl<T: Word, const N: usize, S: Stored<T>> Local<T, N, S, WordStack<T>> {
         if !may_be(size, N) {
             return Err((hand, CacheFault::Pool(PoolFault::BadSize)));
         }
-        let Ok(cache) = WordStack::new(alloc, 3 * size / 2 + BATCH) else {
+        let Ok(cache) = WordStack::new(alloc, 3 * size / 2 + BATCH, hand.buffers()) else {
             return Err((hand, CacheFault::Memory));
         };
         Ok(Local::over(hand, cache, ring, size))
     }
 
     /// A cache of this size that has the words of a slice, the oldest first, as `into_hand` returned them. Requires: as
-    /// for `new`. Takes the memory of its array.
+    /// for `new`. Takes the memory of its arrays.
     ///
     /// Errors, in the order of the tests: `BadSize`, `Memory`, as for `new`; `NotYours`; `CacheFull` if there are more
     /// than `floor(3 * size / 2)`. The hand comes back.
@@ -88,7 +89,7 @@ impl<T: Word, const N: usize, S: Stored<T>> Local<T, N, S, WordStack<T>> {
         if !may_be(size, N) {
             return Err((hand, CacheFault::Pool(PoolFault::BadSize)));
         }
-        let Ok(cache) = WordStack::new(alloc, 3 * size / 2 + BATCH) else {
+        let Ok(cache) = WordStack::new(alloc, 3 * size / 2 + BATCH, hand.buffers()) else {
             return Err((hand, CacheFault::Memory));
         };
         let mut words = Words { words: items };

@@ -1,38 +1,47 @@
 //! A cache of plain words: a stack over an array. Words are copied into slices and out of them. And what it asks of its
 //! free ring.
-ghost use Rattle.std.specs.Prelude.{◌≡◌, ◌+◌, ◌-◌, ◌<◌, ◌≤◌, ◌++◌, [], length, take, drop, reverse, true, false, IfOk, IfErr};
+ghost use Rattle.std.specs.Prelude.{◌≡◌, ◌+◌, ◌-◌, ◌<◌, ◌≤◌, ◌++◌, ◌⊎◌, [], length, nat_le, take, drop, reverse, true, false, IfOk, IfErr};
 ghost use Rattle.ringcore_laws.specs.FreeRings.{AreSingle};
-ghost use Rattle.ringcore_laws.specs.Sound.{occurrences_in};
+ghost use Rattle.ringcore_laws.specs.Moves.{Owns};
 ghost use Rattle.fabric.specs.Hands.{IsHandOf, OnRing, view};
 ghost use Rattle.ringapi.specs.Holdings.{HasMore};
-ghost use Rattle.fabric.specs.CacheHands.{IsCacheHandOf, Keeps, SameCacheHand, view_of_cache_hand};
+ghost use Rattle.fabric.specs.CacheHands.{IsCacheHandOf, Keeps, view_of_cache_hand};
 ghost use Rattle.fabric.specs.Settles.{AreOwnBuffers};
 ghost use Rattle.pool_laws.specs.Asks.{Fetches, Flushes, Refills, Sheds, Spills};
 ghost use Rattle.pool_laws.specs.Hands.{IsFreeOf};
 ghost use Rattle.pool.specs.Slices.{filled, undone};
+ghost use Rattle.pool.specs.Spares.{EachIsSpare, SomeIsNotSpare};
 ghost use Rattle.pool.specs.Stacks.{added, room_of, stacked};
+ghost use Rattle.pool.specs.WordStacks.{buffers_in, room_in, words_in};
 
+use crate::places::{has_any, place_all};
 use crate::ring_requests::{put_bulk, refill};
 use crate::set_aside::{keep_back, whole_hand};
-use crate::stack::WordStack;
+use crate::stack::Stack;
 use crate::store::{Accepts, Gives, Store};
+use crate::word_stack::WordStack;
 use burst::Word;
 use fabric::{CacheHand, Fabric, Front, Hand, Stored, Words};
-use pool_laws::{PoolFault, carries};
+use pool_laws::PoolFault;
 use std::sync::Wait;
 
-/// Whether a word of a slice carries this buffer. Each word carries one buffer.
-fn one_carries<T: Word>(items: &[T], b: u32) -> bool
-    requires single { AreSingle T.numbers items.now }
-    ensures found { result ≡ true → 0 < occurrences_in T.numbers b items.now }
-    ensures none { result ≡ false → occurrences_in T.numbers b items.now ≡ 0 }
+/// Whether each word of a slice carries one buffer, which is spare.
+#[inline]
+fn are_spare<T: Word, S: Stored<T>>(cache_hand: &CacheHand<T, S>, items: &[T]) -> bool
+    ensures single { result ≡ true → AreSingle T.numbers items.now }
+    ensures spare { result ≡ true → EachIsSpare T.numbers cache_hand.now items.now }
+    ensures other { result ≡ false
+        → SomeIsNotSpare T.numbers cache_hand.now items.now ⊎ (AreSingle T.numbers items.now → ⊥) }
 {
     for i in 0..items.len() {
-        if carries(&items[i], b) {
-            return true;
+        let Some(b) = items[i].single_tag() else {
+            return false;
+        };
+        if !cache_hand.has_spare(b) {
+            return false;
         }
     }
-    false
+    true
 }
 
 /// The `missing` words that a cache lacks, and `size` more, taken to the front of a slice; if the ring has fewer than
@@ -73,7 +82,7 @@ fn refill_slice<T: Word, const N: usize, S: Stored<T>, R: Wait>(
     (answer, taken)
 }
 
-/// `refill_slice` into the places behind the words of a cache.
+/// `refill_slice` into the places after the words of a cache.
 fn refill_stack<T: Word, const N: usize, S: Stored<T>, R: Wait>(
     rt: &R,
     f: &Fabric<T, N, S>,
@@ -81,7 +90,7 @@ fn refill_stack<T: Word, const N: usize, S: Stored<T>, R: Wait>(
     ring: usize,
     missing: usize,
     size: usize,
-    cache: &mut WordStack<T>,
+    cache: &mut Stack<T>,
 ) -> Result<Hand<T, S>, (Hand<T, S>, PoolFault)>
     requires hand { IsHandOf f.now hand }
     requires free { IsFreeOf f.now ring }
@@ -116,35 +125,15 @@ fn refill_stack<T: Word, const N: usize, S: Stored<T>, R: Wait>(
     answer
 }
 
-/// Pops as many words of a cache as a slice has places into it, the newest first, and takes their buffers back.
-#[inline(always)]
-fn give_slice<T: Word, S: Stored<T>>(
-    cache_hand: &mut CacheHand<T, S>,
-    cache: &mut WordStack<T>,
-    into: &mut [T],
-)
-    requires kept { Keeps T.numbers cache_hand.old (stacked cache.old) }
-    requires enough { length into.old ≤ length (stacked cache.old) }
-    ensures same { SameCacheHand cache_hand.old cache_hand.new }
-    ensures room { room_of cache.new ≡ room_of cache.old }
-    ensures kept { Keeps T.numbers cache_hand.new (stacked cache.new) }
-    ensures left { stacked cache.new ≡ take (length (stacked cache.old) - length into.old) (stacked cache.old) }
-    ensures moved { into.new ≡ reverse (drop (length (stacked cache.old) - length into.old) (stacked cache.old)) }
-{
-    cache.pop_slice(into);
-    cache_hand.restore(&Words { words: into });
-}
-
-/// Gets words into a slice if the cache has too few: all of them, the newest first, followed by the first of those that
-/// refill the cache. At a refusal nothing moves.
-#[inline(never)]
-pub(crate) fn fetch<T: Word, const N: usize, S: Stored<T>, R: Wait>(
+/// Gets words into a slice if a stack has too few: all of them, the newest first, followed by the first of those that
+/// refill it. At a refusal nothing moves.
+fn fetch_words<T: Word, const N: usize, S: Stored<T>, R: Wait>(
     rt: &R,
     f: &Fabric<T, N, S>,
     hand: Hand<T, S>,
     ring: usize,
     size: usize,
-    cache: &mut WordStack<T>,
+    cache: &mut Stack<T>,
     into: &mut [T],
 ) -> Result<Hand<T, S>, (Hand<T, S>, PoolFault)>
     requires hand { IsHandOf f.now hand }
@@ -174,6 +163,44 @@ pub(crate) fn fetch<T: Word, const N: usize, S: Stored<T>, R: Wait>(
     }
 }
 
+/// The same with a cache: the words that refill it get their places.
+#[inline(never)]
+pub(crate) fn fetch<T: Word, const N: usize, S: Stored<T>, R: Wait>(
+    rt: &R,
+    f: &Fabric<T, N, S>,
+    hand: Hand<T, S>,
+    ring: usize,
+    size: usize,
+    cache: &mut WordStack<T>,
+    into: &mut [T],
+) -> Result<Hand<T, S>, (Hand<T, S>, PoolFault)>
+    requires hand { IsHandOf f.now hand }
+    requires free { IsFreeOf f.now ring }
+    requires own { AreOwnBuffers T.numbers (view hand) (words_in cache.old) }
+    requires buffers { (view hand).pool ≤ buffers_in cache.old }
+    requires short { length (words_in cache.old) < length into.old }
+    requires at_most { length into.old + size ≤ N }
+    requires room { length into.old + size ≤ room_in cache.old }
+    ensures room { room_in cache.new ≡ room_in cache.old }
+    ensures buffers { buffers_in cache.new ≡ buffers_in cache.old }
+    ensures kept { IfOk result (IsHandOf f.now) }
+    ensures same { IfErr result (λ e. IsHandOf f.now e.0 × (words_in cache.new ≡ words_in cache.old)) }
+    ensures back { IfErr result (λ _. into.new ≡ into.old) }
+    ensures within { IfOk result (λ _. length (words_in cache.new) ≤ size) }
+    ensures exact { OnRing f.now ring (λ plan. Fetches T.numbers N ring plan size (view hand) (length into.old)
+        (words_in cache.old) result (filled result into.new) (words_in cache.new)) }
+    ensures own { IfOk result (λ h. AreOwnBuffers T.numbers (view h) (into.new ++ words_in cache.new)) }
+    ensures party { IfErr result (λ e. (view e.0).party ≡ (view hand).party) }
+{
+    match fetch_words(rt, f, hand, ring, size, &mut cache.stack, into) {
+        Ok(hand) => {
+            place_all(cache.stack.as_slice(), cache.at.as_mut_slice());
+            Ok(hand)
+        }
+        Err(refused) => Err(refused),
+    }
+}
+
 /// One bulk put of the oldest `spare` words of a cache, tried until it succeeds or is refused. The others move to the
 /// front afterwards.
 fn spill<T: Word, const N: usize, S: Stored<T>, R: Wait>(
@@ -182,7 +209,7 @@ fn spill<T: Word, const N: usize, S: Stored<T>, R: Wait>(
     hand: Hand<T, S>,
     ring: usize,
     spare: usize,
-    cache: &mut WordStack<T>,
+    cache: &mut Stack<T>,
 ) -> Result<Hand<T, S>, Hand<T, S>>
     requires hand { IsHandOf f.now hand }
     requires free { IsFreeOf f.now ring }
@@ -222,24 +249,25 @@ pub(crate) fn empty<T: Word, const N: usize, S: Stored<T>, R: Wait>(
 ) -> Result<Hand<T, S>, Hand<T, S>>
     requires hand { IsHandOf f.now hand }
     requires free { IsFreeOf f.now ring }
-    requires own { AreOwnBuffers T.numbers (view hand) (stacked cache.old) }
-    requires fits { length (stacked cache.old) ≤ N }
-    ensures room { room_of cache.new ≡ room_of cache.old }
-    ensures kept { IfOk result (λ h. IsHandOf f.now h × (stacked cache.new ≡ [])) }
-    ensures same { IfErr result (λ h. IsHandOf f.now h × (stacked cache.new ≡ stacked cache.old)) }
-    ensures exact { OnRing f.now ring (λ plan. Flushes T.numbers N ring plan (view hand) (stacked cache.old) result
-        (stacked cache.new)) }
+    requires own { AreOwnBuffers T.numbers (view hand) (words_in cache.old) }
+    requires fits { length (words_in cache.old) ≤ N }
+    ensures room { room_in cache.new ≡ room_in cache.old }
+    ensures buffers { buffers_in cache.new ≡ buffers_in cache.old }
+    ensures kept { IfOk result (λ h. IsHandOf f.now h × (words_in cache.new ≡ [])) }
+    ensures same { IfErr result (λ h. IsHandOf f.now h × (words_in cache.new ≡ words_in cache.old)) }
+    ensures exact { OnRing f.now ring (λ plan. Flushes T.numbers N ring plan (view hand) (words_in cache.old) result
+        (words_in cache.new)) }
     ensures party { IfErr result (λ h. (view h).party ≡ (view hand).party) }
 {
-    if cache.count == 0 {
+    if cache.stack.count == 0 {
         return Ok(hand);
     }
     let mut all = Words {
-        words: cache.as_slice(),
+        words: cache.stack.as_slice(),
     };
     match put_bulk(rt, f, hand, ring, &mut all) {
         Ok(hand) => {
-            cache.cut(0);
+            cache.stack.cut(0);
             Ok(hand)
         }
         Err(hand) => Err(hand),
@@ -260,37 +288,48 @@ pub(crate) fn shed<T: Word, const N: usize, S: Stored<T>, R: Wait>(
 ) -> Result<CacheHand<T, S>, CacheHand<T, S>>
     requires cache_hand { IsCacheHandOf f.now cache_hand }
     requires free { IsFreeOf f.now ring }
-    requires kept { Keeps T.numbers cache_hand (stacked cache.old) }
-    requires single { AreSingle T.numbers (stacked cache.old) }
-    requires length { size < length (stacked cache.old) }
-    requires fits { length (stacked cache.old) ≤ N }
-    requires before { before ≤ length (stacked cache.old) }
-    ensures room { room_of cache.new ≡ room_of cache.old }
-    ensures cache_hand { IfOk result (λ k. IsCacheHandOf f.now k × Keeps T.numbers k (stacked cache.new)) }
-    ensures same { IfErr result (λ k. IsCacheHandOf f.now k × Keeps T.numbers k (stacked cache.new)) }
-    ensures single { AreSingle T.numbers (stacked cache.new) }
+    requires kept { Keeps T.numbers cache_hand [] }
+    requires own { AreOwnBuffers T.numbers (view_of_cache_hand cache_hand) (words_in cache.old) }
+    requires buffers { (view_of_cache_hand cache_hand).pool ≤ buffers_in cache.old }
+    requires length { size < length (words_in cache.old) }
+    requires fits { length (words_in cache.old) ≤ N }
+    requires before { before ≤ length (words_in cache.old) }
+    ensures room { room_in cache.new ≡ room_in cache.old }
+    ensures buffers { buffers_in cache.new ≡ buffers_in cache.old }
+    ensures cache_hand { IfOk result (λ k. IsCacheHandOf f.now k × Keeps T.numbers k []) }
+    ensures same { IfErr result (λ k. IsCacheHandOf f.now k × Keeps T.numbers k []) }
+    ensures own { IfOk result (λ k. Owns T.numbers (view_of_cache_hand k).party (words_in cache.new)) }
+    ensures owned { IfErr result (λ k. Owns T.numbers (view_of_cache_hand k).party (words_in cache.new)) }
+    ensures single { AreSingle T.numbers (words_in cache.new) }
     ensures exact { OnRing f.now ring (λ plan. Sheds T.numbers N ring plan size before (view_of_cache_hand cache_hand)
-        (stacked cache.old) result (undone result (drop before (stacked cache.old))) (stacked cache.new)) }
+        (words_in cache.old) result (undone result (drop before (words_in cache.old))) (words_in cache.new)) }
 {
-    let spare = cache.count - size;
+    let spare = cache.stack.count - size;
     let hand = whole_hand(cache_hand, cache);
-    match spill(rt, f, hand, ring, spare, cache) {
-        Ok(hand) => Ok(keep_back(hand, cache)),
+    match spill(rt, f, hand, ring, spare, &mut cache.stack) {
+        Ok(hand) => {
+            place_all(cache.stack.as_slice(), cache.at.as_mut_slice());
+            Ok(keep_back(hand, cache))
+        }
         Err(hand) => {
-            cache.cut(before);
+            cache.stack.cut(before);
             Err(keep_back(hand, cache))
         }
     }
 }
 
 impl<T: Word> Store<T> for WordStack<T> {
-    ghost items = { stacked };
+    ghost items = { words_in };
 
-    ghost room = { room_of };
+    ghost room = { room_in };
+
+    ghost reach = { λ s n. nat_le n (buffers_in s) };
+
+    ghost aside = { false };
 
     #[inline(always)]
     fn len(&self) -> usize {
-        self.count
+        self.stack.count
     }
 
     #[inline(always)]
@@ -301,22 +340,21 @@ impl<T: Word> Store<T> for WordStack<T> {
     ) {
         match from.take() {
             Some(cache_hand) => {
-                *to = Some(cache_hand.into_hand(&Words {
-                    words: self.as_slice(),
-                }));
+                *to = Some(cache_hand.into_hand(&Words { words: &[] }));
             }
             None => unreachable!(),
         }
     }
 
-    fn set_aside<S: Stored<T>>(&self, cache_hand: &mut CacheHand<T, S>) -> bool {
-        cache_hand.set_aside(&Words {
-            words: self.as_slice(),
-        })
+    /// Nothing is set aside.
+    #[inline(always)]
+    fn set_aside<S: Stored<T>>(&self, _cache_hand: &mut CacheHand<T, S>) -> bool {
+        true
     }
 
-    fn one_carries(&self, b: u32) -> bool {
-        one_carries(self.as_slice(), b)
+    #[inline(always)]
+    fn one_carries(&self, _b: u32) -> bool {
+        false
     }
 }
 
@@ -324,18 +362,29 @@ impl<'s, T: Word> Gives<T, Front<'s, T>> for WordStack<T> {
     #[inline(always)]
     fn give<S: Stored<T>>(
         &mut self,
-        cache_hand: &mut CacheHand<T, S>,
+        _cache_hand: &mut CacheHand<T, S>,
         n: usize,
         into: &mut Front<'s, T>,
     ) {
-        give_slice(cache_hand, self, &mut into.words[0..n]);
+        self.pop_slice(&mut into.words[0..n]);
         into.count = n;
     }
 }
 
 impl<'s, T: Word> Accepts<T, Words<'s, T>> for WordStack<T> {
     #[inline(always)]
-    fn push_all(&mut self, list: &mut Words<'s, T>) {
-        self.push_slice(list.words);
+    fn admit<S: Stored<T>>(
+        &mut self,
+        cache_hand: &mut CacheHand<T, S>,
+        list: &mut Words<'s, T>,
+    ) -> bool {
+        if !are_spare(cache_hand, list.words) {
+            return false;
+        }
+        self.push_apart(list.words)
+    }
+
+    fn has_any(&self, list: &Words<'s, T>) -> bool {
+        has_any(self.stack.as_slice(), self.at.as_slice(), list.words)
     }
 }

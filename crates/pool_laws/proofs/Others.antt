@@ -16,7 +16,7 @@ use Rattle.fabric.specs.declared.hand.Hand.{Hand}
 use Rattle.fabric.specs.declared.hand.StartFault.{StartFault}
 use Rattle.fabric.specs.declared.hand.cache_hand.CacheHand.{CacheHand}
 use Rattle.fabric.specs.Hands.{IsHandOf, view}
-use Rattle.fabric.specs.CacheHands.{AreNotSpare, IsCacheHandFor, IsCacheHandOf, AreSpare, Keeps, SameCacheHand, SparesTheSame, view_of_cache_hand}
+use Rattle.fabric.specs.CacheHands.{IsCacheHandFor, IsCacheHandOf, Keeps, SameCacheHand, SparesTheSame, view_of_cache_hand}
 use Rattle.fabric.specs.Settles.{AreNotYours, AreOwnBuffers, AreYours}
 use Rattle.fabric.proofs.Holding.{holds_put, holds_take}
 use Rattle.fabric.proofs.Told.{refused_kept}
@@ -36,39 +36,32 @@ use Rattle.ringapi.proofs.Moves.{moved_party}
 use Rattle.ringapi.proofs.Counts.{count_both, count_parts}
 use Rattle.ringapi.proofs.Singles.{single_later}
 
+-- items that the hand may put beside those of its cache
+pub yours_later : {T : Type 0} (tags : T → List ℕ) (plan : RingPlan) (v w : View T) (cache items : List T) → w ≡ v → AreYours tags plan v (cache ++ items)
+    → AreYours tags plan w items
+yours_later tags plan v w cache items is yours = record {
+  owned = λ b. omega (arith, yours.owned b, count_both tags b cache items, ap (λ u. holds tags b u.party) is);
+  single = λ free. single_later tags cache items (yours.single free);
+}
+
 module _ {T : Type 0} {S : Type 0} {G : Ghosts T} {H : StoredGhosts S T} (tags : T → List ℕ) where
   -- a cache_hand that was asked keeps back what it kept
   pub asked_keeps : (k l : CacheHand T S G H) (cache : List T) → SameCacheHand k l → SparesTheSame k l → Keeps tags k cache → Keeps tags l cache
   asked_keeps k l cache same spares keeps b =
       omega (arith, keeps b, spares b, ap (λ s. holds tags b s.me.0.party) same)
 
-  -- spare items are the hand's to put
-  pub spare_yours : (plan : RingPlan) (k : CacheHand T S G H) (v : View T) (cache items : List T) → v ≡ view_of_cache_hand k → Keeps tags k cache
-      → AreSpare tags plan k items → AreYours tags plan v items
-  spare_yours plan k v cache items is keeps spare = record {
-    owned = λ b. omega (arith, keeps b, spare.spare b, ap (λ w. holds tags b w.party) is);
-    single = spare.single;
-  }
-
-  -- others aren't, beside what is cached
-  pub not_spare : (plan : RingPlan) (k : CacheHand T S G H) (cache items : List T) → Keeps tags k cache → AreNotSpare tags plan k items
-      → AreNotYours tags plan (view_of_cache_hand k) (cache ++ items)
-  not_spare plan k cache items keeps other = elim other [
-    | inl more ↦ inl (more.0, omega (arith, keeps more.0, more.1, count_both tags more.0 cache items))
-    | inr odd ↦ inr (odd.0, λ single. odd.1 (single_later tags cache items single))
-  ]
-
   module _ (how : How) (most ring : ℕ) (plan : RingPlan) (v : View T) (h : Hand T S G H) where
-    -- what is cached is the hand's own after spare items were put
-    pub sent_own : (k : CacheHand T S G H) (cache items rest : List T) (m : Moved) → v ≡ view_of_cache_hand k → Keeps tags k cache → AreSingle tags cache
-        → AreSpare tags plan k items → PutHasTold {N = most} tags how ring plan v items (put.Done h m) rest → AreOwnBuffers tags (view h) cache
-    sent_own k cache items rest m is keeps single spare told = (
+    -- what is cached is the hand's own after items beside it were put
+    pub sent_own : (k : CacheHand T S G H) (cache items rest : List T) (m : Moved) → v ≡ view_of_cache_hand k → AreSingle tags cache
+        → AreYours tags plan (view_of_cache_hand k) (cache ++ items) → PutHasTold {N = most} tags how ring plan v items (put.Done h m) rest
+        → AreOwnBuffers tags (view h) cache
+    sent_own k cache items rest m is single yours told = (
       (λ b.
           let moved = told.2.2 in
           let now : holds tags b (view h).party ≡ holds tags b v.party - occurrences_in tags b (take m.count items) =
           ap (holds tags b) (moved_party tags most how (length items) ring Put plan v (view h) told.0 m.count m.left [] (take m.count items) told.1 moved)
           ∙ holds_put tags b ring moved.0 m.count v.party (take m.count items) in
-          omega (arith, now, keeps b, spare.spare b, count_parts tags b m.count items, ap (λ w. holds tags b w.party) is)),
+          omega (arith, now, yours.owned b, count_both tags b cache items, count_parts tags b m.count items, ap (λ w. holds tags b w.party) is)),
       single,
     )
 
@@ -80,16 +73,16 @@ module _ {T : Type 0} {S : Type 0} {G : Ghosts T} {H : StoredGhosts S T} (tags :
         ∙ starts_kept tags most how (length items) ring Put plan v told.0 told.2.2 told.2.3
 
     -- so is it after a take
-    pub received_own : (k : CacheHand T S G H) (n pool : ℕ) (cache items : List T) (m : Moved) → v ≡ view_of_cache_hand k → Keeps tags k cache → AreSingle tags cache
+    pub received_own : (k : CacheHand T S G H) (n pool : ℕ) (cache items : List T) (m : Moved) → v ≡ view_of_cache_hand k → AreOwnBuffers tags (view_of_cache_hand k) cache
         → IsHeldOnce tags pool v.party → TakeHasTold {N = most} tags how n ring plan v (taken.Done h m) items → AreOwnBuffers tags (view h) cache
-    received_own k n pool cache items m is keeps single once told = (
+    received_own k n pool cache items m is own once told = (
       (λ b.
           let moved = told.2.2 in
           let now : holds tags b (view h).party ≡ holds tags b v.party + occurrences_in tags b items =
           ap (holds tags b) (moved_party tags most how n ring Take plan v (view h) told.0 m.count m.left items items told.1 moved)
           ∙ holds_take tags b ring moved.0 m.count v.party items (once b).2 in
-          omega (arith, now, keeps b, ap (λ w. holds tags b w.party) is)),
-      single,
+          omega (arith, now, own.0 b, ap (λ w. holds tags b w.party) is)),
+      own.1,
     )
 
     pub unreceived_party : (n : ℕ) (items : List T) (e : StartFault) → TakeHasTold {N = most} tags how n ring plan v (taken.Refused h e) items
@@ -98,18 +91,18 @@ module _ {T : Type 0} {S : Type 0} {G : Ghosts T} {H : StoredGhosts S T} (tags :
         (refused_kept tags most how n ring Take plan told.2.1 (view h) e told.2.3).party
         ∙ starts_kept tags most how n ring Take plan v told.0 told.2.1 told.2.2
 
-  -- a put of spare items that was refused
-  pub unsent : (how : How) (most ring : ℕ) (plan : RingPlan) (k l : CacheHand T S G H) (h : Hand T S G H) (cache items rest : List T) (e : Refusal) → Keeps tags k cache
-      → AreSpare tags plan k items → PutHasTold {N = most} tags how ring plan (view_of_cache_hand k) items (put.Refused h e) rest
+  -- a put of such items that was refused
+  pub unsent : (how : How) (most ring : ℕ) (plan : RingPlan) (k l : CacheHand T S G H) (h : Hand T S G H) (cache items rest : List T) (e : Refusal)
+      → AreYours tags plan (view_of_cache_hand k) (cache ++ items) → PutHasTold {N = most} tags how ring plan (view_of_cache_hand k) items (put.Refused h e) rest
       → view_of_cache_hand l ≡ view h → Sends tags how most ring plan (Some k) (Some l) cache items (Err e) rest
-  unsent how most ring plan k l h cache items rest NotYours keeps spare told is =
-      absurd (not_both tags plan (view_of_cache_hand k) items (spare_yours plan k (view_of_cache_hand k) cache items refl keeps spare) told.2.0)
-  unsent how most ring plan k l h cache items rest (Start fault) keeps spare told is = (h, told, is)
+  unsent how most ring plan k l h cache items rest NotYours yours told is =
+      absurd (not_both tags plan (view_of_cache_hand k) items (yours_later tags plan (view_of_cache_hand k) (view_of_cache_hand k) cache items refl yours) told.2.0)
+  unsent how most ring plan k l h cache items rest (Start fault) yours told is = (h, told, is)
 
   -- what is cached is the hand's own while its party is the same
-  pub kept_own : (k : CacheHand T S G H) (h : Hand T S G H) (cache : List T) → (view h).party ≡ (view_of_cache_hand k).party → Keeps tags k cache → AreSingle tags cache
-      → AreOwnBuffers tags (view h) cache
-  kept_own k h cache is keeps single = ((λ b. omega (arith, keeps b, ap (holds tags b) is)), single)
+  pub kept_own : (k : CacheHand T S G H) (h : Hand T S G H) (cache : List T) → (view h).party ≡ (view_of_cache_hand k).party
+      → AreOwnBuffers tags (view_of_cache_hand k) cache → AreOwnBuffers tags (view h) cache
+  kept_own k h cache is own = ((λ b. omega (arith, own.0 b, ap (holds tags b) is)), own.1)
 
   -- an answer with an open span
   abbrev pub IsOpenPut : {N : ℕ} → PutAnswer T N S G H → Type 0
@@ -146,39 +139,39 @@ module _ {T : Type 0} {S : Type 0} {G : Ghosts T} {H : StoredGhosts S T} (tags :
     hts_take v n items (taken.Refused h why) hts told it = it
     hts_take v n items (taken.Open o tail) hts told it = absurd (let z : Multi ≡ Hts = sym told.2.1 ∙ hts in cc)
 
-    -- what is cached is the hand's own after a put of spare items that left no span open
+    -- what is cached is the hand's own after a put of items beside it that left no span open
     pub put_owns : (v : View T) (k : CacheHand T S G H) (cache items rest : List T) (answer : PutAnswer T most S G H)
-        → v ≡ view_of_cache_hand k → Keeps tags k cache → AreSingle tags cache → AreSpare tags plan k items
+        → v ≡ view_of_cache_hand k → AreOwnBuffers tags (view_of_cache_hand k) cache → AreYours tags plan (view_of_cache_hand k) (cache ++ items)
         → (IsOpenPut answer → ⊥) → PutHasTold tags how ring plan v items answer rest → PutOwns tags cache answer
-    put_owns v k cache items rest (put.Done h moved) is keeps single spare closed told =
-        sent_own how most ring plan v h k cache items rest moved is keeps single spare told
-    put_owns v k cache items rest (put.Refused h why) is keeps single spare closed told =
-        kept_own k h cache (unsent_party how most ring plan v h items rest why told ∙ ap (λ w. w.party) is) keeps single
-    put_owns v k cache items rest (put.Open o tail) is keeps single spare closed told = closed tt
+    put_owns v k cache items rest (put.Done h moved) is own yours closed told =
+        sent_own how most ring plan v h k cache items rest moved is own.1 yours told
+    put_owns v k cache items rest (put.Refused h why) is own yours closed told =
+        kept_own k h cache (unsent_party how most ring plan v h items rest why told ∙ ap (λ w. w.party) is) own
+    put_owns v k cache items rest (put.Open o tail) is own yours closed told = closed tt
 
     -- so it is after a take
     pub take_owns : (v : View T) (k : CacheHand T S G H) (n pool : ℕ) (cache items : List T) (answer : TakeAnswer T most S G H)
-        → v ≡ view_of_cache_hand k → Keeps tags k cache → AreSingle tags cache → IsHeldOnce tags pool v.party
+        → v ≡ view_of_cache_hand k → AreOwnBuffers tags (view_of_cache_hand k) cache → IsHeldOnce tags pool v.party
         → (IsOpenTake answer → ⊥) → TakeHasTold tags how n ring plan v answer items → TakeOwns tags cache answer
-    take_owns v k n pool cache items (taken.Done h moved) is keeps single once closed told =
-        received_own how most ring plan v h k n pool cache items moved is keeps single once told
-    take_owns v k n pool cache items (taken.Refused h why) is keeps single once closed told =
-        kept_own k h cache (unreceived_party how most ring plan v h n items why told ∙ ap (λ w. w.party) is) keeps single
-    take_owns v k n pool cache items (taken.Open o tail) is keeps single once closed told = closed tt
+    take_owns v k n pool cache items (taken.Done h moved) is own once closed told =
+        received_own how most ring plan v h k n pool cache items moved is own once told
+    take_owns v k n pool cache items (taken.Refused h why) is own once closed told =
+        kept_own k h cache (unreceived_party how most ring plan v h n items why told ∙ ap (λ w. w.party) is) own
+    take_owns v k n pool cache items (taken.Open o tail) is own once closed told = closed tt
 
-    -- the answer of a put of spare items is what a cache sends
+    -- the answer of a put of items beside it is what a cache sends
     pub sends_beside : (v : View T) (k l : CacheHand T S G H) (cache items rest : List T) (answer : PutAnswer T most S G H)
-        (result : Result Moved Refusal) → v ≡ view_of_cache_hand k → Keeps tags k cache → AreSpare tags plan k items
+        (result : Result Moved Refusal) → v ≡ view_of_cache_hand k → AreYours tags plan (view_of_cache_hand k) (cache ++ items)
         → PutHasTold tags how ring plan v items answer rest → IsPutBeside answer l result
         → Sends tags how most ring plan (Some k) (Some l) cache items result rest
-    sends_beside v k l cache items rest (put.Done h moved) result is keeps spare told same =
+    sends_beside v k l cache items rest (put.Done h moved) result is yours told same =
         subst (λ r. Sends tags how most ring plan (Some k) (Some l) cache items r rest) (sym same.1)
         (h, subst (λ w. PutHasTold {N = most} tags how ring plan w items (put.Done h moved) rest) is told, ap (λ s. s.me.0) same.0)
-    sends_beside v k l cache items rest (put.Refused h why) result is keeps spare told same =
+    sends_beside v k l cache items rest (put.Refused h why) result is yours told same =
         subst (λ r. Sends tags how most ring plan (Some k) (Some l) cache items r rest) (sym same.1)
-        (unsent how most ring plan k l h cache items rest why keeps spare
+        (unsent how most ring plan k l h cache items rest why yours
         (subst (λ w. PutHasTold {N = most} tags how ring plan w items (put.Refused h why) rest) is told) (ap (λ s. s.me.0) same.0))
-    sends_beside v k l cache items rest (put.Open o tail) result is keeps spare told same = absurd same
+    sends_beside v k l cache items rest (put.Open o tail) result is yours told same = absurd same
 
     -- the answer of a take is what a cache receives
     pub receives_beside : (v : View T) (k l : CacheHand T S G H) (n : ℕ) (items : List T) (answer : TakeAnswer T most S G H)

@@ -2,6 +2,7 @@
 use Rattle.std.proofs.Common.{◌≡◌, ℕ, List, Some, sym, ap, ◌∙◌, subst}
 use Rattle.std.specs.Prelude.{Option}
 use Rattle.ringcore_laws.specs.FreeRings.{AreSingle}
+use Rattle.ringcore_laws.specs.Moves.{Owns}
 use Rattle.burst.specs.declared.tagged.Tagged.{Ghosts}
 use Rattle.fabric.specs.declared.stored.Stored.{Ghosts as StoredGhosts}
 use Rattle.fabric.specs.declared.fabric.Fabric.{Fabric}
@@ -12,7 +13,6 @@ use Rattle.fabric.specs.CacheHands.{IsCacheHandFor, IsCacheHandOf, Keeps, SameCa
 use Rattle.fabric.specs.Settles.{AreOwnBuffers}
 use Rattle.ringapi.specs.Holdings.{IsFreeRing}
 use Rattle.pool_laws.specs.Hands.{IsFreeOf, IsIn, KeepsIn, view_in}
-use Rattle.pool_laws.proofs.Kept.{own_kept}
 
 module _ {T : Type 0} {S : Type 0} {G : Ghosts T} {H : StoredGhosts S T} {N : ℕ} (f : Fabric T N S) where
   pub mine_of : (o : Option (CacheHand T S G H)) (k : CacheHand T S G H) → o ≡ Some k → IsIn f o → IsCacheHandOf f k
@@ -43,10 +43,10 @@ module _ {T : Type 0} {S : Type 0} {G : Ghosts T} {H : StoredGhosts S T} (tags :
   keeps_of o k cache was keeps = subst (λ o'. KeepsIn tags o' cache) was keeps
 
   -- what the cache has is the hand's own
-  pub hand_own : (o : Option (CacheHand T S G H)) (k : CacheHand T S G H) (h : Hand T S G H) (cache : List T) → o ≡ Some k → IsCacheHandFor h k → KeepsIn tags o cache
-      → AreSingle tags cache → AreOwnBuffers tags (view h) cache
-  hand_own o k h cache was same keeps single =
-      subst (λ s. AreOwnBuffers tags s.me.0 cache) same (own_kept tags k cache (keeps_of o k cache was keeps) single)
+  pub hand_own : (o : Option (CacheHand T S G H)) (k : CacheHand T S G H) (h : Hand T S G H) (cache : List T) → o ≡ Some k → IsCacheHandFor h k
+      → Owns tags (view_in o).party cache → AreSingle tags cache → AreOwnBuffers tags (view h) cache
+  hand_own o k h cache was same own single =
+      subst (λ s. AreOwnBuffers tags s.me.0 cache) same (subst (λ o'. AreOwnBuffers tags (view_in o') cache) was (own, single))
 
   -- it is taken out of the cache after a step that kept its seat
   pub view_later : (o : Option (CacheHand T S G H)) (k l m : CacheHand T S G H) → o ≡ Some k → SameCacheHand k l → Some l ≡ Some m → view_of_cache_hand m ≡ view_in o

@@ -14,7 +14,7 @@ take_answered-requires g c =
     let is : view h ≡ view_of_cache_hand c.args.cache_hand = ap (λ s. s.me.0) (sym c.whole_hand-hand.ensures) in (
       search rules,
       take_owns tags by_burst g.row.N c.args.ring known.0 (view h) c.args.cache_hand c.args.n (view h).pool (g.C.Store.items c.args.cache.now)
-          (g.I.Items.items c.take_into.new.into) c.take_into.result is c.requires.kept c.requires.single h.share.well
+          (g.I.Items.items c.take_into.new.into) c.take_into.result is c.requires.own h.share.well
           (finished_take tags c.take_into.result c.take_into.ensures.taken.finished)
           (c.take_into.ensures.taken.exact known.0 known.1),
     )

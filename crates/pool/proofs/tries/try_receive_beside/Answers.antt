@@ -4,6 +4,7 @@ use Rattle.fabric.specs.CacheHands.{view_of_cache_hand}
 use Rattle.fabric.proofs.Told.{ring_at}
 use Rattle.ringapi.specs.Views.{by_bulk}
 use Rattle.pool_laws.proofs.Others.{hts_take, receives_beside, take_owns}
+use Rattle.pool.specs.WordStacks.{words_in}
 use Rattle.pool.proofs.tries.try_receive_beside.Goals as goal
 
 pub take_answered-requires : goal.take_answered-requires
@@ -13,8 +14,8 @@ take_answered-requires g c =
     let h = c.whole_hand-hand.result in
     let is : view h ≡ view_of_cache_hand c.args.cache_hand = ap (λ s. s.me.0) (sym c.whole_hand-hand.ensures) in (
       search rules,
-      take_owns tags by_bulk g.row.N c.args.ring known.0 (view h) c.args.cache_hand (length c.args.into.now) (view h).pool (g.C.Store.items c.args.cache.now)
-          c.try_take_bulk_slice.ensures.0 c.try_take_bulk_slice.result is c.requires.kept c.requires.single h.share.well
+      take_owns tags by_bulk g.row.N c.args.ring known.0 (view h) c.args.cache_hand (length c.args.into.now) (view h).pool (words_in c.args.cache.now)
+          c.try_take_bulk_slice.ensures.0 c.try_take_bulk_slice.result is c.requires.own h.share.well
           (hts_take tags by_bulk g.row.N c.args.ring known.0 (view h) (length c.args.into.now) c.try_take_bulk_slice.ensures.0 c.try_take_bulk_slice.result (c.requires.hts known.0 known.1) (([], [], c.try_take_bulk_slice.ensures.2.exact known.0 known.1)))
           (([], [], c.try_take_bulk_slice.ensures.2.exact known.0 known.1)),
     )

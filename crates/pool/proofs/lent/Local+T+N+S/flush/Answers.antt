@@ -21,7 +21,7 @@ empty-requires g c =
           hand_from f h k c.whole_hand-hand.ensures (mine_of f l.hand k was c.requires.local),
           (
             free_of f l.hand k l.ring was c.requires.local l.free,
-            (hand_own tags l.hand k h l.cache was c.whole_hand-hand.ensures l.kept l.single, search rules),
+            (hand_own tags l.hand k h l.cache was c.whole_hand-hand.ensures l.own l.single, search rules),
           ),
         ),
       ),
@@ -43,7 +43,9 @@ invariant_of-self g c =
       fits = l.fits;
       room = l.room;
       within = omega (arith, ap length c.in-Ok.ensures.kept.1);
+      reach = refl;
       kept = back.ensures.kept;
+      own = back.ensures.own;
       single = subst (AreSingle tags) (sym c.in-Ok.ensures.kept.1) refl;
     }
 
@@ -56,7 +58,7 @@ keep_back-requires-in-Err g c =
     let was : l.hand ≡ Some k = search rules in
     record {
       own = same_own tags (view h) (view c.in-Err.hand) l.cache c.empty.new.cache c.in-Err.ensures.party c.in-Err.ensures.same.1
-          (hand_own tags l.hand k h l.cache was c.whole_hand-hand.ensures l.kept l.single);
+          (hand_own tags l.hand k h l.cache was c.whole_hand-hand.ensures l.own l.single);
     }
 
 pub invariant_of-self-in-Err : goal.invariant_of-self-in-Err
@@ -75,7 +77,9 @@ invariant_of-self-in-Err g c =
       fits = l.fits;
       room = l.room;
       within = omega (arith, ap length c.in-Err.ensures.same.1, l.within);
+      reach = refl;
       kept = back.ensures.kept;
+      own = back.ensures.own;
       single = subst (AreSingle tags) (sym c.in-Err.ensures.same.1) l.single;
     }
 

@@ -32,7 +32,7 @@ keep_back-requires g c =
     let was : l.hand ≡ Some k = search rules in
     record {
       own = later_own tags (view c.in-Ok.hand) c.fetch.new.into c.fetch.new.cache
-          (c.in-Ok.ensures.own (hand_own tags l.hand k h l.cache was c.whole_hand-hand.ensures l.kept l.single));
+          (c.in-Ok.ensures.own (hand_own tags l.hand k h l.cache was c.whole_hand-hand.ensures l.own l.single));
     }
 
 pub keep_back-requires-in-Err : goal.keep_back-requires-in-Err
@@ -44,7 +44,7 @@ keep_back-requires-in-Err g c =
     let was : l.hand ≡ Some k = search rules in
     record {
       own = same_own tags (view h) (view c.in-Err.hand) l.cache c.fetch.new.cache c.in-Err.ensures.party c.in-Err.ensures.same.1
-          (hand_own tags l.hand k h l.cache was c.whole_hand-hand.ensures l.kept l.single);
+          (hand_own tags l.hand k h l.cache was c.whole_hand-hand.ensures l.own l.single);
     }
 
 pub invariant_of-self : goal.invariant_of-self
@@ -63,9 +63,11 @@ invariant_of-self g c =
       fits = l.fits;
       room = l.room;
       within = omega (arith, c.in-Ok.ensures.within);
+      reach = refl;
       kept = back.ensures.kept;
+      own = back.ensures.own;
       single = (later_own tags (view c.in-Ok.hand) c.fetch.new.into c.fetch.new.cache
-          (c.in-Ok.ensures.own (hand_own tags l.hand k c.whole_hand-hand.result l.cache was c.whole_hand-hand.ensures l.kept l.single))).1;
+          (c.in-Ok.ensures.own (hand_own tags l.hand k c.whole_hand-hand.result l.cache was c.whole_hand-hand.ensures l.own l.single))).1;
     }
 
 pub invariant_of-self-in-Err : goal.invariant_of-self-in-Err
@@ -84,7 +86,9 @@ invariant_of-self-in-Err g c =
       fits = l.fits;
       room = l.room;
       within = omega (arith, ap length c.in-Err.ensures.same.1, l.within);
+      reach = refl;
       kept = back.ensures.kept;
+      own = back.ensures.own;
       single = subst (AreSingle tags) (sym c.in-Err.ensures.same.1) l.single;
     }
 
@@ -110,7 +114,7 @@ returns-in-Ok-clause-own g c =
     let k = c.take_hand-cache_hand.result in
     let was : l.hand ≡ Some k = search rules in
     same_own tags (view c.in-Ok.hand) c.keep_back.result.seat.me.0 _ _ (ap (λ s. s.me.0.party) c.keep_back.ensures.seat) refl
-    (c.in-Ok.ensures.own (hand_own tags l.hand k c.whole_hand-hand.result l.cache was c.whole_hand-hand.ensures l.kept l.single))
+    (c.in-Ok.ensures.own (hand_own tags l.hand k c.whole_hand-hand.result l.cache was c.whole_hand-hand.ensures l.own l.single))
 
 pub returns-in-Err-clause-exact : goal.returns-in-Err-clause-exact
 returns-in-Err-clause-exact g c plan there =

@@ -10,6 +10,7 @@ use Rattle.pool_laws.specs.Asks.{Spills}
 use Rattle.pool_laws.specs.Caches.{spilled}
 use Rattle.pool_laws.specs.Hands.{view_in}
 use Rattle.pool_laws.proofs.Counts.{spilled_none, spilled_some}
+use Rattle.pool_laws.proofs.Kept.{own_kept}
 use Rattle.pool_laws.proofs.Wholes.{free_at, free_of, keeps_of, mine_of, same_mine, view_later}
 use Rattle.pool.proofs.lent.Local+T+N+S.put_from.Goals as goal
 
@@ -57,7 +58,7 @@ shed-requires g c =
           (
             free_of f l.hand c.in-Some.cache_hand l.ring c.in-Some.is c.requires.local l.free,
             (
-              keeps_of tags (Some c.admit-may.new.cache_hand) c.take_hand-cache_hand.result c.admit-may.new.cache taken c.admit-may.ensures.kept,
+              keeps_of tags (Some c.admit-may.new.cache_hand) c.take_hand-cache_hand.result c.admit-may.new.self taken c.admit-may.ensures.kept,
               (
                 c.admit-may.ensures.single,
                 (
@@ -76,12 +77,13 @@ shed-requires g c =
 
 pub invariant_of-self-in-Ok : goal.invariant_of-self-in-Ok
 invariant_of-self-in-Ok g c =
+    let tags = g.T.Tagged.numbers in
     let f = c.args.f.now in
     let l = c.args.self.now in
     let free = free_of f l.hand c.in-Some.cache_hand l.ring c.in-Some.is c.requires.local l.free in
     let known = ring_at (rings_of f) l.ring free.0 in
     let told = c.in-Ok.ensures.exact known.0 known.1 in
-    let left = length-drop (length c.admit-may.new.cache - l.size) c.admit-may.new.cache in
+    let left = length-drop (length c.admit-may.new.self - l.size) c.admit-may.new.self in
     record {
       here = refl;
       free = free_at f c.in-Ok.cache_hand l.ring c.in-Ok.ensures.cache_hand.0 free;
@@ -89,18 +91,21 @@ invariant_of-self-in-Ok g c =
       fits = l.fits;
       room = l.room;
       within = omega (arith, ap length told.1, left, c.if-len-self.false, c.len.ensures.value);
+      reach = refl;
       kept = c.in-Ok.ensures.cache_hand.1;
+      own = (own_kept tags c.in-Ok.cache_hand c.shed.new.cache c.in-Ok.ensures.cache_hand.1 c.in-Ok.ensures.single).0;
       single = c.in-Ok.ensures.single;
     }
 
 pub invariant_of-self-in-Err : goal.invariant_of-self-in-Err
 invariant_of-self-in-Err g c =
+    let tags = g.T.Tagged.numbers in
     let f = c.args.f.now in
     let l = c.args.self.now in
     let free = free_of f l.hand c.in-Some.cache_hand l.ring c.in-Some.is c.requires.local l.free in
     let known = ring_at (rings_of f) l.ring free.0 in
     let told = c.in-Err.ensures.exact known.0 known.1 in
-    let left = length-take c.len-before.result c.admit-may.new.cache in
+    let left = length-take c.len-before.result c.admit-may.new.self in
     record {
       here = refl;
       free = free_at f c.in-Err.cache_hand l.ring c.in-Err.ensures.same.0 free;
@@ -108,7 +113,9 @@ invariant_of-self-in-Err g c =
       fits = l.fits;
       room = l.room;
       within = omega (arith, ap length told.1, left, c.len-before.ensures.value, l.within);
+      reach = refl;
       kept = c.in-Err.ensures.same.1;
+      own = (own_kept tags c.in-Err.cache_hand c.shed.new.cache c.in-Err.ensures.same.1 c.in-Err.ensures.single).0;
       single = c.in-Err.ensures.single;
     }
 
@@ -122,7 +129,7 @@ returns-in-Ok-clause-exact g c plan there =
     let all = l.cache ++ c.args.list.now in
     let told = c.in-Ok.ensures.exact plan there in
     let many : 3 * l.size / 2 < length all = omega (arith, c.if-len-self.false, c.len.ensures.value, ap length moved.0) in
-    let spare : length c.admit-may.new.cache - l.size ≡ spilled l.size all =
+    let spare : length c.admit-may.new.self - l.size ≡ spilled l.size all =
     ap (λ x. length x - l.size) moved.0 ∙ sym (spilled_some l.size (3 * l.size / 2) (length all) many) in (
       subst (λ o. AreOwnBuffers tags (view_in o) all) (sym c.in-Some.is) (c.admit-may.ensures.yours may),
       told.0,
@@ -150,7 +157,7 @@ returns-in-Err-clause-exact g c plan there =
     let all = l.cache ++ c.args.list.now in
     let told = c.in-Err.ensures.exact plan there in
     let many : 3 * l.size / 2 < length all = omega (arith, c.if-len-self.false, c.len.ensures.value, ap length moved.0) in
-    let spare : length c.admit-may.new.cache - l.size ≡ spilled l.size all =
+    let spare : length c.admit-may.new.self - l.size ≡ spilled l.size all =
     ap (λ x. length x - l.size) moved.0 ∙ sym (spilled_some l.size (3 * l.size / 2) (length all) many) in (
       subst (λ o. AreOwnBuffers tags (view_in o) all) (sym c.in-Some.is) (c.admit-may.ensures.yours may),
       told.0 ∙ ((λ i. drop (c.len-before.ensures.value i) (moved.0 i)) ∙ drop-append_seam l.cache c.args.list.now),

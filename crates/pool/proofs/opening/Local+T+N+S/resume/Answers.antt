@@ -1,4 +1,4 @@
-use Rattle.std.proofs.Common.{◌≡◌, true, false, rules}
+use Rattle.std.proofs.Common.{◌≡◌, true, false, refl, rules}
 use Rattle.pool.proofs.opening.Local+T+N+S.resume.Goals as goal
 
 pub returns-then-not-may_be-clause-refused : goal.returns-then-not-may_be-clause-refused
@@ -10,4 +10,4 @@ pub over_list-requires : goal.over_list-requires
 over_list-requires g c =
     let may : c.may_be.result ≡ true = search rules in
     let fits = c.may_be.ensures.fits may in
-    (search rules, (c.requires.free, (c.new.ensures, (fits.0, (fits.1, fits.1)))))
+    (search rules, (c.requires.free, (c.new.ensures, (refl, (fits.0, (fits.1, fits.1))))))

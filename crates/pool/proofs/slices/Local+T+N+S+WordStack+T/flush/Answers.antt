@@ -4,7 +4,8 @@ use Rattle.fabric.specs.Hands.{view}
 use Rattle.pool_laws.proofs.Kept.{same_own}
 use Rattle.pool_laws.proofs.Wholes.{free_at, free_of, hand_from, hand_own, cache_hand_from, mine_of, view_at}
 use Rattle.pool_laws.specs.Asks.{Flushes}
-use Rattle.pool.specs.Stacks.{stacked}
+use Rattle.pool.specs.WordStacks.{words_in}
+use Rattle.pool.proofs.Reaches.{reach_kept}
 use Rattle.pool.proofs.slices.Local+T+N+S+WordStack+T.flush.Goals as goal
 
 pub empty-requires : goal.empty-requires
@@ -20,7 +21,7 @@ empty-requires g c =
         hand_from f h k c.whole_hand-hand.ensures (mine_of f l.hand k was c.requires.local),
         (
           free_of f l.hand k l.ring was c.requires.local l.free,
-          (hand_own tags l.hand k h (stacked l.cache) was c.whole_hand-hand.ensures l.kept l.single, search rules),
+          (hand_own tags l.hand k h (words_in l.cache) was c.whole_hand-hand.ensures l.own l.single, search rules),
         ),
       ),
     )
@@ -41,7 +42,9 @@ invariant_of-self g c =
       fits = l.fits;
       room = omega (arith, c.empty.ensures.room, l.room);
       within = omega (arith, ap length c.in-Ok.ensures.kept.1);
+      reach = reach_kept f l.hand back.result _ _ (cache_hand_from f c.in-Ok.hand back.result back.ensures.seat c.in-Ok.ensures.kept.0) c.requires.local c.empty.ensures.buffers l.reach;
       kept = back.ensures.kept;
+      own = back.ensures.own;
       single = subst (AreSingle tags) (sym c.in-Ok.ensures.kept.1) refl;
     }
 
@@ -53,8 +56,8 @@ keep_back-requires-in-Err g c =
     let h = c.whole_hand-hand.result in
     let was : l.hand ≡ Some k = search rules in
     record {
-      own = same_own tags (view h) (view c.in-Err.hand) (stacked l.cache) (stacked c.empty.new.cache) c.in-Err.ensures.party c.in-Err.ensures.same.1
-          (hand_own tags l.hand k h (stacked l.cache) was c.whole_hand-hand.ensures l.kept l.single);
+      own = same_own tags (view h) (view c.in-Err.hand) (words_in l.cache) (words_in c.empty.new.cache) c.in-Err.ensures.party c.in-Err.ensures.same.1
+          (hand_own tags l.hand k h (words_in l.cache) was c.whole_hand-hand.ensures l.own l.single);
     }
 
 pub invariant_of-self-in-Err : goal.invariant_of-self-in-Err
@@ -73,7 +76,9 @@ invariant_of-self-in-Err g c =
       fits = l.fits;
       room = omega (arith, c.empty.ensures.room, l.room);
       within = omega (arith, ap length c.in-Err.ensures.same.1, l.within);
+      reach = reach_kept f l.hand back.result _ _ (cache_hand_from f c.in-Err.hand back.result back.ensures.seat c.in-Err.ensures.same.0) c.requires.local c.empty.ensures.buffers l.reach;
       kept = back.ensures.kept;
+      own = back.ensures.own;
       single = subst (AreSingle tags) (sym c.in-Err.ensures.same.1) l.single;
     }
 
@@ -84,7 +89,7 @@ returns-in-Ok-clause-exact g c plan there =
     let k = c.take_hand-cache_hand.result in
     let was : l.hand ≡ Some k = search rules in (
       c.in-Ok.hand,
-      subst (λ v. Flushes tags g.row.N l.ring plan v (stacked l.cache) (Ok c.in-Ok.hand) (stacked c.empty.new.cache))
+      subst (λ v. Flushes tags g.row.N l.ring plan v (words_in l.cache) (Ok c.in-Ok.hand) (words_in c.empty.new.cache))
           (view_at tags l.hand k c.whole_hand-hand.result was c.whole_hand-hand.ensures)
           (c.in-Ok.ensures.exact plan there),
       ap (λ s. s.me.0) c.keep_back.ensures.seat,
@@ -98,7 +103,7 @@ returns-in-Err-clause-exact g c plan there =
     let was : l.hand ≡ Some k = search rules in (
       refl,
       c.in-Err.hand,
-      subst (λ v. Flushes tags g.row.N l.ring plan v (stacked l.cache) (Err c.in-Err.hand) (stacked c.empty.new.cache))
+      subst (λ v. Flushes tags g.row.N l.ring plan v (words_in l.cache) (Err c.in-Err.hand) (words_in c.empty.new.cache))
           (view_at tags l.hand k c.whole_hand-hand.result was c.whole_hand-hand.ensures)
           (c.in-Err.ensures.exact plan there),
       ap (λ s. s.me.0) c.keep_back-in-Err.ensures.seat,

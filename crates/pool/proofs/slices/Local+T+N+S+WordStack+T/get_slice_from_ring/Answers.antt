@@ -4,11 +4,14 @@ use Rattle.fabric.specs.Hands.{view}
 use Rattle.pool_laws.proofs.Kept.{later_own, same_own}
 use Rattle.pool_laws.proofs.Wholes.{free_at, free_of, hand_from, hand_own, cache_hand_from, mine_of, view_at}
 use Rattle.pool_laws.specs.Asks.{Fetches}
-use Rattle.pool.specs.Stacks.{stacked}
+use Rattle.pool_laws.specs.Hands.{view_in}
+use Rattle.pool.specs.WordStacks.{buffers_in, words_in}
+use Rattle.pool.proofs.Reaches.{le_of, reach_kept}
 use Rattle.pool.proofs.slices.Local+T+N+S+WordStack+T.get_slice_from_ring.Goals as goal
 
 pub fetch-requires : goal.fetch-requires
 fetch-requires g c =
+    let tags = g.T.Tagged.numbers in
     let f = c.args.f.now in
     let l = c.args.self.now in
     let k = c.take_hand-cache_hand.result in
@@ -19,7 +22,13 @@ fetch-requires g c =
         hand_from f h k c.whole_hand-hand.ensures (mine_of f l.hand k was c.requires.local),
         (
           free_of f l.hand k l.ring was c.requires.local l.free,
-          (search rules, (omega (arith, c.requires.at_most, l.room), omega (arith, c.requires.at_most, l.room))),
+          (
+            hand_own tags l.hand k h (words_in l.cache) was c.whole_hand-hand.ensures l.own l.single,
+            (
+              omega (arith, le_of (view_in l.hand).pool (buffers_in l.cache) l.reach, ap (λ v. v.pool) (view_at tags l.hand k h was c.whole_hand-hand.ensures)),
+              (search rules, (omega (arith, c.requires.at_most, l.room), omega (arith, c.requires.at_most, l.room))),
+            ),
+          ),
         ),
       ),
     )
@@ -32,8 +41,8 @@ keep_back-requires g c =
     let h = c.whole_hand-hand.result in
     let was : l.hand ≡ Some k = search rules in
     record {
-      own = later_own tags (view c.in-Ok.hand) c.fetch.new.into (stacked c.fetch.new.cache)
-          (c.in-Ok.ensures.own (hand_own tags l.hand k h (stacked l.cache) was c.whole_hand-hand.ensures l.kept l.single));
+      own = later_own tags (view c.in-Ok.hand) c.fetch.new.into (words_in c.fetch.new.cache)
+          c.in-Ok.ensures.own;
     }
 
 pub keep_back-requires-in-Err : goal.keep_back-requires-in-Err
@@ -44,8 +53,8 @@ keep_back-requires-in-Err g c =
     let h = c.whole_hand-hand.result in
     let was : l.hand ≡ Some k = search rules in
     record {
-      own = same_own tags (view h) (view c.in-Err.hand) (stacked l.cache) (stacked c.fetch.new.cache) c.in-Err.ensures.party c.in-Err.ensures.same.1
-          (hand_own tags l.hand k h (stacked l.cache) was c.whole_hand-hand.ensures l.kept l.single);
+      own = same_own tags (view h) (view c.in-Err.hand) (words_in l.cache) (words_in c.fetch.new.cache) c.in-Err.ensures.party c.in-Err.ensures.same.1
+          (hand_own tags l.hand k h (words_in l.cache) was c.whole_hand-hand.ensures l.own l.single);
     }
 
 pub invariant_of-self : goal.invariant_of-self
@@ -64,9 +73,11 @@ invariant_of-self g c =
       fits = l.fits;
       room = omega (arith, c.fetch.ensures.room, l.room);
       within = omega (arith, c.in-Ok.ensures.within);
+      reach = reach_kept f l.hand back.result _ _ (cache_hand_from f c.in-Ok.hand back.result back.ensures.seat c.in-Ok.ensures.kept) c.requires.local c.fetch.ensures.buffers l.reach;
       kept = back.ensures.kept;
-      single = (later_own tags (view c.in-Ok.hand) c.fetch.new.into (stacked c.fetch.new.cache)
-          (c.in-Ok.ensures.own (hand_own tags l.hand k c.whole_hand-hand.result (stacked l.cache) was c.whole_hand-hand.ensures l.kept l.single))).1;
+      own = back.ensures.own;
+      single = (later_own tags (view c.in-Ok.hand) c.fetch.new.into (words_in c.fetch.new.cache)
+          c.in-Ok.ensures.own).1;
     }
 
 pub invariant_of-self-in-Err : goal.invariant_of-self-in-Err
@@ -85,7 +96,9 @@ invariant_of-self-in-Err g c =
       fits = l.fits;
       room = omega (arith, c.fetch.ensures.room, l.room);
       within = omega (arith, ap length c.in-Err.ensures.same.1, l.within);
+      reach = reach_kept f l.hand back.result _ _ (cache_hand_from f c.in-Err.hand back.result back.ensures.seat c.in-Err.ensures.same.0) c.requires.local c.fetch.ensures.buffers l.reach;
       kept = back.ensures.kept;
+      own = back.ensures.own;
       single = subst (AreSingle tags) (sym c.in-Err.ensures.same.1) l.single;
     }
 
@@ -95,11 +108,11 @@ returns-in-Ok-clause-exact g c plan there =
     let l = c.args.self.now in
     let k = c.take_hand-cache_hand.result in
     let was : l.hand ≡ Some k = search rules in
-    let short : length (stacked l.cache) < (length c.args.into.now) = search rules in
+    let short : length (words_in l.cache) < (length c.args.into.now) = search rules in
     inr (
       short,
       Ok c.in-Ok.hand,
-      subst (λ v. Fetches tags g.row.N l.ring plan l.size v (length c.args.into.now) (stacked l.cache) (Ok c.in-Ok.hand) c.fetch.new.into (stacked c.fetch.new.cache))
+      subst (λ v. Fetches tags g.row.N l.ring plan l.size v (length c.args.into.now) (words_in l.cache) (Ok c.in-Ok.hand) c.fetch.new.into (words_in c.fetch.new.cache))
           (view_at tags l.hand k c.whole_hand-hand.result was c.whole_hand-hand.ensures) (c.in-Ok.ensures.exact plan there),
       ap (λ s. s.me.0) c.keep_back.ensures.seat,
     )
@@ -111,7 +124,7 @@ returns-in-Ok-clause-own g c =
     let k = c.take_hand-cache_hand.result in
     let was : l.hand ≡ Some k = search rules in
     same_own tags (view c.in-Ok.hand) c.keep_back.result.seat.me.0 _ _ (ap (λ s. s.me.0.party) c.keep_back.ensures.seat) refl
-    (c.in-Ok.ensures.own (hand_own tags l.hand k c.whole_hand-hand.result (stacked l.cache) was c.whole_hand-hand.ensures l.kept l.single))
+    c.in-Ok.ensures.own
 
 pub returns-in-Err-clause-exact : goal.returns-in-Err-clause-exact
 returns-in-Err-clause-exact g c plan there =
@@ -119,11 +132,11 @@ returns-in-Err-clause-exact g c plan there =
     let l = c.args.self.now in
     let k = c.take_hand-cache_hand.result in
     let was : l.hand ≡ Some k = search rules in
-    let short : length (stacked l.cache) < (length c.args.into.now) = search rules in
+    let short : length (words_in l.cache) < (length c.args.into.now) = search rules in
     inr (
       short,
       Err (c.in-Err.hand, c.in-Err.fault),
-      subst (λ v. Fetches tags g.row.N l.ring plan l.size v (length c.args.into.now) (stacked l.cache) (Err (c.in-Err.hand, c.in-Err.fault)) [] (stacked c.fetch.new.cache))
+      subst (λ v. Fetches tags g.row.N l.ring plan l.size v (length c.args.into.now) (words_in l.cache) (Err (c.in-Err.hand, c.in-Err.fault)) [] (words_in c.fetch.new.cache))
           (view_at tags l.hand k c.whole_hand-hand.result was c.whole_hand-hand.ensures) (c.in-Err.ensures.exact plan there),
       (refl, ap (λ s. s.me.0) c.keep_back-in-Err.ensures.seat),
     )

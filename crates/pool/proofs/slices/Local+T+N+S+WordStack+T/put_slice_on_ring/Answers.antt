@@ -1,4 +1,4 @@
-use Rattle.std.proofs.Common.{◌≡◌, ◌-◌, ◌/◌, ◌*◌, ◌<◌, ◌≤◌, ◌++◌, true, false, Some, Ok, Err, List, inl, inr, length, take, drop, refl, sym, ap, ◌∙◌, subst}
+use Rattle.std.proofs.Common.{◌≡◌, ◌-◌, ◌/◌, ◌*◌, ◌<◌, ◌≤◌, ◌++◌, true, false, [], Some, Ok, Err, List, inl, inr, length, take, drop, refl, sym, ap, ◌∙◌, subst}
 use Rattle.std.proofs.Common.{rules, arith}
 use Rattle.std.proofs.lemmas.List.{length-append, length-drop, length-take}
 use Rattle.std.proofs.Math.Seq.{take-append_seam}
@@ -9,9 +9,10 @@ use Rattle.fabric.specs.Settles.{AreNotOwnBuffers, AreOwnBuffers}
 use Rattle.pool_laws.specs.Asks.{Spills}
 use Rattle.pool_laws.specs.Caches.{spilled}
 use Rattle.pool_laws.specs.Hands.{view_in}
-use Rattle.pool.specs.Stacks.{stacked}
+use Rattle.pool.specs.WordStacks.{buffers_in, words_in}
 use Rattle.pool_laws.proofs.Counts.{spilled_none, spilled_some}
 use Rattle.pool_laws.proofs.Wholes.{free_at, free_of, keeps_of, mine_of, same_mine, view_later}
+use Rattle.pool.proofs.Reaches.{le_of, reach_kept}
 use Rattle.pool.proofs.slices.Local+T+N+S+WordStack+T.put_slice_on_ring.Goals as goal
 
 pub returns-then-not-may-clause-exact : goal.returns-then-not-may-clause-exact
@@ -20,7 +21,7 @@ returns-then-not-may-clause-exact g c plan there =
     let l = c.args.self.now in
     let none : c.admit-may.result ≡ false = search rules in
     let back = (c.admit-may.ensures.back none).0 in (
-      subst (λ o. AreNotOwnBuffers tags (view_in o) ((stacked l.cache) ++ c.args.items.now)) (sym c.in-Some.is) (c.admit-may.ensures.other none),
+      subst (λ o. AreNotOwnBuffers tags (view_in o) ((words_in l.cache) ++ c.args.items.now)) (sym c.in-Some.is) (c.admit-may.ensures.other none),
       refl,
       back,
       view_later tags l.hand c.in-Some.cache_hand c.admit-may.new.cache_hand c.admit-may.new.cache_hand c.in-Some.is c.admit-may.ensures.same refl,
@@ -32,7 +33,7 @@ returns-then-len-self-clause-exact g c plan there =
     let l = c.args.self.now in
     let may : c.admit-may.result ≡ true = search rules in
     let moved = (c.admit-may.ensures.moved may).0 in
-    let all = (stacked l.cache) ++ c.args.items.now in
+    let all = (words_in l.cache) ++ c.args.items.now in
     let few : length all ≤ 3 * l.size / 2 = omega (arith, c.if-len-self.true, c.len.ensures.value, ap length moved) in (
       subst (λ o. AreOwnBuffers tags (view_in o) all) (sym c.in-Some.is) (c.admit-may.ensures.yours may),
       refl,
@@ -49,21 +50,28 @@ shed-requires g c =
     let moved = (c.admit-may.ensures.moved may).0 in
     let taken : Some c.admit-may.new.cache_hand ≡ Some c.take_hand-cache_hand.result = search rules in
     let mine = same_mine f c.in-Some.cache_hand c.admit-may.new.cache_hand c.admit-may.ensures.same (mine_of f l.hand c.in-Some.cache_hand c.in-Some.is c.requires.local) in
-    let long = length-append (stacked l.cache) c.args.items.now in (
+    let long = length-append (words_in l.cache) c.args.items.now in (
       search rules,
       (
         mine_of f (Some c.admit-may.new.cache_hand) c.take_hand-cache_hand.result taken mine,
         (
           free_of f l.hand c.in-Some.cache_hand l.ring c.in-Some.is c.requires.local l.free,
           (
-            keeps_of tags (Some c.admit-may.new.cache_hand) c.take_hand-cache_hand.result (stacked c.admit-may.new.cache) taken c.admit-may.ensures.kept,
+            keeps_of tags (Some c.admit-may.new.cache_hand) c.take_hand-cache_hand.result [] taken c.admit-may.ensures.kept,
             (
-              c.admit-may.ensures.single,
+              subst (λ o. AreOwnBuffers tags (view_in o) (words_in c.admit-may.new.self)) taken (c.admit-may.ensures.own, c.admit-may.ensures.single),
               (
-                omega (arith, c.if-len-self.false, c.len.ensures.value),
+                omega (
+                  arith,
+                  le_of (view_in l.hand).pool (buffers_in c.admit-may.new.self) (c.admit-may.ensures.reach (view_in l.hand).pool ∙ l.reach),
+                  ap (λ v. v.pool) (view_later tags l.hand c.in-Some.cache_hand c.admit-may.new.cache_hand c.take_hand-cache_hand.result c.in-Some.is c.admit-may.ensures.same taken),
+                ),
                 (
-                  omega (arith, ap length moved, long, l.within, l.room, c.requires.at_most),
-                  omega (arith, ap length moved, long, c.len-before.ensures.value),
+                  omega (arith, c.if-len-self.false, c.len.ensures.value),
+                  (
+                    omega (arith, ap length moved, long, l.within, l.room, c.requires.at_most),
+                    omega (arith, ap length moved, long, c.len-before.ensures.value),
+                  ),
                 ),
               ),
             ),
@@ -79,7 +87,7 @@ invariant_of-self-in-Ok g c =
     let free = free_of f l.hand c.in-Some.cache_hand l.ring c.in-Some.is c.requires.local l.free in
     let known = ring_at (rings_of f) l.ring free.0 in
     let told = c.in-Ok.ensures.exact known.0 known.1 in
-    let left = length-drop (length (stacked c.admit-may.new.cache) - l.size) (stacked c.admit-may.new.cache) in
+    let left = length-drop (length (words_in c.admit-may.new.self) - l.size) (words_in c.admit-may.new.self) in
     record {
       here = refl;
       free = free_at f c.in-Ok.cache_hand l.ring c.in-Ok.ensures.cache_hand.0 free;
@@ -87,7 +95,9 @@ invariant_of-self-in-Ok g c =
       fits = l.fits;
       room = omega (arith, c.shed.ensures.room, c.admit-may.ensures.room, l.room);
       within = omega (arith, ap length told.1, left, c.if-len-self.false, c.len.ensures.value);
+      reach = reach_kept f l.hand c.in-Ok.cache_hand _ _ c.in-Ok.ensures.cache_hand.0 c.requires.local c.shed.ensures.buffers (c.admit-may.ensures.reach (view_in l.hand).pool ∙ l.reach);
       kept = c.in-Ok.ensures.cache_hand.1;
+      own = c.in-Ok.ensures.own;
       single = c.in-Ok.ensures.single;
     }
 
@@ -98,7 +108,7 @@ invariant_of-self-in-Err g c =
     let free = free_of f l.hand c.in-Some.cache_hand l.ring c.in-Some.is c.requires.local l.free in
     let known = ring_at (rings_of f) l.ring free.0 in
     let told = c.in-Err.ensures.exact known.0 known.1 in
-    let left = length-take c.len-before.result (stacked c.admit-may.new.cache) in
+    let left = length-take c.len-before.result (words_in c.admit-may.new.self) in
     record {
       here = refl;
       free = free_at f c.in-Err.cache_hand l.ring c.in-Err.ensures.same.0 free;
@@ -106,7 +116,9 @@ invariant_of-self-in-Err g c =
       fits = l.fits;
       room = omega (arith, c.shed.ensures.room, c.admit-may.ensures.room, l.room);
       within = omega (arith, ap length told.1, left, c.len-before.ensures.value, l.within);
+      reach = reach_kept f l.hand c.in-Err.cache_hand _ _ c.in-Err.ensures.same.0 c.requires.local c.shed.ensures.buffers (c.admit-may.ensures.reach (view_in l.hand).pool ∙ l.reach);
       kept = c.in-Err.ensures.same.1;
+      own = c.in-Err.ensures.owned;
       single = c.in-Err.ensures.single;
     }
 
@@ -117,10 +129,10 @@ returns-in-Ok-clause-exact g c plan there =
     let may : c.admit-may.result ≡ true = search rules in
     let moved = (c.admit-may.ensures.moved may).0 in
     let taken : Some c.admit-may.new.cache_hand ≡ Some c.take_hand-cache_hand.result = search rules in
-    let all = (stacked l.cache) ++ c.args.items.now in
+    let all = (words_in l.cache) ++ c.args.items.now in
     let told = c.in-Ok.ensures.exact plan there in
     let many : 3 * l.size / 2 < length all = omega (arith, c.if-len-self.false, c.len.ensures.value, ap length moved) in
-    let spare : length (stacked c.admit-may.new.cache) - l.size ≡ spilled l.size all =
+    let spare : length (words_in c.admit-may.new.self) - l.size ≡ spilled l.size all =
     ap (λ x. length x - l.size) moved ∙ sym (spilled_some l.size (3 * l.size / 2) (length all) many) in (
       subst (λ o. AreOwnBuffers tags (view_in o) all) (sym c.in-Some.is) (c.admit-may.ensures.yours may),
       told.0,
@@ -145,14 +157,14 @@ returns-in-Err-clause-exact g c plan there =
     let may : c.admit-may.result ≡ true = search rules in
     let moved = (c.admit-may.ensures.moved may).0 in
     let taken : Some c.admit-may.new.cache_hand ≡ Some c.take_hand-cache_hand.result = search rules in
-    let all = (stacked l.cache) ++ c.args.items.now in
+    let all = (words_in l.cache) ++ c.args.items.now in
     let told = c.in-Err.ensures.exact plan there in
     let many : 3 * l.size / 2 < length all = omega (arith, c.if-len-self.false, c.len.ensures.value, ap length moved) in
-    let spare : length (stacked c.admit-may.new.cache) - l.size ≡ spilled l.size all =
+    let spare : length (words_in c.admit-may.new.self) - l.size ≡ spilled l.size all =
     ap (λ x. length x - l.size) moved ∙ sym (spilled_some l.size (3 * l.size / 2) (length all) many) in (
       subst (λ o. AreOwnBuffers tags (view_in o) all) (sym c.in-Some.is) (c.admit-may.ensures.yours may),
       refl,
-      told.1 ∙ ((λ i. take (c.len-before.ensures.value i) (moved i)) ∙ take-append_seam (stacked l.cache) c.args.items.now),
+      told.1 ∙ ((λ i. take (c.len-before.ensures.value i) (moved i)) ∙ take-append_seam (words_in l.cache) c.args.items.now),
       many,
       told.2,
       subst (λ (z : View g.row.T.Denot × List g.row.T.Denot). Spills tags g.row.N l.ring plan z.0 z.1 (Err told.2))

@@ -1,5 +1,5 @@
 use Rattle.std.proofs.Common.{◌≡◌, length}
-use Rattle.pool.proofs.stack.WordStack.new.Given as goal
+use Rattle.pool.proofs.stack.Stack.new.Given as goal
 
 abbrev pub invariant-loop : goal.invariant-loop
 invariant-loop g l = length l.places.items ≡ l.counter

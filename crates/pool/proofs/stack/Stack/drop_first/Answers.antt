@@ -2,7 +2,7 @@ use Rattle.std.proofs.Common.{◌≡◌, ◌-◌, ◌≤◌, ◌∙◌, ap, arit
 use Rattle.std.proofs.Math.Seq.{paste}
 use Rattle.std.proofs.lemmas.List.{length-take-le, with_items_is}
 use Rattle.pool.proofs.Stacks.{moved_front}
-use Rattle.pool.proofs.stack.WordStack.drop_first.Goals as goal
+use Rattle.pool.proofs.stack.Stack.drop_first.Goals as goal
 
 pub returns-clause-left : goal.returns-clause-left
 returns-clause-left g c =

@@ -2,7 +2,7 @@ use Rattle.std.proofs.Common.{◌-◌, ◌∙◌, ap, arith, drop, length, rever
 use Rattle.std.proofs.lemmas.List.{length-take-le}
 use Rattle.pool.specs.Stacks.{stacked}
 use Rattle.pool.proofs.Stacks.{one_place, run_from}
-use Rattle.pool.proofs.stack.WordStack.pop_slice.Goals as goal
+use Rattle.pool.proofs.stack.Stack.pop_slice.Goals as goal
 
 pub returns-then-into-eq1-clause-popped : goal.returns-then-into-eq1-clause-popped
 returns-then-into-eq1-clause-popped g c =

@@ -1,6 +1,6 @@
 use Rattle.std.proofs.Common.{◌≡◌, ◌∙◌, ap, length, take}
 use Rattle.pool.proofs.Stacks.{served_run}
-use Rattle.pool.proofs.stack.WordStack.serve.Goals as goal
+use Rattle.pool.proofs.stack.Stack.serve.Goals as goal
 
 pub returns-clause-served : goal.returns-clause-served
 returns-clause-served g c =

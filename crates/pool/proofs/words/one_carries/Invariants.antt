@@ -1,6 +1,0 @@
-use Rattle.std.proofs.Common.{◌≡◌, take}
-use Rattle.ringcore_laws.specs.Sound.{occurrences_in}
-use Rattle.pool.proofs.words.one_carries.Given as goal
-
-abbrev pub invariant-loop-i : goal.invariant-loop-i
-invariant-loop-i g l = occurrences_in g.T.Tagged.numbers l.b (take l.i l.items) ≡ 0
