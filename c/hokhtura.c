@@ -26,13 +26,17 @@ extern int64_t hkx_hand_close(struct hk_cell *h);
 extern int64_t hkx_hand_drain(struct hk_cell *h, size_t ring, uint64_t *words, size_t words_length);
 extern int64_t hkx_ring_put(struct hk_cell *h, size_t ring, const uint64_t *words, size_t words_length, bool bulk);
 extern int64_t hkx_ring_take(struct hk_cell *h, size_t ring, uint64_t *words, size_t words_length, bool bulk);
+extern int64_t hkx_ring_put_one(struct hk_cell *h, size_t ring, uint64_t bits);
+extern int64_t hkx_ring_take_one(struct hk_cell *h, size_t ring, uint64_t *word);
 extern int64_t hkx_ring_peek_put(struct hk_cell *h, size_t ring, size_t n, bool bulk);
 extern int64_t hkx_ring_peek_take(struct hk_cell *h, size_t ring, uint64_t *words, size_t words_length, bool bulk);
 extern int64_t hkx_ring_finish_put(struct hk_cell *h, const uint64_t *words, size_t words_length);
 extern int64_t hkx_ring_finish_take(struct hk_cell *h, size_t n);
 extern int64_t hkx_ring_advance_put(struct hk_cell *h, const uint64_t *words, size_t words_length);
+extern int64_t hkx_ring_advance_put_one(struct hk_cell *h, uint64_t bits);
 extern int64_t hkx_ring_hold_take(struct hk_cell *h, size_t ring, size_t n, bool bulk);
 extern int64_t hkx_ring_advance_take(struct hk_cell *h, uint64_t *words, size_t words_length);
+extern int64_t hkx_ring_advance_take_one(struct hk_cell *h, uint64_t *word);
 extern int64_t hkx_ring_release_take(struct hk_cell *h, uint64_t *words, size_t words_length);
 extern int64_t hkx_ring_room(struct hk_cell *h, size_t ring, bool queued);
 extern int64_t hkx_pool_open(struct hk_cell *h, uint32_t n, uint32_t size, uint32_t rings);
@@ -207,6 +211,29 @@ int64_t hk_ring_try_take_burst(hk_hand *hand, size_t ring, uint64_t *words, size
     return got_words(words, n, take(hand, ring, words, n, false));
 }
 
+/* The same of one word, which is passed by value: nothing is tested but null, so that a first try takes no array. */
+static RARELY int64_t put_one_again(hk_hand *hand, size_t ring, uint64_t word, int64_t code) {
+    struct put_call call = {{hand}, ring, &word, 1};
+    return put_again(&call, true, code);
+}
+
+static RARELY int64_t take_one_again(hk_hand *hand, size_t ring, uint64_t *word, int64_t code) {
+    struct take_call call = {{hand}, ring, word, 1};
+    return take_again(&call, true, code);
+}
+
+int64_t hk_ring_try_put_one(hk_hand *hand, size_t ring, uint64_t word) {
+    give_word(word);
+    int64_t code = hkx_ring_put_one(CELL(hand), ring, word);
+    return code >= 0 ? code : put_one_again(hand, ring, word, code);
+}
+
+int64_t hk_ring_try_take_one(hk_hand *hand, size_t ring, uint64_t *word) {
+    if (!word) return HK_E_NULL;
+    int64_t code = hkx_ring_take_one(CELL(hand), ring, word);
+    return got_words(word, 1, code >= 0 ? code : take_one_again(hand, ring, word, code));
+}
+
 static inline int64_t peek_put(hk_hand *hand, size_t ring, size_t n, bool bulk) {
     struct hk_cell cell = {hand};
     int64_t code = hkx_ring_peek_put(&cell, ring, n, bulk);
@@ -261,6 +288,11 @@ int64_t hk_ring_advance_put(hk_hand *hand, const uint64_t *words, size_t n) {
     return hkx_ring_advance_put(CELL(hand), words ? words : no_words, n);
 }
 
+int64_t hk_ring_advance_put_one(hk_hand *hand, uint64_t word) {
+    give_word(word);
+    return hkx_ring_advance_put_one(CELL(hand), word);
+}
+
 static inline int64_t hold_take(hk_hand *hand, size_t ring, size_t n, bool bulk) {
     struct hk_cell cell = {hand};
     int64_t code = hkx_ring_hold_take(&cell, ring, n, bulk);
@@ -280,6 +312,11 @@ int64_t hk_ring_advance_take(hk_hand *hand, uint64_t *words, size_t n) {
     int64_t code = refused(words, n);
     if (code < 0) return code;
     return got_words(words, n, hkx_ring_advance_take(CELL(hand), words ? words : no_words, n));
+}
+
+int64_t hk_ring_advance_take_one(hk_hand *hand, uint64_t *word) {
+    if (!word) return HK_E_NULL;
+    return got_words(word, 1, hkx_ring_advance_take_one(CELL(hand), word));
 }
 
 int64_t hk_ring_release_take(hk_hand *hand, uint64_t *words, size_t n) {

@@ -60,7 +60,7 @@ extern "C" {
 #endif
 
 /* The largest number of words in one call. */
-#define HK_MOST 1024
+#define HK_MOST 4095
 /* The largest number of rings in one set. */
 #define HK_MOST_RINGS 64
 /* The largest count of numbers in one call on a pool. */
@@ -81,7 +81,7 @@ enum hk_code {
     HK_E_SHARED = -12,  /* other handles share it */
     HK_E_MEMORY = -13,  /* out of memory */
     HK_E_PLAN = -14,    /* no such rings, pool, table, port or window can be made */
-    HK_E_WORN = -15,    /* the ring's positions, 2^44 of them, are used up */
+    HK_E_WORN = -15,    /* as many words as the ring's plan allows were put */
     HK_E_PARTS = -16,   /* too many splits lie between this hand and the first one (63 at most) */
     HK_E_NOTYOURS = -17, /* a number that this handle of the pool doesn't have, has cached, or that is given twice */
     HK_E_DEPTH = -20,   /* a depth that is not 1 to 32 */
@@ -131,12 +131,17 @@ enum hk_mode {
 };
 
 /* One ring of a set. exact = 1: it holds `size` words, 1 to 2^20 - 1, as with RING_F_EXACT_SZ. exact = 0: it has `size`
- * slots, a power of two from 2 to 2^20, and holds size - 1 words. `put` and `take` are the modes of its two sides. */
+ * slots, a power of two from 2 to 2^20, and holds size - 1 words. `put` and `take` are the modes of its two sides.
+ * `last` is the number of words after which the ring ends: puts and takes return HK_E_WORN then. 0 stands for the most
+ * that the modes allow, which a greater number may not exceed: 2^63 - 1 if both are HK_MULTI (2,900 years at 100 million
+ * words a second), else 2^52 - 1 (14 years at ten million). `reserved` is 0. */
 typedef struct hk_ring_plan {
     uint32_t size;
     uint32_t exact;
     uint32_t put;
     uint32_t take;
+    uint64_t last;
+    uint64_t reserved;
 } hk_ring_plan;
 
 /* One thread's hand on a set of rings, which have the numbers 0, 1 and so on. */
@@ -166,6 +171,13 @@ HK_API HK_CHECKED int64_t hk_ring_try_put_burst(hk_hand *hand, size_t ring, cons
  * hk_ring_finish_take with the same n until it returns a count. */
 HK_API HK_CHECKED int64_t hk_ring_try_take_bulk(hk_hand *hand, size_t ring, uint64_t *words, size_t n);
 HK_API HK_CHECKED int64_t hk_ring_try_take_burst(hk_hand *hand, size_t ring, uint64_t *words, size_t n);
+/* Puts a word on a ring, which is passed by value: what hk_ring_try_put_bulk does with n = 1, in less time. Returns 1.
+ * HK_E_NULL, HK_E_KIND, HK_E_RING, HK_E_OPEN, HK_E_NOROOM, HK_E_WORN, HK_E_AGAIN: nothing was put. HK_E_PENDING: call
+ * hk_ring_finish_put with this word and n = 1. */
+HK_API HK_CHECKED int64_t hk_ring_try_put_one(hk_hand *hand, size_t ring, uint64_t word);
+/* Takes the oldest word from a ring: what hk_ring_try_take_bulk does with n = 1, in less time. Returns 1. Codes as
+ * above. HK_E_PENDING: the word is there, and still on the ring. Call hk_ring_finish_take with n = 1. */
+HK_API HK_CHECKED int64_t hk_ring_try_take_one(hk_hand *hand, size_t ring, uint64_t *word);
 
 /* Peeks, only on head/tail-sync sides. A put reserves up to n positions; a take shows up to n words at the front of the
  * array without taking them. Both return how many. While a peek is open, other threads' calls on that side return
@@ -194,6 +206,9 @@ HK_API HK_CHECKED int64_t hk_ring_finish_take(hk_hand *hand, size_t n);
  * keeps the others. Returns n. HK_E_NULL, HK_E_KIND, HK_E_NOTOPEN; HK_E_MODE: the side is multi; HK_E_COUNT: no
  * position would stay reserved, so hk_ring_finish_put has to put the last ones. */
 HK_API HK_CHECKED int64_t hk_ring_advance_put(hk_hand *hand, const uint64_t *words, size_t n);
+/* The same with one word, which is passed by value, in less time. Returns 1. HK_E_NULL, HK_E_KIND, HK_E_NOTOPEN,
+ * HK_E_MODE, HK_E_COUNT. */
+HK_API HK_CHECKED int64_t hk_ring_advance_put_one(hk_hand *hand, uint64_t word);
 /* Holds a take side, with up to n of its words, which stay on the ring until they are taken. Returns how many.
  * HK_E_NULL, HK_E_KIND, HK_E_RING, HK_E_MODE, HK_E_OPEN, HK_E_COUNT, HK_E_NOROOM, HK_E_WORN, HK_E_AGAIN. If the hand is
  * freed meanwhile, no call takes these words any more. */
@@ -202,6 +217,8 @@ HK_API HK_CHECKED int64_t hk_ring_hold_take_burst(hk_hand *hand, size_t ring, si
 /* Takes the next n words of the held side, and keeps the others. Returns n. HK_E_NULL, HK_E_KIND, HK_E_NOTOPEN;
  * HK_E_COUNT: none would be left, so hk_ring_release_take has to take the last ones. */
 HK_API HK_CHECKED int64_t hk_ring_advance_take(hk_hand *hand, uint64_t *words, size_t n);
+/* Takes the next word of the held side, in less time. Returns 1. HK_E_NULL, HK_E_KIND, HK_E_NOTOPEN, HK_E_COUNT. */
+HK_API HK_CHECKED int64_t hk_ring_advance_take_one(hk_hand *hand, uint64_t *word);
 /* Takes the next n words of the held side, or none, and gives it up: the others stay on the ring, in their order.
  * Returns n. HK_E_NULL, HK_E_KIND, HK_E_NOTOPEN, HK_E_COUNT. */
 HK_API HK_CHECKED int64_t hk_ring_release_take(hk_hand *hand, uint64_t *words, size_t n);
@@ -239,7 +256,7 @@ HK_API HK_CHECKED int64_t hk_hand_drain(hk_hand *hand, size_t ring, uint64_t *wo
  * If a call returns a code, nothing was changed: no number, no cache, no array. */
 typedef struct hk_pool hk_pool;
 
-/* [memory] Makes a pool of n numbers, 1 to 65,536, all of them free, and the first handle on it. Each handle has a
+/* [memory] Makes a pool of n numbers, 1 to 2^20 - 1, all of them free, and the first handle on it. Each handle has a
  * cache of this size, 0 to 512; `rings` rings, 0 to 63, pass numbers from one handle to another, and each has room for
  * all of them. HK_E_NULL, HK_E_PLAN, HK_E_MEMORY. */
 HK_API HK_CHECKED int64_t hk_pool_open(hk_pool **out, uint32_t n, uint32_t cache, uint32_t rings);

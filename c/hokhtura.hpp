@@ -118,6 +118,10 @@ public:
     result try_take_burst(std::size_t ring, places out) noexcept {
         return hk_ring_try_take_burst(get(), ring, out.data(), out.size());
     }
+    result try_put_one(std::size_t ring, std::uint64_t word) noexcept { return hk_ring_try_put_one(get(), ring, word); }
+    result try_take_one(std::size_t ring, std::uint64_t &word) noexcept {
+        return hk_ring_try_take_one(get(), ring, &word);
+    }
     result peek_put_bulk(std::size_t ring, std::size_t n) noexcept { return hk_ring_peek_put_bulk(get(), ring, n); }
     result peek_put_burst(std::size_t ring, std::size_t n) noexcept { return hk_ring_peek_put_burst(get(), ring, n); }
     result peek_take_bulk(std::size_t ring, places out) noexcept {
@@ -127,9 +131,11 @@ public:
         return hk_ring_peek_take_burst(get(), ring, out.data(), out.size());
     }
     result advance_put(words in) noexcept { return hk_ring_advance_put(get(), in.data(), in.size()); }
+    result advance_put_one(std::uint64_t word) noexcept { return hk_ring_advance_put_one(get(), word); }
     result hold_take_bulk(std::size_t ring, std::size_t n) noexcept { return hk_ring_hold_take_bulk(get(), ring, n); }
     result hold_take_burst(std::size_t ring, std::size_t n) noexcept { return hk_ring_hold_take_burst(get(), ring, n); }
     result advance_take(places out) noexcept { return hk_ring_advance_take(get(), out.data(), out.size()); }
+    result advance_take_one(std::uint64_t &word) noexcept { return hk_ring_advance_take_one(get(), &word); }
     result release_take(places out) noexcept { return hk_ring_release_take(get(), out.data(), out.size()); }
     result finish_put(words in) noexcept { return hk_ring_finish_put(get(), in.data(), in.size()); }
     result finish_take(std::size_t n) noexcept { return hk_ring_finish_take(get(), n); }
@@ -293,7 +299,7 @@ class ring {
 public:
     // Makes a ring that holds `capacity` objects, 1 to 2^20 - 1. HK_E_PLAN, HK_E_MEMORY.
     result open(std::uint32_t capacity) noexcept {
-        const hk_ring_plan plan[1] = {{capacity, 1, HK_HTS, HK_HTS}};
+        const hk_ring_plan plan[1] = {{capacity, 1, HK_HTS, HK_HTS, 0, 0}};
         ring made;
         made.rest_ = new (std::nothrow) rest;
         if (!made.rest_) return HK_E_MEMORY;
@@ -336,17 +342,16 @@ public:
     // owns none; HK_E_NOROOM, HK_E_WORN, HK_E_AGAIN.
     result try_put(std::unique_ptr<T> &object) noexcept {
         if (!object) return HK_E_NULL;
-        const std::uint64_t word[1] = {static_cast<std::uint64_t>(reinterpret_cast<std::uintptr_t>(object.get()))};
-        auto code = hand_.try_put_bulk(0, word);
+        auto code = hand_.try_put_one(0, static_cast<std::uint64_t>(reinterpret_cast<std::uintptr_t>(object.get())));
         if (code) (void)object.release();
         return code;
     }
     // Takes the oldest object. If a code is returned, the pointer is as it was. HK_E_NULL, HK_E_NOROOM, HK_E_WORN,
     // HK_E_AGAIN.
     result try_take(std::unique_ptr<T> &object) noexcept {
-        std::uint64_t word[1] = {0};
-        auto code = hand_.try_take_bulk(0, word);
-        if (code) object.reset(at(word[0]));
+        std::uint64_t word = 0;
+        auto code = hand_.try_take_one(0, word);
+        if (code) object.reset(at(word));
         return code;
     }
     // How many objects are queued, and how many more there is room for, as found by one look.

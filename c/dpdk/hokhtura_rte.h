@@ -132,7 +132,7 @@ static inline void hkr_side_close(struct hkr_side *side) {
 /* Both sides of a ring whose other fields are there. */
 static inline int hkr_sides_open(struct rte_ring *r) {
     hk_ring_plan plan = {r->capacity * r->per, 1, hkr_peeks(r->prod_sync) ? HK_HTS : HK_MULTI,
-                         hkr_peeks(r->cons_sync) ? HK_HTS : HK_MULTI};
+                         hkr_peeks(r->cons_sync) ? HK_HTS : HK_MULTI, 0, 0};
     hk_hand *put, *take;
     if (hk_hand_open(&put, &plan, 1) < 0) return -ENOMEM;
     if (hk_hand_split(put, &take) < 0) take = NULL;

@@ -70,7 +70,7 @@ static int64_t work(void) {
     hk_reorder *window = NULL;
     hk_pool *pool = NULL;
     hk_fib *fib = NULL;
-    hk_ring_plan plan = {WORDS, 1, HK_MULTI, HK_HTS};
+    hk_ring_plan plan = {WORDS, 1, HK_MULTI, HK_HTS, 0, 0};
     uint64_t words[WORDS] = {1, 2, 3}, out[WORDS];
     int64_t code = hk_hand_open(&hand, &plan, 1);
     if (code >= 0) code = hk_routes_open(&routes, 16, 8);

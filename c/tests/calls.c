@@ -12,10 +12,10 @@ static void mark(void) {
 
 static void plans(uint32_t put, uint32_t take) {
     hk_hand *hand = NULL;
-    hk_ring_plan good = {8, 0, put, take};
+    hk_ring_plan good = {8, 0, put, take, 0, 0};
     hk_ring_plan bad[] = {
-        {6, 0, put, take}, {1, 0, put, take}, {1u << 21, 0, put, take}, {0, 1, put, take}, {1u << 20, 1, put, take},
-        {8, 0, 2, take}, {8, 0, put, 2}, {8, 2, put, take},
+        {6, 0, put, take, 0, 0}, {1, 0, put, take, 0, 0}, {1u << 21, 0, put, take, 0, 0}, {0, 1, put, take, 0, 0}, {1u << 20, 1, put, take, 0, 0},
+        {8, 0, 2, take, 0, 0}, {8, 0, put, 2, 0, 0}, {8, 2, put, take, 0, 0},
     };
     IS(hk_hand_open(NULL, &good, 1), HK_E_NULL);
     IS(hk_hand_open(&hand, NULL, 1), HK_E_NULL);
@@ -165,7 +165,7 @@ static void the_end(hk_hand *hand) {
 
 static void rings(uint32_t put, uint32_t take) {
     hk_hand *hand = NULL;
-    hk_ring_plan two[2] = {{6, 1, put, take}, {8, 0, put, take}};
+    hk_ring_plan two[2] = {{6, 1, put, take, 0, 0}, {8, 0, put, take, 0, 0}};
     plans(put, take);
     IS(hk_hand_open(&hand, two, 2), HK_OK);
     refusals(hand);
@@ -179,7 +179,7 @@ static void rings(uint32_t put, uint32_t take) {
 /* The longest call, around the end of the ring; words of every bit. */
 static void long_calls(void) {
     hk_hand *hand = NULL;
-    hk_ring_plan plan = {1500, 1, HK_MULTI, HK_MULTI};
+    hk_ring_plan plan = {6000, 1, HK_MULTI, HK_MULTI, 0, 0};
     IS(hk_hand_open(&hand, &plan, 1), HK_OK);
     for (uint64_t i = 0; i <= HK_MOST; i++) words[i] = i * 0x9e3779b97f4a7c15u;
     for (int turn = 0; turn < 5; turn++) {
@@ -190,14 +190,14 @@ static void long_calls(void) {
         IS(out[HK_MOST], -1);
     }
     IS(hk_ring_try_put_bulk(hand, 0, words, HK_MOST), HK_MOST);
-    IS(hk_ring_try_put_burst(hand, 0, words, HK_MOST), 1500 - HK_MOST);
+    IS(hk_ring_try_put_burst(hand, 0, words, HK_MOST), 6000 - HK_MOST);
     hk_hand_free(hand);
 }
 
 /* A hand can be split 63 times, one after the other. */
 static void splits(void) {
     hk_hand *hands[64] = {NULL};
-    hk_ring_plan plan = {8, 0, HK_MULTI, HK_HTS};
+    hk_ring_plan plan = {8, 0, HK_MULTI, HK_HTS, 0, 0};
     IS(hk_hand_open(&hands[0], &plan, 1), HK_OK);
     for (int i = 1; i < 64; i++) IS(hk_hand_split(hands[i - 1], &hands[i]), HK_OK);
     hk_hand *none = NULL;
@@ -211,7 +211,7 @@ static void splits(void) {
  * before come out alone. */
 static void freed_while_putting(void) {
     hk_hand *hand = NULL, *freed = NULL;
-    hk_ring_plan plan = {8, 0, HK_HTS, HK_MULTI};
+    hk_ring_plan plan = {8, 0, HK_HTS, HK_MULTI, 0, 0};
     IS(hk_hand_open(&hand, &plan, 1), HK_OK), IS(hk_hand_split(hand, &freed), HK_OK);
     IS(hk_ring_try_put_bulk(hand, 0, words, 2), 2);
     IS(hk_ring_peek_put_bulk(freed, 0, 3), 3);
@@ -233,7 +233,7 @@ static void freed_while_putting(void) {
 /* The same of an open take: the words that it showed come out no more, also when the rings are closed. */
 static void freed_while_taking(void) {
     hk_hand *hand = NULL, *freed = NULL;
-    hk_ring_plan plan = {8, 0, HK_MULTI, HK_HTS};
+    hk_ring_plan plan = {8, 0, HK_MULTI, HK_HTS, 0, 0};
     IS(hk_hand_open(&hand, &plan, 1), HK_OK), IS(hk_hand_split(hand, &freed), HK_OK);
     IS(hk_ring_try_put_bulk(hand, 0, words, 3), 3);
     IS(hk_ring_peek_take_bulk(freed, 0, out, 2), 2);

@@ -27,7 +27,7 @@ static bool send(hk_hand *hand, std::uint64_t most) {
 int main() {
     const std::uint64_t most = 100000;
     hk_hand *at = nullptr;
-    hk_ring_plan plan{1000, 1, HK_MULTI, HK_HTS};
+    hk_ring_plan plan{1000, 1, HK_MULTI, HK_HTS, 0, 0};
     if (hk_hand_open(&at, &plan, 1) != HK_OK) return 1;
     Hand first(at);
     if (hk_hand_split(first.get(), &at) != HK_OK) return 1;

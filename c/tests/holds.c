@@ -11,7 +11,7 @@
 enum { ROOM = 6, WORDS = 100000, STEPS = 200000, MOST_OF_MODEL = 8 };
 
 static hk_hand *open_ring(uint32_t size, uint32_t put, uint32_t take) {
-    hk_ring_plan plan = {size, 1, put, take};
+    hk_ring_plan plan = {size, 1, put, take, 0, 0};
     hk_hand *hand = NULL;
     IS(hk_hand_open(&hand, &plan, 1), HK_OK);
     return hand;

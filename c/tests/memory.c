@@ -95,7 +95,7 @@ static void open_fib(struct all *all) {
 }
 
 static void open_all(struct all *all) {
-    hk_ring_plan plans[2] = {{8, 0, HK_MULTI, HK_MULTI}, {5, 1, HK_HTS, HK_HTS}};
+    hk_ring_plan plans[2] = {{8, 0, HK_MULTI, HK_MULTI, 0, 0}, {5, 1, HK_HTS, HK_HTS, 0, 0}};
     *all = (struct all){NULL, NULL, NULL, NULL, NULL, NULL, NULL, NULL, NULL, NULL};
     tell(hk_hand_open(&all->hand, plans, 2));
     if (all->hand) tell(hk_hand_split(all->hand, &all->second));

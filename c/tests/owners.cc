@@ -36,9 +36,22 @@ static void results() {
     static_assert(!std::is_constructible_v<hokhtura::places, const std::vector<std::uint64_t> &>);
 }
 
+// Words by value, on a multi ring, and on both sides of a ring that are held.
+static void one_by_one() {
+    hokhtura::hand hand, other;
+    const hk_ring_plan plans[] = {{8, 0, HK_HTS, HK_HTS, 0, 0}, {8, 0, HK_MULTI, HK_MULTI, 0, 0}};
+    std::uint64_t word = 0;
+    IS(hand.open(plans).code(), HK_OK), IS(hand.split(other).code(), HK_OK);
+    IS(hand.try_put_one(1, 7).count(), 1), IS(other.try_take_one(1, word).count(), 1), IS(word, 7);
+    IS(hand.peek_put_bulk(0, 3).count(), 3), IS(hand.advance_put_one(8).count(), 1);
+    IS(hand.advance_put_one(9).count(), 1);
+    IS(other.hold_take_burst(0, 4).count(), 2), IS(other.advance_take_one(word).count(), 1), IS(word, 8);
+    IS(other.release_take({}).count(), 0), IS(hand.finish_put({}).count(), 0), IS(other.count(0).count(), 1);
+}
+
 static void hands() {
     hokhtura::hand hand, other, none;
-    const hk_ring_plan plans[] = {{8, 0, HK_HTS, HK_HTS}, {8, 0, HK_MULTI, HK_MULTI}};
+    const hk_ring_plan plans[] = {{8, 0, HK_HTS, HK_HTS, 0, 0}, {8, 0, HK_MULTI, HK_MULTI, 0, 0}};
     IS(hand.open(plans).code(), HK_OK), IS(hand.split(other).code(), HK_OK), IS(none.split(other).code(), HK_E_NULL);
     std::vector<std::uint64_t> in{1, 2, 3};
     std::array<std::uint64_t, 4> out{};
@@ -128,7 +141,7 @@ static void rings() {
 }
 
 int main() {
-    results(), hands(), pools(), tables(), rings();
+    results(), hands(), one_by_one(), pools(), tables(), rings();
     std::printf("owners: %d passed, %d failed\n", passed, failed);
     return failed != 0;
 }

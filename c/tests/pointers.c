@@ -121,7 +121,7 @@ static void *answer(void *place) {
 }
 
 static void pass(uint32_t put_mode, uint32_t take_mode, int peeks) {
-    hk_ring_plan plans[2] = {{SIZE, 1, put_mode, take_mode}, {SIZE, 1, put_mode, take_mode}};
+    hk_ring_plan plans[2] = {{SIZE, 1, put_mode, take_mode, 0, 0}, {SIZE, 1, put_mode, take_mode, 0, 0}};
     struct job jobs[2 * PAIRS];
     pthread_t threads[2 * PAIRS];
     hk_hand *hand = NULL;
@@ -150,7 +150,7 @@ static void *leave(void *place) {
 }
 
 static void close_and_drain(void) {
-    hk_ring_plan plan = {8, 1, HK_MULTI, HK_MULTI};
+    hk_ring_plan plan = {8, 1, HK_MULTI, HK_MULTI, 0, 0};
     hk_hand *hand = NULL, *other = NULL;
     pthread_t thread;
     uint64_t word = 0;

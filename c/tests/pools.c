@@ -3,7 +3,7 @@
 
 #include <string.h>
 
-enum { FEW = 6, MANY = 65536 };
+enum { FEW = 6, MANY = (1 << 20) - 1 };
 
 static uint32_t got[HK_POOL_MOST + 1];
 static unsigned char met[MANY];

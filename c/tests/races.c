@@ -53,7 +53,7 @@ static void *receive(void *nothing) {
 }
 
 int main(int argc, char **argv) {
-    hk_ring_plan plan = {8, 1, HK_HTS, HK_HTS};
+    hk_ring_plan plan = {8, 1, HK_HTS, HK_HTS, 0, 0};
     pthread_t threads[2];
     kind = argc > 1 ? argv[1] : "none";
     IS(hk_hand_open(&giver, &plan, 1), HK_OK), IS(hk_hand_split(giver, &taker), HK_OK);

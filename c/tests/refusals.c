@@ -10,7 +10,9 @@
 /* Each set of rings has a ring of HTS sides and a ring of multi sides; an open span has three positions of seven. */
 enum { RINGS = 2, MULTI_RING = 1, SPAN = 3, LEFT = 4, NUMBERS = 8, POOL_RINGS = 1, PORTS = 1, HOPS = 8, HELD = 34 };
 
-#define TWO(size, exact, put, take) ((hk_ring_plan[2]){{8, 0, HK_HTS, HK_HTS}, {size, exact, put, take}})
+#define LASTING(put, take, last, reserved) \
+    ((hk_ring_plan[2]){{8, 0, HK_HTS, HK_HTS, 0, 0}, {8, 0, put, take, last, reserved}})
+#define TWO(size, exact, put, take) ((hk_ring_plan[2]){{8, 0, HK_HTS, HK_HTS, 0, 0}, {size, exact, put, take, 0, 0}})
 
 /* Hands: without a span, with a span of a put and of a take, and one whose rings were closed. `other` shares the rings
  * of `idle`, and `sharer` the table of `shared`. */
@@ -61,7 +63,7 @@ struct seen {
 };
 
 static void open_hand(hk_hand **hand) {
-    hk_ring_plan plans[RINGS] = {{8, 0, HK_HTS, HK_HTS}, {8, 0, HK_MULTI, HK_MULTI}};
+    hk_ring_plan plans[RINGS] = {{8, 0, HK_HTS, HK_HTS, 0, 0}, {8, 0, HK_MULTI, HK_MULTI, 0, 0}};
     IS(hk_hand_open(hand, plans, RINGS), HK_OK);
 }
 

@@ -32,7 +32,7 @@ static int64_t put_by_steps(void) {
 }
 
 static void open_hands(void) {
-    hk_ring_plan plan = {8, 0, HK_MULTI, HK_MULTI};
+    hk_ring_plan plan = {8, 0, HK_MULTI, HK_MULTI, 0, 0};
     struct sigaction action;
     memset(&action, 0, sizeof action);
     action.sa_sigaction = step, action.sa_flags = SA_SIGINFO;

@@ -67,7 +67,7 @@ static void *take_all(void *at) {
 
 static void cross(uint32_t put, uint32_t take, size_t burst) {
     hk_hand *hand = NULL;
-    hk_ring_plan plan = {100, 1, put, take};
+    hk_ring_plan plan = {100, 1, put, take, 0, 0};
     pthread_t threads[SENDERS + TAKERS];
     struct job jobs[SENDERS + TAKERS];
     met = calloc(SENDERS * each, 1);

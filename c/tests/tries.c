@@ -45,9 +45,18 @@ static int64_t end(struct hk_cell *h, bool same) {
 }
 
 static bool bulk_wanted;
+/* The word of a call of one word, whose tries after the first may be those of an array of one. */
+static uint64_t one_word;
+static bool one_wanted;
+
+static bool is_one(const uint64_t *at, size_t n) {
+    return n == 1 && *at == one_word;
+}
 
 int64_t hkx_ring_put(struct hk_cell *h, size_t ring, const uint64_t *at, size_t n, bool bulk);
 int64_t hkx_ring_take(struct hk_cell *h, size_t ring, uint64_t *at, size_t n, bool bulk);
+int64_t hkx_ring_put_one(struct hk_cell *h, size_t ring, uint64_t word);
+int64_t hkx_ring_take_one(struct hk_cell *h, size_t ring, uint64_t *word);
 int64_t hkx_ring_peek_put(struct hk_cell *h, size_t ring, size_t n, bool bulk);
 int64_t hkx_ring_peek_take(struct hk_cell *h, size_t ring, uint64_t *at, size_t n, bool bulk);
 int64_t hkx_ring_hold_take(struct hk_cell *h, size_t ring, size_t n, bool bulk);
@@ -55,11 +64,19 @@ int64_t hkx_ring_finish_put(struct hk_cell *h, const uint64_t *at, size_t n);
 int64_t hkx_ring_finish_take(struct hk_cell *h, size_t n);
 
 int64_t hkx_ring_put(struct hk_cell *h, size_t ring, const uint64_t *at, size_t n, bool bulk) {
-    return begin(h, ring == RING && at == words && n == COUNT && bulk == bulk_wanted);
+    return begin(h, ring == RING && bulk == bulk_wanted && (one_wanted ? is_one(at, n) : at == words && n == COUNT));
+}
+
+int64_t hkx_ring_put_one(struct hk_cell *h, size_t ring, uint64_t word) {
+    return begin(h, ring == RING && one_wanted && word == one_word);
+}
+
+int64_t hkx_ring_take_one(struct hk_cell *h, size_t ring, uint64_t *word) {
+    return begin(h, ring == RING && one_wanted && word == words);
 }
 
 int64_t hkx_ring_take(struct hk_cell *h, size_t ring, uint64_t *at, size_t n, bool bulk) {
-    return begin(h, ring == RING && at == words && n == COUNT && bulk == bulk_wanted);
+    return begin(h, ring == RING && at == words && n == (one_wanted ? 1 : COUNT) && bulk == bulk_wanted);
 }
 
 int64_t hkx_ring_peek_put(struct hk_cell *h, size_t ring, size_t n, bool bulk) {
@@ -75,11 +92,11 @@ int64_t hkx_ring_hold_take(struct hk_cell *h, size_t ring, size_t n, bool bulk) 
 }
 
 int64_t hkx_ring_finish_put(struct hk_cell *h, const uint64_t *at, size_t n) {
-    return end(h, at == words && n == COUNT);
+    return end(h, one_wanted ? is_one(at, n) : at == words && n == COUNT);
 }
 
 int64_t hkx_ring_finish_take(struct hk_cell *h, size_t n) {
-    return end(h, n == COUNT);
+    return end(h, n == (one_wanted ? 1 : COUNT));
 }
 
 /* The exports that no call tries again: whatever they are given, they count. */
@@ -96,7 +113,9 @@ ONCE(hkx_hand_left)
 ONCE(hkx_hand_close)
 ONCE(hkx_hand_drain)
 ONCE(hkx_ring_advance_put)
+ONCE(hkx_ring_advance_put_one)
 ONCE(hkx_ring_advance_take)
+ONCE(hkx_ring_advance_take_one)
 ONCE(hkx_ring_release_take)
 ONCE(hkx_ring_room)
 ONCE(hkx_pool_open)
@@ -176,6 +195,14 @@ static int64_t take_burst(void) {
     return hk_ring_try_take_burst(hand, RING, words, COUNT);
 }
 
+static int64_t put_one(void) {
+    return hk_ring_try_put_one(hand, RING, one_word);
+}
+
+static int64_t take_one(void) {
+    return hk_ring_try_take_one(hand, RING, words);
+}
+
 static int64_t peek_put_bulk(void) {
     return hk_ring_peek_put_bulk(hand, RING, COUNT);
 }
@@ -243,7 +270,7 @@ static void finishes(call *called) {
 #define BOTH(a_call) (ONE(a_call, HK_E_AGAIN), ONE(a_call, HK_E_PENDING))
 
 static void one_try(void) {
-    hk_ring_plan plan = {8, 0, HK_MULTI, HK_MULTI};
+    hk_ring_plan plan = {8, 0, HK_MULTI, HK_MULTI, 0, 0};
     hk_hand *second = NULL;
     BOTH(hk_hand_open(&second, &plan, 1));
     BOTH(hk_hand_split(hand, &second));
@@ -251,6 +278,8 @@ static void one_try(void) {
     BOTH(hk_hand_left(hand));
     BOTH(hk_ring_advance_put(hand, words, COUNT));
     BOTH(hk_ring_advance_take(hand, words, COUNT));
+    BOTH(hk_ring_advance_put_one(hand, words[0]));
+    BOTH(hk_ring_advance_take_one(hand, words));
     BOTH(hk_ring_release_take(hand, words, COUNT));
     BOTH(hk_ring_count(hand, RING));
     BOTH(hk_ring_room(hand, RING));
@@ -355,6 +384,9 @@ int main(void) {
     hand = (hk_hand *)(void *)&box;
     both(put_bulk, true), both(put_burst, false);
     both(take_bulk, true), both(take_burst, false);
+    one_word = 7, one_wanted = true;
+    both(put_one, true), both(take_one, true);
+    one_wanted = false;
     starts(peek_put_bulk, true), starts(peek_put_burst, false);
     starts(peek_take_bulk, true), starts(peek_take_burst, false);
     starts(hold_take_bulk, true), starts(hold_take_burst, false);

@@ -44,7 +44,7 @@ static void fill(void) {
 }
 
 static void puts_of(uint32_t mode) {
-    hk_ring_plan plan = {SIZE, 1, mode, mode};
+    hk_ring_plan plan = {SIZE, 1, mode, mode, 0, 0};
     IS(hk_hand_open(&hand, &plan, 1), HK_OK), IS(hk_hand_split(hand, &other), HK_OK);
     fill(), from(0), IS(hk_ring_put_bulk(hand, 0, words, 3, takes), 3), IS(relaxed, 3);
     fill(), from(2), IS(hk_ring_put_bulk(hand, 0, words, 3, takes), HK_E_NOROOM), IS(relaxed, 2);
@@ -76,7 +76,7 @@ static int finishes(void) {
 }
 
 static void after_a_peek(void) {
-    hk_ring_plan plan = {SIZE, 1, HK_HTS, HK_HTS};
+    hk_ring_plan plan = {SIZE, 1, HK_HTS, HK_HTS, 0, 0};
     IS(hk_hand_open(&hand, &plan, 1), HK_OK), IS(hk_hand_split(hand, &other), HK_OK);
     IS(hk_ring_peek_put_bulk(other, 0, 1), 1), from(1);
     IS(hk_ring_put_bulk(hand, 0, words, 1, ends), HK_E_AGAIN), IS(relaxed, 1);

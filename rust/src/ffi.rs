@@ -64,6 +64,8 @@ pub struct Plan {
     pub exact: u32,
     pub put: u32,
     pub take: u32,
+    pub last: u64,
+    pub reserved: u64,
 }
 
 extern "C" {
@@ -77,12 +79,14 @@ extern "C" {
     pub fn hk_ring_try_put_burst(hand: *mut Hand, ring: usize, words: *const u64, n: usize) -> i64;
     pub fn hk_ring_try_take_bulk(hand: *mut Hand, ring: usize, words: *mut u64, n: usize) -> i64;
     pub fn hk_ring_try_take_burst(hand: *mut Hand, ring: usize, words: *mut u64, n: usize) -> i64;
+    pub fn hk_ring_try_put_one(hand: *mut Hand, ring: usize, word: u64) -> i64;
+    pub fn hk_ring_try_take_one(hand: *mut Hand, ring: usize, word: *mut u64) -> i64;
     pub fn hk_ring_finish_put(hand: *mut Hand, words: *const u64, n: usize) -> i64;
     pub fn hk_ring_finish_take(hand: *mut Hand, n: usize) -> i64;
     pub fn hk_ring_peek_put_burst(hand: *mut Hand, ring: usize, n: usize) -> i64;
-    pub fn hk_ring_advance_put(hand: *mut Hand, words: *const u64, n: usize) -> i64;
+    pub fn hk_ring_advance_put_one(hand: *mut Hand, word: u64) -> i64;
     pub fn hk_ring_hold_take_burst(hand: *mut Hand, ring: usize, n: usize) -> i64;
-    pub fn hk_ring_advance_take(hand: *mut Hand, words: *mut u64, n: usize) -> i64;
+    pub fn hk_ring_advance_take_one(hand: *mut Hand, word: *mut u64) -> i64;
     pub fn hk_ring_release_take(hand: *mut Hand, words: *mut u64, n: usize) -> i64;
     pub fn hk_ring_count(hand: *const Hand, ring: usize) -> i64;
     pub fn hk_ring_room(hand: *const Hand, ring: usize) -> i64;

@@ -1,7 +1,7 @@
 //! One thread's hand on a ring, of any type of word.
 use crate::error::{answer, Error};
 use crate::ffi;
-use crate::word::Word;
+use crate::word::{bits, Word};
 use core::marker::PhantomData;
 use core::ptr::{null, null_mut, NonNull};
 
@@ -37,7 +37,7 @@ fn made<H>(at: *mut H, code: i64) -> Result<NonNull<H>, Error> {
 impl<T: Word> Hand<T> {
     pub(crate) fn open(capacity: usize, put: Mode, take: Mode) -> Result<Self, Error> {
         let size = u32::try_from(capacity).map_err(|_| Error::Plan)?;
-        let plan = ffi::Plan { size, exact: 1, put: put.number(), take: take.number() };
+        let plan = ffi::Plan { size, exact: 1, put: put.number(), take: take.number(), last: 0, reserved: 0 };
         let mut at = null_mut();
         let code = unsafe { ffi::hk_hand_open(&raw mut at, &raw const plan, 1) };
         Ok(Hand(made(at, code)?, capacity, PhantomData))
@@ -69,8 +69,17 @@ impl<T: Word> Hand<T> {
         })
     }
 
-    pub(crate) fn take_one(&mut self, word: &mut u64) -> Result<usize, Error> {
-        answer(unsafe { ffi::hk_ring_try_take_burst(self.0.as_ptr(), 0, word, 1) })
+    pub(crate) fn put_one(&mut self, word: T) -> Result<usize, Error> {
+        answer(unsafe { ffi::hk_ring_try_put_one(self.0.as_ptr(), 0, bits(word)) })
+    }
+
+    pub(crate) fn take_one(&mut self, word: &mut T) -> Result<usize, Error> {
+        answer(unsafe { ffi::hk_ring_try_take_one(self.0.as_ptr(), 0, (&raw mut *word).cast()) })
+    }
+
+    /// The same where there is no word of the type yet.
+    pub(crate) fn take_bits(&mut self, word: &mut u64) -> Result<usize, Error> {
+        answer(unsafe { ffi::hk_ring_try_take_one(self.0.as_ptr(), 0, word) })
     }
 
     pub(crate) fn finish_put(&mut self, words: &[T]) -> Result<usize, Error> {
@@ -92,7 +101,7 @@ impl<T: Word> Hand<T> {
         answer(if is_last {
             unsafe { ffi::hk_ring_finish_put(hand, &raw const word, 1) }
         } else {
-            unsafe { ffi::hk_ring_advance_put(hand, &raw const word, 1) }
+            unsafe { ffi::hk_ring_advance_put_one(hand, word) }
         })
     }
 
@@ -112,7 +121,7 @@ impl<T: Word> Hand<T> {
         answer(if is_last {
             unsafe { ffi::hk_ring_release_take(hand, word, 1) }
         } else {
-            unsafe { ffi::hk_ring_advance_take(hand, word, 1) }
+            unsafe { ffi::hk_ring_advance_take_one(hand, word) }
         })
     }
 

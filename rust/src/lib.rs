@@ -21,7 +21,7 @@
 //!
 //! | side | calls | for |
 //! |---|---|---|
-//! | `Mode::Multi` | `try_put_bulk`, `try_take_burst` and so on | any number of threads at any time |
+//! | `Mode::Multi` | `try_put_bulk`, `try_take_burst` and so on, `try_put_one`, `try_take_one` | any number of threads |
 //! | `Mode::Hts` | the same, one call of the side at a time | sides that are held now and then |
 //! | `Mode::Hts`, held | [`Producer::hold`], [`Consumer::hold`] | words one by one, by one thread for a while |
 //!
@@ -65,7 +65,7 @@ pub use routes::{FirstLevel, Routes};
 pub use word::Word;
 
 /// The largest number of words in one call.
-pub const MOST: usize = 1024;
+pub const MOST: usize = 4095;
 
 /// What a thread does that waits for another one.
 pub(crate) fn relax() {

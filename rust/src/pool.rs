@@ -19,7 +19,7 @@ pub struct Pool(NonNull<ffi::Pool>, PhantomData<*mut u8>);
 unsafe impl Send for Pool {}
 
 impl Pool {
-    /// A pool of `n` numbers, 1 to 65,536, all of them free. Each thread's cache has this size, 0 to 512, and `rings`
+    /// A pool of `n` numbers, 1 to 2^20 - 1, all of them free. Each thread's cache has this size, 0 to 512, and `rings`
     /// rings, 0 to 63, pass numbers from one handle to another.
     ///
     /// # Errors

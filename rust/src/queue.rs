@@ -96,7 +96,7 @@ impl<T: Send> Queue<T> {
     /// `NoRoom`, `Again`, `Worn`. The value is returned with the error.
     pub fn try_put_box(&mut self, boxed: Box<T>) -> Result<(), (Box<T>, Error)> {
         let at = Box::into_raw(boxed);
-        match self.hand.put(&[at], true) {
+        match self.hand.put_one(at) {
             Ok(_) => Ok(()),
             // It isn't on the ring.
             Err(error) => Err((value(at), error)),
@@ -118,8 +118,8 @@ impl<T: Send> Queue<T> {
     ///
     /// `NoRoom` if there is none, `Again`, `Worn`.
     pub fn try_take_box(&mut self) -> Result<Box<T>, Error> {
-        let mut at = [core::ptr::null_mut()];
-        self.hand.take(&mut at, true).map(|_| value(at[0]))
+        let mut at = core::ptr::null_mut();
+        self.hand.take_one(&mut at).map(|_| value(at))
     }
 
     /// How many values are queued. Others may have put or taken some since.

@@ -42,6 +42,15 @@ macro_rules! puts {
             self.hand.put(words, false)
         }
 
+        /// Puts a word: as `try_put_bulk` with a slice of one, in less time.
+        ///
+        /// # Errors
+        ///
+        /// Those of `try_put_bulk` but `Count`. After `Pending`, `finish_put` with this word alone puts it.
+        pub fn try_put_one(&mut self, word: T) -> Result<(), Error> {
+            self.hand.put_one(word).map(drop)
+        }
+
         /// Finishes a put that returned `Pending`, with the same words. Returns how many were put.
         ///
         /// # Errors
@@ -82,6 +91,16 @@ macro_rules! takes {
         /// Those of `try_take_bulk`.
         pub fn try_take_burst(&mut self, words: &mut [T]) -> Result<usize, Error> {
             self.hand.take(words, false)
+        }
+
+        /// Takes the oldest word: as `try_take_bulk` with a slice of one, in less time.
+        ///
+        /// # Errors
+        ///
+        /// Those of `try_take_bulk` but `Count`. At `Pending` the word is in its place already, and `finish_take` with
+        /// 1 takes it off the ring.
+        pub fn try_take_one(&mut self, word: &mut T) -> Result<(), Error> {
+            self.hand.take_one(word).map(drop)
         }
 
         /// Finishes a take that returned `Pending`, for a slice of `n` places. Returns how many words were taken.
@@ -254,7 +273,7 @@ impl<T: Word> Iterator for Taken<'_, T> {
             return None;
         }
         let mut word = 0;
-        let mut taken = self.hand.take_one(&mut word);
+        let mut taken = self.hand.take_bits(&mut word);
         while taken == Err(Error::Pending) {
             relax();
             taken = self.hand.finish_take(1);

@@ -5,7 +5,7 @@ use std::thread;
 #[test]
 fn pools_that_cannot_be() {
     assert_eq!(Pool::new(0, 8, 0).err(), Some(Error::Plan));
-    assert_eq!(Pool::new(65_537, 8, 0).err(), Some(Error::Plan));
+    assert_eq!(Pool::new(1 << 20, 8, 0).err(), Some(Error::Plan));
     assert_eq!(Pool::new(usize::MAX, 8, 0).err(), Some(Error::Plan));
     assert_eq!(Pool::new(8, 513, 0).err(), Some(Error::Plan));
     assert_eq!(Pool::new(8, 8, 64).err(), Some(Error::Plan));

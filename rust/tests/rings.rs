@@ -29,10 +29,10 @@ fn counts_and_plans_are_refused() -> Result<(), Error> {
     assert_eq!(Ring::<u64>::new(0).err(), Some(Error::Plan));
     assert_eq!(Ring::<u64>::new(1 << 20).err(), Some(Error::Plan));
     assert_eq!(Ring::<u64>::new(usize::MAX).err(), Some(Error::Plan));
-    let mut ring = Ring::<u64>::new(2000)?;
+    let mut ring = Ring::<u64>::new(6000)?;
     assert_eq!(ring.try_put_bulk(&[]), Err(Error::Count));
-    assert_eq!(ring.try_put_bulk(&[0; MOST + 1]), Err(Error::Count));
-    assert_eq!(ring.try_put_bulk(&[0; MOST]), Ok(MOST));
+    assert_eq!(ring.try_put_bulk(&vec![0; MOST + 1]), Err(Error::Count));
+    assert_eq!(ring.try_put_bulk(&vec![0; MOST]), Ok(MOST));
     assert_eq!(ring.finish_put(&[0]), Err(Error::NotOpen));
     assert_eq!(ring.finish_take(1), Err(Error::NotOpen));
     Ok(())
@@ -133,6 +133,20 @@ fn what_was_taken_ends_once() -> Result<(), Error> {
     producer.try_put_bulk(&[1])?;
     assert_eq!(taken.next(), None);
     assert_eq!(consumer.taken().next(), Some(1));
+    Ok(())
+}
+
+#[test]
+fn words_pass_one_by_one() -> Result<(), Error> {
+    for (put, take) in [(Mode::Multi, Mode::Multi), (Mode::Hts, Mode::Hts), (Mode::Multi, Mode::Hts)] {
+        let (mut producer, mut consumer) = Ring::with_modes(2, put, take)?.split()?;
+        let mut word = 9.5;
+        assert_eq!((consumer.try_take_one(&mut word), word), (Err(Error::NoRoom), 9.5));
+        assert_eq!((producer.try_put_one(1.5), producer.left()), (Ok(()), 1));
+        assert_eq!((producer.try_put_one(2.5), producer.try_put_one(3.5)), (Ok(()), Err(Error::NoRoom)));
+        assert_eq!((consumer.try_take_one(&mut word), word, consumer.left()), (Ok(()), 1.5, 1));
+        assert_eq!((consumer.try_take_one(&mut word), word), (Ok(()), 2.5));
+    }
     Ok(())
 }
 

@@ -1,8 +1,9 @@
 /* Rings and routes through the C library, by the names that yardsticks/calls.c and yardsticks/lpm.c print.
  *
  *   capi alone                        one thread puts words and takes them again: ns an item
- *   capi alone NAME TURNS             only these turns, to count their instructions; held-1: word by word, by ends that
- *                                     hold their sides, 64 puts and 64 takes in turn
+ *   capi alone NAME TURNS             only these turns, to count their instructions; multi-one, hts-one: a word by
+ *                                     value; held-1: word by word, by ends that hold their sides, 64 puts and 64 takes in
+ *                                     turn
  *   capi lookups                      lookups with 1,000 routes, one by one and in bursts of 32, in a table and by a reader
  *   capi publishes                    100 changes of 1,000 routes and their publish, beside three readers: us
  *   capi memory twice|whole           what 60,000 routes take in a forwarding table, which has two copies, and in a table
@@ -43,6 +44,13 @@ static __attribute__((noinline)) void turns(hk_hand *hand, uint64_t *words, size
 			exit(1);
 }
 
+/* The same word by word, each passed by value. */
+static __attribute__((noinline)) void one_turns(hk_hand *hand, uint64_t *words, unsigned long count)
+{
+	for (unsigned long i = 0; i < count; i++)
+		if (hk_ring_try_put_one(hand, 0, words[0]) != 1 || hk_ring_try_take_one(hand, 0, words) != 1) exit(1);
+}
+
 /* The same word by word, by ends that hold both sides: a burst of puts, and as many takes. */
 static __attribute__((noinline)) void held_turns(hk_end *put, hk_end *take, uint64_t *words, unsigned long count)
 {
@@ -69,6 +77,22 @@ static void held(uint64_t *words, int counted, unsigned long count)
 	hk_hand_free(hand), hk_hand_free(other);
 }
 
+/* One word a call, by value. */
+static void ones(const char *only, uint64_t *words, int hts, unsigned long count)
+{
+	const char *name = hts ? "hts-one" : "multi-one";
+	double ns;
+	if (only && strcmp(only, name)) return;
+	hk_hand *hand = ring_of(hts);
+	if (only) one_turns(hand, words, count);
+	else {
+		one_turns(hand, words, WARM);
+		TIMED(ns, CHUNK, one_turns(hand, words, CHUNK););
+		report(name, ns, "ns/item");
+	}
+	hk_hand_free(hand);
+}
+
 /* All names, each timed; or only one name, for `count` turns without a clock. */
 static void alone(const char *only, unsigned long count)
 {
@@ -76,6 +100,7 @@ static void alone(const char *only, unsigned long count)
 	uint64_t words[MOST];
 	for (unsigned i = 0; i < MOST; i++) words[i] = i + 1;
 	if (!only || strcmp(only, "held-1") == 0) held(words, only != NULL, count);
+	for (int hts = 0; hts < 2; hts++) ones(only, words, hts, count);
 	for (int hts = 0; hts < 2; hts++)
 		for (unsigned s = 0; s < sizeof sizes / sizeof *sizes; s++) {
 			size_t n = sizes[s];

@@ -1,6 +1,6 @@
-//! A ring of words through the Rust crate, beside crossbeam-queue's ArrayQueue: one thread, one word a call, and bursts
-//! of 32; and word by word by ends that hold their sides, 64 puts and 64 takes in turn, as then the queue, too. Prints
-//! lines `name value unit`, and the rounds are the caller's.
+//! A ring of words through the Rust crate, beside crossbeam-queue's ArrayQueue: one thread, one word a call, in a slice
+//! and by value, and bursts of 32; and word by word by ends that hold their sides, 64 puts and 64 takes in turn, as
+//! then the queue, too. Prints lines `name value unit`, and the rounds are the caller's.
 use crossbeam_queue::ArrayQueue;
 use hokhtura::{Mode, Ring};
 use std::hint::black_box;
@@ -35,6 +35,10 @@ fn main() -> Result<(), hokhtura::Error> {
     timed("one", 1, || {
         assert_eq!(ring.try_put_bulk(&word), Ok(1));
         assert_eq!(ring.try_take_bulk(&mut word), Ok(1));
+    });
+    timed("value", 1, || {
+        assert_eq!(ring.try_put_one(black_box(7)), Ok(()));
+        assert_eq!(ring.try_take_one(&mut word[0]), Ok(()));
     });
     let mut words = [0u64; 32];
     timed("burst", 32, || {

@@ -9,8 +9,10 @@ pub mod Emptying
 pub mod Filling
 pub mod Held
 pub mod Reserving
+mod HoldRows
 mod RingRows
 pub mod Settled
+pub mod Waiting
 pub mod Attempts
 pub mod PoolCalls
 pub mod Deals

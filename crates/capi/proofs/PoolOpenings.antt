@@ -5,13 +5,13 @@ use Rattle.std.specs.List.{flat_map, range_with_len}
 use Rattle.std.proofs.lemmas.Bool.Decides.{nat_tests}
 use Rattle.std.proofs.lemmas.List.{drop-take, length-drop, length-replicate, take-append-drop, take-take, take_min}
 use Rattle.geom.specs.declared.plan.RingPlan.{RingPlan}
-use Rattle.geom.specs.Extent.{Extent, IsExtent}
+use Rattle.geom.specs.Extent.{Extent, IsExtent, range_of}
 use Rattle.geom.specs.Fit.{Fits}
 use Rattle.ringcore_laws.proofs.Laws.{same_plan}
 use Rattle.ringcore_laws.specs.declared.party.Settled.{Settled}
 use Rattle.burst.specs.Numbers.{times}
 use Rattle.fabric_laws.proofs.Openings.{in_range, not_in_range}
-use Rattle.fabric.specs.Making.{AreTagged, MayStand}
+use Rattle.fabric.specs.Making.{AreTagged, WordsMayStand}
 use Rattle.fabric.specs.Owned.{one_if}
 use Rattle.capi.specs.PoolOpenings.{ArePut, HasPut}
 use Rattle.capi.specs.PoolMembers.{ArePoolRings, IsPoolRing, all_numbers, numbers_of}
@@ -24,10 +24,11 @@ none_some : {X : Type 0} {x : X} → None ≡ Some x → ⊥
 none_some e = cc
 
 -- all numbers fit into a ring of this capacity
-pub fits_all : (plan : RingPlan) (n : ℕ) {e : Extent} → plan.geometry ≡ e → IsExtent e → e.capacity ≡ n → Fits plan n
-fits_all plan n is extent all = record {
+pub fits_all : (plan : RingPlan) (n : ℕ) {e : Extent} → plan.geometry ≡ e → IsExtent e → e.capacity ≡ n → 1024 < range_of e → Fits plan n 1024
+fits_all plan n is extent all counts = record {
   extent = subst IsExtent (sym is) extent;
   free_rings = λ free. omega (arith, all, ap (λ (x : Extent). x.capacity) is);
+  counts = λ side hts. subst (λ (x : Extent). 1024 < range_of x) (sym is) counts;
 }
 
 copied : (n ring : ℕ) (other plan : RingPlan) → slice_get (replicate n other) ring ≡ Some plan → plan ≡ other
@@ -59,15 +60,15 @@ module _ (first other : RingPlan) where
     first = λ plan at. subst (λ (p : RingPlan). p.free ≡ true) (front_plan n plan at) free;
   }
 
-  pub pool_stands : (n numbers : ℕ) → 0 < n → n ≤ 64 → numbers ≤ 65536 → Fits first numbers → Fits other numbers
-      → MayStand (slice_set (replicate n other) 0 first) numbers 1024
+  pub pool_stands : (n numbers : ℕ) → 0 < n → n ≤ 64 → numbers ≤ 1048575 → Fits first numbers 1024 → Fits other numbers 1024
+      → WordsMayStand (slice_set (replicate n other) 0 first) numbers 1024
   pool_stands n numbers some few low front behind = record {
     some_ring = omega (arith, some, long_plans n);
     few_rings = omega (arith, few, long_plans n);
     few_buffers = low;
     some_item = omega arith;
     few_items = omega arith;
-    free_rings = each_plan (λ p. Fits p numbers) front behind n;
+    free_rings = each_plan (λ p. Fits p numbers 1024) front behind n;
   }
 
 -- a span more of the numbers

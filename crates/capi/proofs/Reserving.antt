@@ -24,13 +24,13 @@ module _ (f : Rings) (how : How) (n ring : ℕ) (side : Side) (v : View Word64) 
   pub reserved_of : (span : Span) (left : ℕ) (shown : List Word64) (w : View Word64) → ring < length (rings_of f)
       → span.ring ≡ ring → span.side ≡ side
       → OnRing f ring (λ plan. Starts tags how n ring side plan v span.start span.count left shown w)
-      → OnRing f ring (λ plan. MayAsk tags 1024 n side plan v) → w.party ≡ with_open v.party span
+      → OnRing f ring (λ plan. MayAsk tags 4095 n side plan v) → w.party ≡ with_open v.party span
       → HasReserved f how n ring side v span left shown w
   reserved_of span left shown w there at on starts may opened =
       let p = ring_at (rings_of f) ring there in
       let plan = p.0 in
       let s = starts plan p.1 in
-      let room = room_by_look side plan.geometry.capacity (position_of (mode_of plan side) s.word) s.tail in
+      let room = room_by_look side plan.geometry.capacity (position_of plan.geometry (mode_of plan side) s.word) s.tail in
       record {
         started = starts;
         at = (at, on);

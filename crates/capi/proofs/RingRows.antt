@@ -58,11 +58,11 @@ no_mode : mode_asked 2 ≡ None
 no_mode = refl
 
 -- sizes: 8 slots of which one stays empty, for exactly 5 words, and what can't be
-eight_slots : extent_asked 0 8 ≡ Ok record { size = 8; capacity = 7 }
+eight_slots : extent_asked 0 8 ≡ Ok record { size = 8; capacity = 7; last = 17592186044415; count_bits = 20 }
 unfolding power_above
 eight_slots = refl
 
-five_words : extent_asked 1 5 ≡ Ok record { size = 8; capacity = 5 }
+five_words : extent_asked 1 5 ≡ Ok record { size = 8; capacity = 5; last = 17592186044415; count_bits = 20 }
 unfolding power_above
 five_words = refl
 
@@ -85,17 +85,54 @@ neither = refl
 
 -- plans: each field has its own number, and no ring is a free one
 abbrev ring : (size exact put take : ℕ) → Asked
-ring size exact put take = record { size = size; exact = exact; put = put; take = take }
+ring size exact put take = record { size = size; exact = exact; put = put; take = take; last = 0; reserved = 0 }
+
+abbrev ending : (put take last reserved : ℕ) → Asked
+ending put take last reserved = record { size = 8; exact = 0; put = put; take = take; last = last; reserved = reserved }
 
 many_to_one : plan_asked (ring 8 0 0 1)
-    ≡ Some record { geometry = record { size = 8; capacity = 7 }; put = Multi; take = Hts; free = false }
+    ≡ Some record {
+      geometry = record { size = 8; capacity = 7; last = 4503599627370495; count_bits = 12 };
+      put = Multi;
+      take = Hts;
+      free = false;
+    }
 unfolding power_above
 many_to_one = refl
 
 one_to_many : plan_asked (ring 5 1 1 0)
-    ≡ Some record { geometry = record { size = 8; capacity = 5 }; put = Hts; take = Multi; free = false }
+    ≡ Some record {
+      geometry = record { size = 8; capacity = 5; last = 4503599627370495; count_bits = 12 };
+      put = Hts;
+      take = Multi;
+      free = false;
+    }
 unfolding power_above
 one_to_many = refl
+
+-- positions: with two multi sides up to 2^63 - 1, or as far as was asked; not beyond what a word has room for
+many_to_many : plan_asked (ring 8 0 0 0)
+    ≡ Some record {
+      geometry = record { size = 8; capacity = 7; last = 9223372036854775807; count_bits = 1 };
+      put = Multi;
+      take = Multi;
+      free = false;
+    }
+unfolding power_above
+many_to_many = refl
+
+short : plan_asked (ending 1 1 99 0)
+    ≡ Some record { geometry = record { size = 8; capacity = 7; last = 99; count_bits = 12 }; put = Hts; take = Hts; free = false }
+unfolding power_above
+short = refl
+
+too_far : plan_asked (ending 1 1 4503599627370496 0) ≡ None
+unfolding power_above
+too_far = refl
+
+not_yet : plan_asked (ending 0 0 0 1) ≡ None
+unfolding power_above
+not_yet = refl
 
 bad_size : plan_asked (ring 5 0 0 0) ≡ None
 unfolding power_above
@@ -165,7 +202,7 @@ module _ (f : Rings) (how : How) (n ring : ℕ) (side : Side) (v : View Word64) 
   longer_than_asked : (span : Span) → n < span.count → HasReserved f how n ring side v span left shown w → ⊥
   longer_than_asked span more is = absurd (omega (arith, more, is.few))
 
-  too_many_for_a_call : (span : Span) → 1024 < n → HasReserved f how n ring side v span left shown w → ⊥
+  too_many_for_a_call : (span : Span) → 4095 < n → HasReserved f how n ring side v span left shown w → ⊥
   too_many_for_a_call span more is = absurd (omega (arith, more, is.most))
 
 -- settles that are none, and refusals that are none

@@ -91,7 +91,7 @@ module _ (f : Rings) (how : How) (n ring : ℕ) (v : View Word64) (side : Side) 
   reserved_in w h =
       reserved_of f how n ring side v (span_at side r) r.range.left w.shown w there h.at refl h.starts h.may h.party
 
-  pub few_in : (w : View Word64) → HasOpen tags f how n ring v side r w → (r.range.count ≤ n) × (n ≤ 1024)
+  pub few_in : (w : View Word64) → HasOpen tags f how n ring v side r w → (r.range.count ≤ n) × (n ≤ 4095)
   few_in w h = let is = reserved_in w h in (is.few, is.most)
 
   -- a whole call that was made, and one whose span stays open

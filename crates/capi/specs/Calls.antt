@@ -19,6 +19,10 @@ abbrev pub how_of : Bool → How
 how_of true = Bulk
 how_of false = Burst
 
+-- a word that is passed by value
+abbrev pub word_of : ℕ → Word64
+word_of bits = record { bits = bits }
+
 module _ (f : Rings) (how : How) (n ring : ℕ) (side : Side) (v : View Word64) where
   -- a span of the side was reserved and settled: of a take with the words that it showed
   pub record Moves (count left : ℕ) (shown words : List Word64) (w : View Word64) : Type 0 where

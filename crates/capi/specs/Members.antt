@@ -12,7 +12,7 @@ use Rattle.capi.specs.declared.rings.word64.Word64.{Word64}
 
 -- rings of words, of which each slot has a word or none
 abbrev pub Rings : Type 0
-Rings = Fabric Word64 1024 (Option Word64)
+Rings = Fabric Word64 4095 (Option Word64)
 
 -- no ring holds free buffers
 abbrev pub ArePlain : List RingPlan → Type 0
@@ -20,5 +20,5 @@ ArePlain plans = (ring : ℕ) (plan : RingPlan) → slice_get plans ring ≡ Som
 
 module _ {G : Ghosts Word64} {H : StoredGhosts (Option Word64) Word64} where
   -- the words of an open take are at the front
-  abbrev pub AreShown : HandInPlace Word64 1024 (Option Word64) G H → List Word64 → Type 0
+  abbrev pub AreShown : HandInPlace Word64 4095 (Option Word64) G H → List Word64 → Type 0
   AreShown h words = (r : Reserved) → h.span ≡ Take r → take r.range.count words ≡ (placed_view h).shown

@@ -3,7 +3,7 @@ use Rattle.std.specs.Prelude.{◌≡◌, ◌⊎◌, List, []}
 use Rattle.geom.specs.declared.plan.RingPlan.{RingPlan}
 use Rattle.fabric_laws.specs.Changes.{newborn}
 use Rattle.fabric_laws.specs.Rule.{all_parts}
-use Rattle.fabric.specs.Making.{MayStand}
+use Rattle.fabric.specs.Making.{WordsMayStand}
 use Rattle.fabric.specs.Hands.{rings_of}
 use Rattle.capi.specs.Plans.{AreAsked}
 use Rattle.capi.specs.RingCalls.{member_view}
@@ -20,5 +20,5 @@ pub record IsNewHand (asked : List Asked) (m : Member) : Type 0 where
 -- such rings can't be, or there was no memory
 abbrev pub RefusesRings : List Asked → Fault → Type 0
 RefusesRings asked why =
-    ((why ≡ fault.Plan) × ((plans : List RingPlan) → AreAsked asked plans → MayStand plans 0 1024 → ⊥))
+    ((why ≡ fault.Plan) × ((plans : List RingPlan) → AreAsked asked plans → WordsMayStand plans 0 4095 → ⊥))
     ⊎ (why ≡ fault.Memory)

@@ -35,12 +35,12 @@ module _ (f : Rings) (how : How) (n ring : ℕ) (side : Side) (v : View Word64) 
     pub party : w.party ≡ with_open v.party span
     pub some : 0 < span.count
     pub few : span.count ≤ n
-    pub most : n ≤ 1024
+    pub most : n ≤ 4095
     pub asked : IsAsked how n span.count
 
   -- it reserved none, for this reason
   pub record WasRefused (why : StartFault) (w : View Word64) : Type 0 where
-    pub found : OnRing f ring (λ plan. RefusesStart tags 1024 how n ring side plan v w why)
+    pub found : OnRing f ring (λ plan. RefusesStart tags 4095 how n ring side plan v w why)
     pub kept : IsKept v w
 
 -- the fault for a refused start

@@ -8,7 +8,7 @@ use reorder::{InsertFault, MAX_SIZE, Window};
 use std::alloc::Global;
 
 /// The largest number of words in one call.
-pub(crate) const MOST: usize = 1024;
+pub(crate) const MOST: usize = 4095;
 
 /// The fault for one of the window's own.
 fn fault(why: InsertFault) -> Fault

@@ -1,5 +1,7 @@
 //! The exports for puts, takes and looks at rings.
-ghost use Rattle.capi.specs.Calls.{how_of};
+ghost use Rattle.std.specs.Prelude.{[], ◌∷◌};
+ghost use Rattle.geom.specs.declared.plan.How.TheVariants.{Bulk};
+ghost use Rattle.capi.specs.Calls.{how_of, word_of};
 ghost use Rattle.capi.specs.Codes.{Answers};
 ghost use Rattle.capi.specs.HandCalls.{AtHand};
 ghost use Rattle.capi.specs.MemberCalls.{LooksAt, PutsWords, TakesWords};
@@ -8,7 +10,9 @@ ghost use Rattle.capi.specs.RingCalls.{room_side};
 use crate::handle::Handle;
 use crate::keeping::{borrow, with_object};
 use crate::object::Object;
-use crate::rings::{Fault, Word64, answer, how, look, put_words, side_of, take_words};
+use crate::rings::{
+    Fault, Word64, answer, how, look, put_word, put_words, side_of, take_word, take_words,
+};
 use std::alloc::Global;
 
 /// Puts words on a ring.
@@ -46,4 +50,26 @@ pub extern "C" fn hkx_ring_room(alloc: Global, h: &mut Handle, ring: usize, queu
     ensures { Answers result (AtHand h.old.value h.new.value (LooksAt ring (room_side queued))) }
 {
     with_object!(alloc, h, Hand(member) => look(member, ring, side_of(queued)))
+}
+
+/// Puts a word on a ring.
+#[unsafe(no_mangle)]
+pub extern "C" fn hkx_ring_put_one(alloc: Global, h: &mut Handle, ring: usize, bits: u64) -> i64
+    ensures { Answers result (AtHand h.old.value h.new.value (PutsWords ring Bulk (word_of bits ∷ []))) }
+{
+    with_object!(alloc, h, Hand(member) => put_word(member, ring, Word64 { bits }))
+}
+
+/// Takes a word from a ring.
+#[unsafe(no_mangle)]
+pub extern "C" fn hkx_ring_take_one(
+    alloc: Global,
+    h: &mut Handle,
+    ring: usize,
+    word: &mut Word64,
+) -> i64
+    ensures { Answers result
+        (AtHand h.old.value h.new.value (TakesWords ring Bulk (word.old ∷ []) (word.new ∷ []))) }
+{
+    with_object!(alloc, h, Hand(member) => take_word(member, ring, word))
 }

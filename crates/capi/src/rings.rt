@@ -1,9 +1,10 @@
 //! Rings of words as C calls them: a hand with its rings in one value, and the calls on it.
 //!
 //! `member` is a thread's hand on a set of rings, `opening` and `making` make it, `member_calls` splits it and looks at
-//! it, `closing` and `ending` close its rings. `whole_calls` puts and takes words in one call; `span_calls` peeks and
-//! finishes, through `peeking` and `finishing`; `holding` has the calls on a side that is held. Below these `starting`
-//! and `settling` are the two halves of a call. `word64` is a word, and `fault` what calls return.
+//! it, `closing` and `ending` close its rings. `reaching` finds the ring that a call is on. `whole_calls` puts and
+//! takes words in one call; `span_calls` peeks and finishes, through `peeking` and `finishing`; `holding` has the calls
+//! on a side that is held. Below these `starting` and `settling` are the two halves of a call. `word64` is a word, and
+//! `fault` what calls return.
 mod closing;
 mod ending;
 mod fault;
@@ -14,6 +15,7 @@ mod member;
 mod member_calls;
 mod opening;
 mod peeking;
+mod reaching;
 mod settling;
 mod span_calls;
 mod starting;
@@ -30,5 +32,5 @@ pub(crate) use member_calls::{clamped, look, side_of, split};
 pub(crate) use opening::Asked;
 pub(crate) use span_calls::{finish_put_of, finish_take_of, peek_put_of, peek_take_of};
 pub(crate) use starting::fault_of;
-pub(crate) use whole_calls::{how, put_words, take_words};
+pub(crate) use whole_calls::{how, put_word, put_words, take_word, take_words};
 pub(crate) use word64::Word64;

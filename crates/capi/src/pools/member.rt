@@ -20,7 +20,7 @@ pub(crate) const MOST_ASKED: usize = 1024;
 pub(crate) const MAX_CACHE: u32 = 512;
 
 /// The most numbers of a pool.
-pub(crate) const MAX_POOL: u32 = 65_536;
+pub(crate) const MAX_POOL: u32 = (1 << 20) - 1;
 
 /// The most rings that pass numbers on: a set of rings has 64, and one is the free ring.
 pub(crate) const MAX_RINGS: u32 = 63;

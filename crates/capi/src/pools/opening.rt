@@ -1,8 +1,8 @@
 //! New pools: all numbers are put on the free ring.
 ghost use Rattle.std.specs.Prelude.{◌≡◌, ◌+◌, ◌<◌, ◌≤◌, [], IfErr, IfOk, false, length, true};
-ghost use Rattle.geom.specs.Extent.{IsExtent};
+ghost use Rattle.geom.specs.Extent.{IsExtent, range_of};
 ghost use Rattle.fabric.specs.Hands.{IsHandOf, pool_of, rings_of, view};
-ghost use Rattle.fabric.specs.Making.{MayStand};
+ghost use Rattle.fabric.specs.Making.{WordsMayStand};
 ghost use Rattle.capi.specs.PoolOpenings.{ArePut, HasPut, IsNewPool, IsPoolSize, NoPoolSize, RefusesPool};
 ghost use Rattle.capi.specs.PoolMembers.{ArePoolRings, all_numbers};
 ghost use Rattle.capi.specs.declared.rings.fault.Fault.TheVariants as fault;
@@ -20,19 +20,26 @@ use std::sync::Arc;
 /// The most numbers of one put on the free ring.
 const BULK: usize = 1024;
 
-/// The most puts that a pool is filled by: of 65,536 numbers.
-const BULKS: usize = 64;
+/// The most puts that a pool is filled by: of 2^20 - 1 numbers.
+const BULKS: usize = 1024;
 
-/// The size of each ring: it takes all numbers.
+/// How many bits of a word are for the count of reserved positions: a request moves at most 1,024 numbers.
+const COUNT_BITS: u32 = 12;
+
+/// The size of each ring: it takes all numbers. Its positions go as far as its words have room for, 2^52 - 1.
 fn extent(n: u32) -> Geometry
     requires some { 0 < n }
     requires few { n ≤ MAX_POOL }
     ensures capacity { result.capacity ≡ n }
     ensures extent { IsExtent result }
+    ensures counts { 1024 < range_of result }
 {
-    match Geometry::exact(u64::from(n)) {
-        Ok(geometry) => geometry,
-        Err(_) => unreachable!(),
+    let Ok(geometry) = Geometry::exact(u64::from(n)) else {
+        unreachable!();
+    };
+    match geometry.with_positions(u64::MAX >> COUNT_BITS, COUNT_BITS) {
+        Some(geometry) => geometry,
+        None => unreachable!(),
     }
 }
 
@@ -41,7 +48,7 @@ fn plans(alloc: Global, n: u32, rings: usize) -> Result<Vec<RingPlan>, Fault>
     requires some { 0 < n }
     requires few { n ≤ MAX_POOL }
     requires rings { rings ≤ MAX_RINGS }
-    ensures made { IfOk result (λ made. ArePoolRings made.items × MayStand made.items n 1024) }
+    ensures made { IfOk result (λ made. ArePoolRings made.items × WordsMayStand made.items n 1024) }
     ensures many { IfOk result (λ made. length made.items ≡ rings + 1) }
     ensures refused { IfErr result (λ why. why ≡ fault.Memory) }
 {

@@ -22,7 +22,13 @@ pub fn close(member: Member) -> Result<Rest, (Member, Fault)>
         OpenSpan::Idle => (),
         _ => return Err((member, Fault::Open)),
     }
-    let Member { port, shown, left } = member;
+    let Member {
+        port,
+        shown,
+        left,
+        put_at,
+        take_at,
+    } = member;
     let Port { fabric, hand } = port;
     let rings = fabric.rings();
     match Arc::try_unwrap(fabric) {
@@ -32,7 +38,14 @@ pub fn close(member: Member) -> Result<Rest, (Member, Fault)>
         }),
         Err(fabric) => {
             let port = Port { fabric, hand };
-            Err((Member { port, shown, left }, Fault::Shared))
+            let member = Member {
+                port,
+                shown,
+                left,
+                put_at,
+                take_at,
+            };
+            Err((member, Fault::Shared))
         }
     }
 }

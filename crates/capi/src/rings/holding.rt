@@ -5,6 +5,7 @@ ghost use Rattle.capi.specs.Holding.{AdvancesPut, AdvancesTake, EndsHeld, HoldsT
 
 use crate::rings::fault::Fault;
 use crate::rings::member::Member;
+use crate::rings::reaching::reach;
 use crate::rings::starting::{fault_of, room_in};
 use crate::rings::word64::Word64;
 use fabric::{Front, OpenSpan, Words};
@@ -20,7 +21,9 @@ pub fn advance_put(member: &mut Member, words: &[Word64]) -> Result<u32, Fault>
         OpenSpan::Put(reserved) => reserved,
         _ => return Err(Fault::NotOpen),
     };
-    match member.port.fabric.mode(reserved.ring(), Side::Put) {
+    let port = &member.port;
+    reach(&port.fabric, &mut member.put_at, reserved.ring());
+    match member.put_at.mode(Side::Put) {
         Mode::Hts => (),
         Mode::Multi => return Err(Fault::Mode),
     }
@@ -29,10 +32,12 @@ pub fn advance_put(member: &mut Member, words: &[Word64]) -> Result<u32, Fault>
         return Err(Fault::Count);
     }
     let port = &mut member.port;
-    match port
-        .hand
-        .try_advance_put(&port.fabric, reserved, &mut Words { words })
-    {
+    match port.hand.try_advance_put_at(
+        &port.fabric,
+        &member.put_at,
+        reserved,
+        &mut Words { words },
+    ) {
         Ok(_rest) => Ok(count as u32),
         Err(_fault) => unreachable!(),
     }
@@ -82,6 +87,8 @@ pub fn advance_take(member: &mut Member, words: &mut [Word64]) -> Result<u32, Fa
     if count >= reserved.count() {
         return Err(Fault::Count);
     }
+    let port = &member.port;
+    reach(&port.fabric, &mut member.take_at, reserved.ring());
     let port = &mut member.port;
     let mut into = Front {
         words: &mut *words,
@@ -89,7 +96,7 @@ pub fn advance_take(member: &mut Member, words: &mut [Word64]) -> Result<u32, Fa
     };
     let _rest = port
         .hand
-        .advance_take(&port.fabric, reserved, count, &mut into);
+        .advance_take_at(&port.fabric, &member.take_at, reserved, count, &mut into);
     Ok(count as u32)
 }
 

@@ -3,7 +3,7 @@ ghost use Rattle.std.specs.Prelude.{◌≡◌, ◌⊎◌, [], IfErr, IfOk};
 ghost use Rattle.fabric_laws.specs.Changes.{newborn};
 ghost use Rattle.fabric_laws.specs.Rule.{all_parts};
 ghost use Rattle.fabric.specs.Hands.{IsHandOf, rings_of, view};
-ghost use Rattle.fabric.specs.Making.{MayStand};
+ghost use Rattle.fabric.specs.Making.{WordsMayStand};
 ghost use Rattle.capi.specs.Openings.{IsNewHand, RefusesRings};
 ghost use Rattle.capi.specs.declared.rings.fault.Fault.TheVariants as fault;
 
@@ -22,11 +22,11 @@ use std::sync::Arc;
 fn fabric_of(
     alloc: Global,
     plans: Vec<RingPlan>,
-) -> Result<Opened<Word64, 1024, Slot<Word64>>, Fault>
+) -> Result<Opened<Word64, 4095, Slot<Word64>>, Fault>
     ensures made { IfOk result (λ o. (rings_of o.fabric ≡ plans.items) × IsHandOf o.fabric o.hand
         × (view o.hand ≡ newborn plans.items 0 all_parts [])) }
     ensures refused { IfErr result
-        (λ why. ((why ≡ fault.Plan) × (MayStand plans.items 0 1024 → ⊥)) ⊎ (why ≡ fault.Memory)) }
+        (λ why. ((why ≡ fault.Plan) × (WordsMayStand plans.items 0 4095 → ⊥)) ⊎ (why ≡ fault.Memory)) }
 {
     match Fabric::of_words(alloc, plans, 0, Vec::new(alloc)) {
         Ok(opened) => Ok(opened),
@@ -53,11 +53,15 @@ pub fn open(alloc: Global, asked: &[Asked]) -> Result<Member, Fault>
         Ok(opened) => match Arc::new(alloc, opened.fabric) {
             Ok(fabric) => {
                 let hand = HandInPlace::of(opened.hand);
+                let put_at = fabric.place(0);
+                let take_at = put_at;
                 let port = Port { fabric, hand };
                 Ok(Member {
                     port,
                     shown,
                     left: 0,
+                    put_at,
+                    take_at,
                 })
             }
             Err(_) => Err(Fault::Memory),

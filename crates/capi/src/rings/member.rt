@@ -1,23 +1,24 @@
 //! One thread's hand on a set of rings, and what it has open between two calls.
 ghost use Rattle.capi.specs.Members.{ArePlain, AreShown};
 ghost use Rattle.fabric.specs.Hands.{rings_of};
+ghost use Rattle.fabric.specs.Places.{IsPlaceOf};
 
 use crate::rings::word64::Word64;
 use burst::Slot;
-use fabric::{Fabric, HandInPlace};
+use fabric::{Fabric, HandInPlace, Place};
 use ringapi::Port;
 
 /// The largest number of words in one call.
-pub const MOST: usize = 1024;
+pub const MOST: usize = 4095;
 
 /// Rings of words.
-pub(crate) type Rings = Fabric<Word64, 1024, Slot<Word64>>;
+pub(crate) type Rings = Fabric<Word64, 4095, Slot<Word64>>;
 
 /// A hand on them that stays in its member.
-pub(crate) type WordHand = HandInPlace<Word64, 1024, Slot<Word64>>;
+pub(crate) type WordHand = HandInPlace<Word64, 4095, Slot<Word64>>;
 
 /// A hand with its rings.
-pub(crate) type WordPort = Port<Word64, 1024, Slot<Word64>>;
+pub(crate) type WordPort = Port<Word64, 4095, Slot<Word64>>;
 
 /// A hand with its rings, and what its calls leave.
 #[derive(Drop)]
@@ -27,6 +28,11 @@ pub struct Member {
     pub shown: Box<[Word64; MOST]>,
     /// How many more positions were free, or words were queued, after the last call.
     pub left: u64,
+    /// The ring of the last put, and that of the last take: a call on the same ring needn't look it up.
+    pub put_at: Place,
+    pub take_at: Place,
     pub ghost plain: { ArePlain (rings_of port.fabric.value) },
     pub ghost shows: { AreShown port.hand shown.value },
+    pub ghost puts: { IsPlaceOf port.fabric.value put_at },
+    pub ghost takes: { IsPlaceOf port.fabric.value take_at },
 }

@@ -72,7 +72,14 @@ pub fn split(alloc: Global, member: Member) -> (Member, Result<Member, Fault>)
     let Ok(rings) = Arc::try_clone(&member.port.fabric) else {
         return (member, Err(Fault::Memory));
     };
-    let Member { port, shown, left } = member;
+    let Member {
+        port,
+        shown,
+        left,
+        put_at,
+        take_at,
+    } = member;
+    let (second_put, second_take) = (put_at, take_at);
     let Port { fabric, hand } = port;
     let (hand, other) = match hand.into_hand().split(alloc, &fabric) {
         Ok((hand, other)) => (hand, Ok(other)),
@@ -83,7 +90,13 @@ pub fn split(alloc: Global, member: Member) -> (Member, Result<Member, Fault>)
         fabric,
         hand: HandInPlace::of(hand),
     };
-    let member = Member { port, shown, left };
+    let member = Member {
+        port,
+        shown,
+        left,
+        put_at,
+        take_at,
+    };
     match other {
         Ok(other) => {
             let port = Port {
@@ -94,6 +107,8 @@ pub fn split(alloc: Global, member: Member) -> (Member, Result<Member, Fault>)
                 port,
                 shown: second,
                 left: 0,
+                put_at: second_put,
+                take_at: second_take,
             };
             (member, Ok(second))
         }

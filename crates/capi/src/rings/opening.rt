@@ -1,6 +1,6 @@
 //! The plans of rings that C asks for.
-ghost use Rattle.std.specs.Prelude.{◌≡◌, ◌≤◌, IfErr, IfOk, length};
-ghost use Rattle.capi.specs.Plans.{AreAsked, RefusesPlans, mode_asked, plan_asked};
+ghost use Rattle.std.specs.Prelude.{◌≡◌, ◌<◌, ◌≤◌, IfErr, IfOk, length};
+ghost use Rattle.capi.specs.Plans.{AreAsked, RefusesPlans, count_bits as bits_of, last_asked, mode_asked, plan_asked};
 
 use crate::rings::fault::Fault;
 use geom::{Geometry, Mode, RingPlan};
@@ -19,6 +19,33 @@ pub struct Asked {
     /// 0 multi, 1 head/tail sync.
     pub put: u32,
     pub take: u32,
+    /// The greatest position; 0 for the greatest that the modes allow.
+    pub last: u64,
+    /// 0: for later versions.
+    pub reserved: u64,
+}
+
+/// How many bits of a word are for the count of reserved positions. A multi side has no count; the count of a
+/// head/tail-sync side goes up to 4,095.
+fn count_bits(put: Mode, take: Mode) -> u32
+    ensures value { result ≡ bits_of put take }
+    ensures few { (0 < result) × (result ≤ 12) }
+{
+    match put {
+        Mode::Hts => 12,
+        Mode::Multi => match take {
+            Mode::Hts => 12,
+            Mode::Multi => 1,
+        },
+    }
+}
+
+/// The greatest position.
+fn last(asked: u64, bits: u32) -> u64
+    requires { bits < 64 }
+    ensures { result ≡ last_asked asked bits }
+{
+    if asked == 0 { u64::MAX >> bits } else { asked }
 }
 
 fn mode(number: u32) -> Option<Mode>
@@ -46,6 +73,11 @@ fn plan(asked: &Asked) -> Option<RingPlan>
     };
     let put = mode(asked.put)?;
     let take = mode(asked.take)?;
+    if asked.reserved != 0 {
+        return None;
+    }
+    let bits = count_bits(put, take);
+    let geometry = geometry.with_positions(last(asked.last, bits), bits)?;
     Some(RingPlan {
         geometry,
         put,

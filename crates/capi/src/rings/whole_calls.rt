@@ -1,15 +1,17 @@
 //! Whole puts and takes of a member, each tried once.
-ghost use Rattle.std.specs.Prelude.{◌≡◌};
+ghost use Rattle.std.specs.Prelude.{◌≡◌, [], ◌∷◌};
+ghost use Rattle.geom.specs.declared.plan.How.TheVariants.{Bulk};
 ghost use Rattle.capi.specs.Calls.{how_of};
 ghost use Rattle.capi.specs.MemberCalls.{PutsWords, TakesWords};
 
 use crate::rings::fault::Fault;
 use crate::rings::member::Member;
+use crate::rings::reaching::try_reach;
 use crate::rings::starting::{fault_of, keep, room_in};
 use crate::rings::word64::Word64;
-use fabric::Words;
+use fabric::{OpenSpan, WholeFault, Words};
 use geom::How;
-use ringapi::PortFault;
+use std::slice::from_mut;
 
 /// By bulk or by burst.
 pub fn how(bulk: bool) -> How
@@ -24,22 +26,31 @@ pub fn how(bulk: bool) -> How
 pub fn put_words(member: &mut Member, ring: usize, words: &[Word64], how: How) -> Result<u32, Fault>
     ensures { PutsWords ring how words.now member.old member.new result }
 {
-    match member.port.try_put(ring, &mut Words { words }, how) {
+    let port = &member.port;
+    if !try_reach(&port.fabric, &mut member.put_at, ring) {
+        return Err(Fault::Ring);
+    }
+    match member.port.span() {
+        OpenSpan::Idle => (),
+        _ => return Err(Fault::Open),
+    }
+    let port = &mut member.port;
+    match port
+        .hand
+        .try_put_at(&port.fabric, &member.put_at, &mut Words { words }, how)
+    {
         Ok(reserved) => {
             member.left = reserved.left();
             Ok(reserved.count() as u32)
         }
-        Err(PortFault::Start(why)) => {
+        Err(WholeFault::Start(why)) => {
             member.left = room_in(why);
             Err(fault_of(why))
         }
-        Err(PortFault::Settle(reserved, _fault)) => {
+        Err(WholeFault::Settle(reserved, _fault)) => {
             member.left = reserved.left();
             Err(Fault::Pending)
         }
-        Err(PortFault::NoRing) => Err(Fault::Ring),
-        Err(PortFault::Open) => Err(Fault::Open),
-        Err(PortFault::NotOpen) => unreachable!(),
     }
 }
 
@@ -54,23 +65,48 @@ pub fn take_words(
 ) -> Result<u32, Fault>
     ensures { TakesWords ring how words.old words.new member.old member.new result }
 {
-    match member.port.try_take(ring, words, how) {
+    let port = &member.port;
+    if !try_reach(&port.fabric, &mut member.take_at, ring) {
+        return Err(Fault::Ring);
+    }
+    match member.port.span() {
+        OpenSpan::Idle => (),
+        _ => return Err(Fault::Open),
+    }
+    let port = &mut member.port;
+    match port
+        .hand
+        .try_take_at(&port.fabric, &member.take_at, words, how)
+    {
         Ok(reserved) => {
             member.left = reserved.left();
             Ok(reserved.count() as u32)
         }
-        Err(PortFault::Start(why)) => {
+        Err(WholeFault::Start(why)) => {
             member.left = room_in(why);
             Err(fault_of(why))
         }
-        Err(PortFault::Settle(reserved, _fault)) => {
+        Err(WholeFault::Settle(reserved, _fault)) => {
             let count = reserved.count();
             keep(&mut member.shown, words, count);
             member.left = reserved.left();
             Err(Fault::Pending)
         }
-        Err(PortFault::NoRing) => Err(Fault::Ring),
-        Err(PortFault::Open) => Err(Fault::Open),
-        Err(PortFault::NotOpen) => unreachable!(),
     }
+}
+
+/// Puts a word on a ring: `put_words` by bulk with it alone.
+#[inline(always)]
+pub fn put_word(member: &mut Member, ring: usize, word: Word64) -> Result<u32, Fault>
+    ensures { PutsWords ring Bulk (word ∷ []) member.old member.new result }
+{
+    put_words(member, ring, &[word], How::Bulk)
+}
+
+/// Takes a word from a ring: `take_words` by bulk with one place.
+#[inline(always)]
+pub fn take_word(member: &mut Member, ring: usize, word: &mut Word64) -> Result<u32, Fault>
+    ensures { TakesWords ring Bulk (word.old ∷ []) (word.new ∷ []) member.old member.new result }
+{
+    take_words(member, ring, from_mut(word), How::Bulk)
 }

@@ -1,4 +1,4 @@
-use Rattle.std.proofs.Common.{◌≡◌, ◌∙◌, ◌≤◌, ◌++◌, ℕ, Ok, Err, ap, arith, length, refl, subst, sym}
+use Rattle.std.proofs.Common.{◌≡◌, ◌∙◌, ◌≤◌, ◌++◌, ℕ, Ok, Err, ap, length, refl, subst, sym}
 use Rattle.ringcore_laws.specs.Sound.{holds, occurrences_in}
 use Rattle.fabric.specs.Hands.{rings_of}
 use Rattle.fabric.specs.Settles.{AreOwnBuffers}
@@ -19,7 +19,7 @@ returns-in-Ok-clause-filled c =
     let before = c.args.into.now in
     let after = c.try_receive_bulk_into_slice.new.into in
     let reply = c.in-Ok.ensures.exact in
-    let fits : (b : ℕ) → occurrences_in numbers_of b (cache_of l) ≤ holds numbers_of b (view_of l).party = λ b. omega (arith, l.kept b) in
+    let fits : (b : ℕ) → occurrences_in numbers_of b (cache_of l) ≤ holds numbers_of b (view_of l).party = l.own in
     let own = received_own c.args.ring (length before) known.0 (hand_of l) (hand_of m) c.in-Ok.moved reply.0 (cache_of l)
     (held_once l.hand l.here) fits (reply.2 known.0 known.1) in
     let whole : after ≡ reply.0 = whole_shown reply.0 before after reply.1 own.0 in

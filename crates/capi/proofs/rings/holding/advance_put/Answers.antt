@@ -23,7 +23,7 @@ unreachable-requires c =
     let p = ring_at (rings_of f) r.ring there in
     let plain : p.0.free ≡ false = m.plain r.ring p.0 (sym (ap (λ (g : Rings). slice_get (rings_of g) r.ring) same) ∙ p.1) in
     let fewer : length words < r.range.count = search rules in
-    advances p.0 (length words) r.range.count words (placed_view m.port.hand) (placed_view c.try_advance_put.new.self) c.in-Err._fault plain fewer
+    advances p.0 (length words) r.range.count words (placed_view m.port.hand) (placed_view c.try_advance_put_at.new.self) c.in-Err._fault plain fewer
     (c.in-Err.ensures.refused.2 p.0 p.1)
 
 pub returns : goal.returns
@@ -32,7 +32,7 @@ returns c =
     let words = c.args.words.now in
     let r = c.in-Put.reserved in
     let rest = c.in-Ok._rest in
-    let w = placed_view c.try_advance_put.new.self in
+    let w = placed_view c.try_advance_put_at.new.self in
     let open_put : m.port.hand.span ≡ open_span.Put r = search rules in
     let done = c.in-Ok.ensures.done in
     let advanced : HasAdvanced (span_at Put r) words (placed_view m.port.hand) w (span_at Put rest) = record {

@@ -12,10 +12,10 @@ pub returns : goal.returns
 returns c =
     let m = c.args.member.now in
     let r = c.in-Held.reserved in
-    let rest = c.advance_take-rest.result in
+    let rest = c.advance_take_at-rest.result in
     let v = placed_view m.port.hand in
-    let w = placed_view c.advance_take-rest.new.self in
-    let done = c.advance_take-rest.ensures in
+    let w = placed_view c.advance_take_at-rest.new.self in
+    let done = c.advance_take_at-rest.ensures in
     let k = length c.args.words.now in
     let held : m.port.hand.span ≡ open_span.Held r = search rules in
     let long : length (take k v.shown) ≡ k = ap length (sym done.items) ∙ done.many in
