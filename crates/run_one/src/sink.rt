@@ -73,6 +73,8 @@ impl<J: Run, W: Write + Drop> Sink<J, W> {
     pub fn accept(&mut self, packet: Judged<J>) -> Result<(), Judged<J>>
         ensures free { IsOk result ↔ IsFree self.old.window packet.seq }
         ensures joined { OnOk result (self.new.window ≡ with_number self.old.window packet.seq packet) }
+        ensures back { IfErr result (λ back. back ≡ packet) }
+        ensures kept { OnErr result (self.new.window ≡ self.old.window) }
         ensures outputs { self.new.outputs ≡ self.old.outputs }
     {
         let seq = packet.seq;
@@ -85,6 +87,8 @@ impl<J: Run, W: Write + Drop> Sink<J, W> {
     /// Releases the next packet in sequence, if it has arrived: counts it, and writes it to its port if it is sent.
     pub fn give(&mut self) -> Option<Chain>
         ensures gone { LetsGo self.old.window self.new.window result }
+        ensures none { map.get self.old.window.held self.old.window.next ≡ None
+            → (result ≡ None) × (self.new.window ≡ self.old.window) }
         ensures length { vec_len self.new.outputs.writers ≡ vec_len self.old.outputs.writers }
     {
         // read for the proof: the number whose turn it is, before `pop` moves on

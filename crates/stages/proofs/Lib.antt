@@ -1,3 +1,5 @@
+pub mod Custody
+pub mod Keeping
 pub mod Settled
 pub mod Marks
 pub mod Rounds

@@ -13,22 +13,23 @@ use Rattle.stages.specs.Passing.{AreAsked, AreRings, settled_on}
 
 -- the rings: of free segments, of packets at which workers peek, and of packets after their verdict
 rings : AreRings (
-    record { geometry = record { size = 128; capacity = 112 }; put = Multi; take = Multi; free = true }
-    ∷ record { geometry = record { size = 1024; capacity = 512 }; put = Multi; take = Hts; free = false }
-    ∷ record { geometry = record { size = 1024; capacity = 512 }; put = Multi; take = Multi; free = false }
+    record { geometry = record { size = 128; capacity = 112; last = 17592186044415; count_bits = 20 }; put = Multi; take = Multi; free = true }
+    ∷ record { geometry = record { size = 1024; capacity = 512; last = 17592186044415; count_bits = 20 }; put = Multi; take = Hts; free = false }
+    ∷ record { geometry = record { size = 1024; capacity = 512; last = 17592186044415; count_bits = 20 }; put = Multi; take = Multi; free = false }
     ∷ [])
 rings = record {
   many = refl;
   free = (omega arith, λ plan there. ap (λ (p : RingPlan). p.free) (sym (same_Some _ plan there)));
   peeked = λ plan there. ap (λ (p : RingPlan). p.take) (sym (same_Some _ plan there));
+  unjudged = λ plan there. ap (λ (p : RingPlan). p.free) (sym (same_Some _ plan there));
   mixed = λ plan there. ap (λ (p : RingPlan). p.free) (sym (same_Some _ plan there));
 }
 
 -- and as they are planned, with 112 segments and room for 512 packets on each of the others
 asked : AreAsked 112 512 (
-    record { geometry = record { size = 128; capacity = 112 }; put = Multi; take = Multi; free = true }
-    ∷ record { geometry = record { size = 1024; capacity = 512 }; put = Multi; take = Hts; free = false }
-    ∷ record { geometry = record { size = 1024; capacity = 512 }; put = Multi; take = Multi; free = false }
+    record { geometry = record { size = 128; capacity = 112; last = 17592186044415; count_bits = 20 }; put = Multi; take = Multi; free = true }
+    ∷ record { geometry = record { size = 1024; capacity = 512; last = 17592186044415; count_bits = 20 }; put = Multi; take = Hts; free = false }
+    ∷ record { geometry = record { size = 1024; capacity = 512; last = 17592186044415; count_bits = 20 }; put = Multi; take = Multi; free = false }
     ∷ [])
 asked = refl
 

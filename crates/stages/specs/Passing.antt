@@ -11,11 +11,12 @@ use Rattle.ringcore_laws.specs.declared.party.Settled.{Settled}
 use Rattle.ringcore_laws.specs.Party.{is_on}
 
 -- The rings of a run: of segments not in use; of packets before their verdict, at which workers peek; and of packets
--- after it, with any number of segments
+-- after it; a packet has any number of segments
 pub record AreRings (plans : List RingPlan) : Type 0 where
   pub many : length plans ≡ 3
   pub free : IsFreeRing plans 0
   pub peeked : (plan : RingPlan) → slice_get plans 1 ≡ Some plan → plan.take ≡ Hts
+  pub unjudged : (plan : RingPlan) → slice_get plans 1 ≡ Some plan → plan.free ≡ false
   pub mixed : (plan : RingPlan) → slice_get plans 2 ≡ Some plan → plan.free ≡ false
 
 -- what a ring is planned with: its capacity, the modes of its sides, and whether it holds free segments

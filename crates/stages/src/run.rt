@@ -10,6 +10,7 @@ ghost use Rattle.run_one.specs.Failing.{HidesNoPort};
 ghost use Rattle.stages.specs.Passing.{AreRings};
 ghost use Rattle.run_one.specs.Ports.{AreOutputs, AreBeginnings};
 ghost use Rattle.run_one.specs.Tallies.{fates_of};
+ghost use Rattle.run_one.specs.Turns.{IsVacant};
 ghost use Rattle.stages.specs.Threads.{WhyEnded, WhyNoSummaryOfThreads};
 ghost use Rattle.run_one.specs.Whole.{IsRun, IsBegun, IsUntouched};
 ghost use Rattle.run_one.specs.declared.fault.RunFault.TheVariants.{Memory, Thread};
@@ -170,6 +171,7 @@ fn over_rings<
     settings: &Settings,
 ) -> (Sink<J, W>, ReaderOutcome<J, R>)
     requires at_most { workers ≤ 16 }
+    requires vacant { IsVacant sink.window }
     requires input { HasInput R.remaining reader J.input J.read_failures }
     requires settings { GoesBy settings.now J.room J.forwarding (length J.before) }
 {
@@ -209,6 +211,7 @@ fn run_stages<
     requires hand { IsHandOf f.now hand }
     requires rings { AreRings (rings_of f.now) }
     requires at_most { workers ≤ 16 }
+    requires vacant { IsVacant sink.window }
     requires input { HasInput R.remaining reader J.input J.read_failures }
     requires settings { GoesBy settings.now J.room J.forwarding (length J.before) }
 {
@@ -216,7 +219,7 @@ fn run_stages<
         thread::scope_env(),
         rt,
         move |scope| -> (Sink<J, W>, ReaderOutcome<J, R>)
-            requires { IsHandOf f.now hand × AreRings (rings_of f.now) × (workers ≤ 16)
+            requires { IsHandOf f.now hand × AreRings (rings_of f.now) × (workers ≤ 16) × IsVacant sink.window
                 × HasInput R.remaining reader J.input J.read_failures
                 × GoesBy settings.now J.room J.forwarding (length J.before) }
         {
@@ -360,6 +363,7 @@ fn call_off<J: Run, W: Write + Drop, T: Wait + Clock>(
     requires hand { IsHandOf f.now hand }
     requires rings { AreRings (rings_of f.now) }
     requires at_most { started ≤ 16 }
+    requires vacant { IsVacant sink.window }
 {
     let mut access = RingAccess::new(f, hand);
     let mut none = Burst::<RingItem<J>, SPAN>::new();

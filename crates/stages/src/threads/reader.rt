@@ -1,8 +1,10 @@
 //! The reader of a run in threads: it reads each record into free segments, and sends it to the workers.
-ghost use Rattle.std.specs.Prelude.{◌≡◌, ◌≤◌, ◌<◌, ◌⊎◌, ◌*◌, ◌-◌, max, length, IfOk, IfErr};
+ghost use Rattle.std.specs.Prelude.{◌≡◌, ◌≤◌, ◌<◌, ◌⊎◌, ◌*◌, ◌+◌, ◌-◌, max, ℕ, [], length, IfOk, IfErr};
 ghost use Rattle.mbuf.specs.Chain.{space_of};
 ghost use Rattle.run_one.specs.Begun.{GoesBy, HasInput};
+ghost use Rattle.stages.specs.Custody.{HoldsAll, HoldsFor, in_chain, in_items, in_numbers};
 ghost use Rattle.stages.specs.Feeding.{WhyUnfed};
+ghost use Rattle.stages.specs.Numbers.{item_numbers};
 
 use crate::stage_fault::StageFault;
 use crate::threads::idle::Idle;
@@ -10,7 +12,7 @@ use crate::threads::item::RingItem;
 use crate::threads::reader_outcome::ReaderOutcome;
 use crate::threads::ring_access::RingAccess;
 use crate::threads::rings::{FREE, INPUT, SPAN};
-use crate::threads::segments::link;
+use crate::threads::segments::{free_chain, link};
 use crate::threads::unused::Unused;
 use burst::Burst;
 use mbuf::Chain;
@@ -45,7 +47,12 @@ fn make_way<J: Run, T: Wait + Clock>(
     access: &mut RingAccess<'_, RingItem<J>>,
     batch: &mut Burst<RingItem<J>, SPAN>,
     idle: &Idle,
-) -> Result<(), StageFault> {
+) -> Result<(), StageFault>
+    requires yours { HoldsAll item_numbers access.old.hand (in_items batch.old) }
+    ensures kept { (others : ℕ → ℕ)
+        → HoldsAll item_numbers access.old.hand (λ b. in_items batch.old b + others b)
+        → HoldsAll item_numbers access.new.hand (λ b. in_items batch.new b + others b) }
+{
     if batch.is_empty() {
         idle.wait(rt);
         return Ok(());
@@ -53,33 +60,84 @@ fn make_way<J: Run, T: Wait + Clock>(
     access.send(rt, INPUT, batch)
 }
 
-/// Puts unused segments on the ring of free ones, if those in use are too few: at most `n`, for a record that takes
-/// `n`. Returns whether it put some.
-fn put_unused<J: Run, T: Wait + Clock>(
+/// Puts all segments of a list on the ring of free ones, after a test that they are single ones and the hand's own.
+fn free_tested<J: Run, T: Wait + Clock>(
     rt: &T,
     access: &mut RingAccess<'_, RingItem<J>>,
+    list: &mut Burst<RingItem<J>, SPAN>,
+) -> Result<(), StageFault>
+    ensures left { IfOk result (λ _. list.new ≡ []) }
+    ensures kept { (others : ℕ → ℕ)
+        → HoldsAll item_numbers access.old.hand (λ b. in_items list.old b + others b)
+        → HoldsAll item_numbers access.new.hand (λ b. in_items list.new b + others b) }
+    ensures none { HoldsAll item_numbers access.new.hand (λ _. 0) }
+{
+    if !access.may_send(FREE, list) {
+        return Err(StageFault::Window);
+    }
+    access.send(rt, FREE, list)
+}
+
+/// Puts an unused segment on the ring of free ones, and more of them, at most `n` together, as long as those in use are
+/// too few for a record that takes `each`. Before this it puts the packets that wait to be put together, and the
+/// segments that it has in stock: the test whether the hand may put the unused ones doesn't cover these.
+// not inlined: the list would be filled with zeros for each record
+#[inline(never)]
+fn put_with<J: Run, T: Wait + Clock>(
+    rt: &T,
+    access: &mut RingAccess<'_, RingItem<J>>,
+    batch: &mut Burst<RingItem<J>, SPAN>,
+    stock: &mut Burst<RingItem<J>, SPAN>,
     unused: &mut Unused<J>,
+    first: RingItem<J>,
     n: usize,
+    each: usize,
     short: bool,
-) -> Result<bool, StageFault>
-    requires at_most { n ≤ 64 }
+) -> Result<(), StageFault>
+    requires at_most { n ≤ 256 }
+    requires each { each ≤ 64 }
+    requires yours { HoldsFor access.old.hand batch.old stock.old }
+    ensures kept { HoldsFor access.new.hand batch.new stock.new }
 {
     let mut list = Burst::<RingItem<J>, SPAN>::new();
-    for _i in 0..n {
-        match unused.take(n, short) {
+    list.push(first);
+    for _i in 1..n {
+        match unused.take(each, short) {
             Some(segment) => list.push(segment),
             None => (),
         }
     }
-    if list.is_empty() {
+    access.send(rt, INPUT, batch)?;
+    free_tested(rt, access, stock)?;
+    free_tested(rt, access, &mut list)
+}
+
+/// Puts unused segments on the ring of free ones, if those in use are too few: at most `n`, for a record that takes
+/// `each`. Returns whether it put some.
+fn put_unused<J: Run, T: Wait + Clock>(
+    rt: &T,
+    access: &mut RingAccess<'_, RingItem<J>>,
+    batch: &mut Burst<RingItem<J>, SPAN>,
+    stock: &mut Burst<RingItem<J>, SPAN>,
+    unused: &mut Unused<J>,
+    n: usize,
+    each: usize,
+    short: bool,
+) -> Result<bool, StageFault>
+    requires at_most { n ≤ 256 }
+    requires each { each ≤ 64 }
+    requires yours { HoldsFor access.old.hand batch.old stock.old }
+    ensures kept { HoldsFor access.new.hand batch.new stock.new }
+{
+    let Some(first) = unused.take(each, short) else {
         return Ok(false);
-    }
-    access.send(rt, FREE, &mut list)?;
+    };
+    put_with(rt, access, batch, stock, unused, first, n, each, short)?;
     Ok(true)
 }
 
-/// One free segment, as soon as there is one: from those taken before, from at most `ahead` that are then taken from
-/// their ring together, or from those that are unused.
+/// One free segment, as soon as there is one: from those taken before, or from at most `ahead` that are then taken from
+/// their ring together; unused ones may be put there.
 fn obtain_one<J: Run, T: Wait + Clock>(
     rt: &T,
     access: &mut RingAccess<'_, RingItem<J>>,
@@ -87,20 +145,28 @@ fn obtain_one<J: Run, T: Wait + Clock>(
     stock: &mut Burst<RingItem<J>, SPAN>,
     unused: &mut Unused<J>,
     ahead: usize,
-) -> Result<Chain, StageFault> {
+) -> Result<Chain, StageFault>
+    requires at_most { ahead ≤ 256 }
+    requires yours { HoldsFor access.old.hand batch.old stock.old }
+    ensures kept { IfOk result (λ chain. HoldsAll item_numbers access.new.hand
+        (λ b. in_chain chain b + (in_items batch.new b + in_items stock.new b))) }
+    ensures still { HoldsFor access.new.hand batch.new stock.new }
+{
     let idle = Idle::new();
     for _ in rt.forever() {
         match stock.pop() {
-            Some(RingItem::Free(segment)) => return Ok(segment.chain),
-            Some(_) => return Err(StageFault::Window),
+            Some(item) => return free_chain(item),
             None => (),
         }
         access.receive(rt, FREE, ahead, stock)?;
-        if stock.is_empty() {
-            match unused.take(1, idle.is_long()) {
-                Some(segment) => stock.push(segment),
-                None => make_way(rt, access, batch, &idle)?,
-            }
+        if !stock.is_empty() {
+            continue;
+        }
+        // after a wait in vain only one
+        let short = idle.is_long();
+        let n = if short { 1 } else { ahead };
+        if !put_unused(rt, access, batch, stock, unused, n, 1, short)? {
+            make_way(rt, access, batch, &idle)?;
         }
     }
     unreachable!()
@@ -111,10 +177,15 @@ fn obtain_many<J: Run, T: Wait + Clock>(
     rt: &T,
     access: &mut RingAccess<'_, RingItem<J>>,
     batch: &mut Burst<RingItem<J>, SPAN>,
+    stock: &mut Burst<RingItem<J>, SPAN>,
     unused: &mut Unused<J>,
     n: usize,
 ) -> Result<Chain, StageFault>
     requires at_most { n ≤ 64 }
+    requires yours { HoldsFor access.old.hand batch.old stock.old }
+    ensures kept { IfOk result (λ chain. HoldsAll item_numbers access.new.hand
+        (λ b. in_chain chain b + (in_items batch.new b + in_items stock.new b))) }
+    ensures still { HoldsFor access.new.hand batch.new stock.new }
 {
     let idle = Idle::new();
     let mut got = Burst::<RingItem<J>, SPAN>::new();
@@ -123,7 +194,7 @@ fn obtain_many<J: Run, T: Wait + Clock>(
         if access.get(rt, n, &mut got)? {
             return link(&mut got).ok_or(StageFault::Window);
         }
-        if !put_unused(rt, access, unused, n, idle.is_long())? {
+        if !put_unused(rt, access, batch, stock, unused, n, n, idle.is_long())? {
             make_way(rt, access, batch, &idle)?;
         }
     }
@@ -142,14 +213,18 @@ fn obtain<J: Run, T: Wait + Clock>(
     captured: usize,
 ) -> Result<Chain, StageFault>
     requires fits { captured ≤ 64 * settings.now.room }
+    requires yours { HoldsFor access.old.hand batch.old stock.old }
     ensures space { IfOk result (λ chain. captured ≤ space_of chain) }
+    ensures kept { IfOk result (λ chain. HoldsAll item_numbers access.new.hand
+        (λ b. in_chain chain b + (in_items batch.new b + in_items stock.new b))) }
+    ensures still { HoldsFor access.new.hand batch.new stock.new }
 {
     let n = segments_of(captured, settings.room as usize);
     let found = if n == 1 {
         let ahead = (settings.cache as usize).max(1);
         obtain_one(rt, access, batch, stock, unused, ahead)
     } else {
-        obtain_many(rt, access, batch, unused, n)
+        obtain_many(rt, access, batch, stock, unused, n)
     };
     let chain = found?;
     if chain.space() < captured {
@@ -167,7 +242,12 @@ fn enqueue<J: Run, T: Wait + Clock>(
     packet: RingItem<J>,
 ) -> Result<(), StageFault>
     requires at_most { burst ≤ 64 }
-    ensures { IfOk result (λ _. length batch.new ≤ max 1 burst) }
+    requires yours { HoldsAll item_numbers access.old.hand (in_items batch.old) }
+    ensures short { IfOk result (λ _. length batch.new ≤ max 1 burst) }
+    ensures kept { (others : ℕ → ℕ)
+        → HoldsAll item_numbers access.old.hand
+        (λ b. in_numbers (item_numbers packet) b + (in_items batch.old b + others b))
+        → HoldsAll item_numbers access.new.hand (λ b. in_items batch.new b + others b) }
 {
     if batch.len() >= burst {
         access.send(rt, INPUT, batch)?;
@@ -187,7 +267,9 @@ fn read_all<J: Run, R: Read, T: Wait + Clock>(
 ) -> Result<InputTotals<J>, RunFault>
     requires input { HasInput R.remaining reader.old J.input J.read_failures }
     requires settings { GoesBy settings.now J.room J.forwarding (length J.before) }
+    requires yours { HoldsAll item_numbers access.old.hand (in_items batch.old) }
     ensures cause { IfErr result (WhyUnfed J.input reader.old reader.new) }
+    ensures kept { HoldsAll item_numbers access.new.hand (in_items batch.new) }
 {
     let room = settings.room as usize;
     let burst = settings.burst as usize;
@@ -227,6 +309,7 @@ pub(crate) fn dismiss<J: Run, T: Wait + Clock>(
     workers: usize,
 ) -> Result<(), StageFault>
     requires at_most { workers ≤ 16 }
+    requires yours { HoldsAll item_numbers access.old.hand (in_items batch.old) }
 {
     access.send(rt, INPUT, batch)?;
     for _i in 0..workers {

@@ -1,18 +1,23 @@
 //! A thread's access to the rings of a run: its hand, which is kept here between calls.
-ghost use Rattle.std.specs.Prelude.{◌≡◌, ◌<◌, ◌↔◌, ℕ, [], None, Some, IfOk, IfErr, true};
+ghost use Rattle.std.specs.Prelude.{◌≡◌, ◌<◌, ◌+◌, ◌↔◌, ℕ, [], None, Some, IfOk, IfErr, true};
 ghost use Rattle.std.specs.List.{flat_map};
 ghost use Rattle.std.specs.Option.{is_some};
 ghost use Rattle.burst.specs.Numbers.{AreDistinct};
 ghost use Rattle.fabric.specs.Hands.{IsHandOf, rings_of};
+ghost use Rattle.ringcore_laws.specs.FreeRings.{AreSingle};
+ghost use Rattle.ringcore_laws.specs.Sound.{occurrences_in};
 ghost use Rattle.stages.specs.Passing.{AreRings};
 ghost use Rattle.stages.specs.Access.{GivesUp, IsOf, TakesNone};
+ghost use Rattle.stages.specs.Custody.{HoldsAll};
 
 use crate::stage_fault::StageFault;
 use crate::threads::idle::Idle;
 use crate::threads::rings::{FREE, SPAN};
 use burst::{Burst, Tagged};
 use fabric::{Fabric, Hand, StartFault, Stored};
-use ringapi::{PutAnswer, Refusal, TakeAnswer, put_burst_from, take_bulk_into, take_burst_into};
+use ringapi::{
+    PutAnswer, Refusal, TakeAnswer, put_own_burst_from, take_bulk_into, take_burst_into,
+};
 use std::sync::Wait;
 use std::time::Clock;
 
@@ -81,6 +86,8 @@ impl<'f, T: Tagged, S: Stored<T>> RingAccess<'f, T, S> {
     ) -> Result<bool, StageFault>
         requires empty { into.old ≡ [] }
         ensures apart { AreDistinct (flat_map T.numbers into.new) }
+        ensures kept { (others : ℕ → ℕ) → HoldsAll T.numbers self.old.hand others
+            → HoldsAll T.numbers self.new.hand (λ b. occurrences_in T.numbers b into.new + others b) }
     {
         let hand = take_hand(&mut self.hand);
         match take_bulk_into(rt, self.fabric, hand, FREE, n, into) {
@@ -97,8 +104,23 @@ impl<'f, T: Tagged, S: Stored<T>> RingAccess<'f, T, S> {
         }
     }
 
-    /// Puts all packets of a list on a ring, as room becomes available. Errors: they aren't this hand's, or the ring is
-    /// worn.
+    /// Whether the hand may put all packets of a list on a ring: each carries buffers that it holds, and no two of them
+    /// the same one.
+    pub(crate) fn may_send(&mut self, ring: usize, list: &Burst<T, SPAN>) -> bool
+        requires ring { ring < 3 }
+        ensures yours { result ≡ true → HoldsAll T.numbers self.new.hand (λ b. occurrences_in T.numbers b list.now) }
+        ensures single { result ≡ true → ring ≡ 0 → AreSingle T.numbers list.now }
+        ensures kept { (others : ℕ → ℕ) → HoldsAll T.numbers self.old.hand others
+            → HoldsAll T.numbers self.new.hand others }
+    {
+        let mut hand = take_hand(&mut self.hand);
+        let may = hand.may_put(self.fabric, ring, list);
+        self.hand = Some(hand);
+        may
+    }
+
+    /// Puts all packets of a list on a ring, as room becomes available. Requires: the hand may put them. Errors: the
+    /// ring is worn.
     pub(crate) fn send<R: Wait + Clock>(
         &mut self,
         rt: &R,
@@ -106,7 +128,12 @@ impl<'f, T: Tagged, S: Stored<T>> RingAccess<'f, T, S> {
         list: &mut Burst<T, SPAN>,
     ) -> Result<(), StageFault>
         requires ring { ring < 3 }
+        requires yours { HoldsAll T.numbers self.old.hand (λ b. occurrences_in T.numbers b list.old) }
+        requires single { ring ≡ 0 → AreSingle T.numbers list.old }
         ensures left { IfOk result (λ _. list.new ≡ []) }
+        ensures kept { (others : ℕ → ℕ)
+            → HoldsAll T.numbers self.old.hand (λ b. occurrences_in T.numbers b list.old + others b)
+            → HoldsAll T.numbers self.new.hand (λ b. occurrences_in T.numbers b list.new + others b) }
         ensures exact { IfErr result (λ e. GivesUp T.numbers self.new.fabric.now ring self.new.hand list.new e) }
     {
         let idle = Idle::new();
@@ -115,7 +142,7 @@ impl<'f, T: Tagged, S: Stored<T>> RingAccess<'f, T, S> {
                 return Ok(());
             }
             let hand = take_hand(&mut self.hand);
-            match put_burst_from(rt, self.fabric, hand, ring, list) {
+            match put_own_burst_from(rt, self.fabric, hand, ring, list) {
                 PutAnswer::Done(hand, _) => self.hand = Some(hand),
                 PutAnswer::Refused(hand, refusal) => {
                     self.hand = Some(hand);
@@ -140,6 +167,8 @@ impl<'f, T: Tagged, S: Stored<T>> RingAccess<'f, T, S> {
     ) -> Result<(), StageFault>
         requires ring { ring < 3 }
         requires empty { into.old ≡ [] }
+        ensures kept { (others : ℕ → ℕ) → HoldsAll T.numbers self.old.hand others
+            → HoldsAll T.numbers self.new.hand (λ b. occurrences_in T.numbers b into.new + others b) }
         ensures exact { IfErr result (λ e. TakesNone T.numbers self.new.fabric.now ring n self.new.hand into.new e) }
     {
         let hand = take_hand(&mut self.hand);

@@ -1,7 +1,10 @@
 //! Segments not in use: linking them to a chain, and taking them off one.
-ghost use Rattle.std.specs.Prelude.{◌≡◌, length};
+ghost use Rattle.std.specs.Prelude.{◌≡◌, ◌+◌, ℕ, IfOk, IfSome, [], length};
 ghost use Rattle.std.specs.List.{flat_map};
 ghost use Rattle.burst.specs.Numbers.{AreDistinct};
+ghost use Rattle.mbuf.specs.Chain.{numbers_of};
+ghost use Rattle.ringcore_laws.specs.FreeRings.{AreSingle};
+ghost use Rattle.stages.specs.Custody.{HoldsAll, in_chain, in_items};
 ghost use Rattle.stages.specs.Numbers.{item_numbers};
 
 use crate::stage_fault::StageFault;
@@ -14,9 +17,20 @@ use stages_laws::Run;
 use std::sync::Wait;
 use std::time::Clock;
 
+/// The chain of a free segment. Errors: `Window`, if the item isn't one.
+pub(crate) fn free_chain<J: Run>(item: RingItem<J>) -> Result<Chain, StageFault>
+    ensures same { IfOk result (λ chain. numbers_of chain ≡ item_numbers item) }
+{
+    match item {
+        RingItem::Free(segment) => Ok(segment.chain),
+        _ => Err(StageFault::Window),
+    }
+}
+
 /// Links free segments, from the first on, to one chain. `None` if there are none, or one of them isn't free.
 pub(crate) fn link<J: Run>(got: &mut Burst<RingItem<J>, SPAN>) -> Option<Chain>
     requires apart { AreDistinct (flat_map item_numbers got.old) }
+    ensures same { IfSome result (λ chain. (b : ℕ) → in_chain chain b ≡ in_items got.old b) }
 {
     let Some(RingItem::Free(last)) = got.pop() else {
         return None;
@@ -43,7 +57,14 @@ pub(crate) fn release<J: Run, R: Wait + Clock>(
     access: &mut RingAccess<'_, RingItem<J>>,
     chain: Chain,
     free: &mut Burst<RingItem<J>, SPAN>,
-) -> Result<(), StageFault> {
+) -> Result<(), StageFault>
+    requires yours { HoldsAll item_numbers access.old.hand (λ b. in_items free.old b + in_chain chain b) }
+    requires single { AreSingle item_numbers free.old }
+    ensures single { AreSingle item_numbers free.new }
+    ensures kept { (others : ℕ → ℕ)
+        → HoldsAll item_numbers access.old.hand (λ b. in_items free.old b + (in_chain chain b + others b))
+        → HoldsAll item_numbers access.new.hand (λ b. in_items free.new b + others b) }
+{
     let mut rest = Some(chain);
     while let Some(chain) = rest {
         let (segment, others) = chain.take_first();
@@ -62,7 +83,12 @@ pub(crate) fn give_back<J: Run, R: Wait + Clock>(
     access: &mut RingAccess<'_, RingItem<J>>,
     free: &mut Burst<RingItem<J>, SPAN>,
 ) -> Result<(), StageFault>
-    ensures { length free.new ≡ 0 }
+    requires yours { HoldsAll item_numbers access.old.hand (in_items free.old) }
+    requires single { AreSingle item_numbers free.old }
+    ensures none { free.new ≡ [] }
+    ensures kept { (others : ℕ → ℕ)
+        → HoldsAll item_numbers access.old.hand (λ b. in_items free.old b + others b)
+        → HoldsAll item_numbers access.new.hand others }
 {
     let given = access.send(rt, FREE, free);
     free.clear();

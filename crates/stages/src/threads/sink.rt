@@ -1,5 +1,9 @@
 //! The sink of a run in threads: it empties the output ring until each worker has ended.
-ghost use Rattle.std.specs.Prelude.{◌≡◌, ◌≤◌, vec_len};
+ghost use Rattle.std.specs.Prelude.{◌≡◌, ◌≤◌, ◌+◌, ℕ, vec_len};
+ghost use Rattle.ringcore_laws.specs.FreeRings.{AreSingle};
+ghost use Rattle.run_one.specs.Turns.{IsVacant};
+ghost use Rattle.stages.specs.Custody.{HoldsOf, in_chain, in_items, in_numbers};
+ghost use Rattle.stages.specs.Numbers.{item_numbers};
 
 use crate::stage_fault::StageFault;
 use crate::threads::idle::Idle;
@@ -21,6 +25,11 @@ fn let_go<J: Run, W: Write + Drop, T: Wait + Clock>(
     sink: &mut Sink<J, W>,
     free: &mut Burst<RingItem<J>, SPAN>,
 ) -> Result<(), StageFault>
+    requires yours { HoldsOf access.old.hand free.old sink.old.window (λ _. 0) }
+    requires single { AreSingle item_numbers free.old }
+    ensures single { AreSingle item_numbers free.new }
+    ensures kept { (others : ℕ → ℕ) → HoldsOf access.old.hand free.old sink.old.window others
+        → HoldsOf access.new.hand free.new sink.new.window others }
     ensures length { vec_len sink.new.outputs.writers ≡ vec_len sink.old.outputs.writers }
 {
     for _ in rt.forever() {
@@ -40,6 +49,12 @@ fn take_in<J: Run, W: Write + Drop, T: Wait + Clock>(
     packet: Judged<J>,
     free: &mut Burst<RingItem<J>, SPAN>,
 ) -> Result<(), StageFault>
+    requires yours { HoldsOf access.old.hand free.old sink.old.window (in_chain packet.chain) }
+    requires single { AreSingle item_numbers free.old }
+    ensures single { AreSingle item_numbers free.new }
+    ensures kept { (others : ℕ → ℕ)
+        → HoldsOf access.old.hand free.old sink.old.window (λ b. in_chain packet.chain b + others b)
+        → HoldsOf access.new.hand free.new sink.new.window others }
     ensures length { vec_len sink.new.outputs.writers ≡ vec_len sink.old.outputs.writers }
 {
     let early = match sink.pass(packet) {
@@ -66,6 +81,12 @@ fn handle<J: Run, W: Write + Drop, T: Wait + Clock>(
     item: RingItem<J>,
     free: &mut Burst<RingItem<J>, SPAN>,
 ) -> Result<bool, StageFault>
+    requires yours { HoldsOf access.old.hand free.old sink.old.window (in_numbers (item_numbers item)) }
+    requires single { AreSingle item_numbers free.old }
+    ensures single { AreSingle item_numbers free.new }
+    ensures kept { (others : ℕ → ℕ)
+        → HoldsOf access.old.hand free.old sink.old.window (λ b. in_numbers (item_numbers item) b + others b)
+        → HoldsOf access.new.hand free.new sink.new.window others }
     ensures length { vec_len sink.new.outputs.writers ≡ vec_len sink.old.outputs.writers }
 {
     match item {
@@ -113,6 +134,10 @@ fn handle_all<J: Run, W: Write + Drop, T: Wait + Clock>(
     items: &mut Burst<RingItem<J>, SPAN>,
     free: &mut Burst<RingItem<J>, SPAN>,
 ) -> (usize, Result<(), StageFault>)
+    requires yours { HoldsOf access.old.hand free.old sink.old.window (in_items items.old) }
+    requires single { AreSingle item_numbers free.old }
+    ensures single { AreSingle item_numbers free.new }
+    ensures kept { HoldsOf access.new.hand free.new sink.new.window (λ _. 0) }
     ensures marks { result.0 ≤ 256 }
     ensures length { vec_len sink.new.outputs.writers ≡ vec_len sink.old.outputs.writers }
 {
@@ -149,6 +174,7 @@ pub(crate) fn drain<J: Run, W: Write + Drop, T: Wait + Clock>(
     burst: usize,
 ) -> Result<(), StageFault>
     requires at_most { workers ≤ 16 }
+    requires vacant { IsVacant sink.old.window }
     ensures length { vec_len sink.new.outputs.writers ≡ vec_len sink.old.outputs.writers }
 {
     let mut items = Burst::<RingItem<J>, SPAN>::new();

@@ -8,6 +8,7 @@ scoped-requires g c = record {
       c.requires.hand,
       c.requires.rings,
       c.requires.at_most,
+      c.requires.vacant,
       c.requires.input,
       c.requires.settings,
     ),

@@ -1,6 +1,9 @@
-use Rattle.std.proofs.Common.{◌∙◌, ap, map}
+use Rattle.std.proofs.Common.{◌∙◌, ap, map, subst, sym}
+use Rattle.std.specs.FinMap.{get-empty}
+use Rattle.std.specs.Ordering.{nat_cmp}
 use Rattle.pcapio.specs.Counted.{told}
 use Rattle.run_one.specs.Ports.{devices_of}
+use Rattle.run_one.specs.Turns.{IsVacant}
 use Rattle.run_one.proofs.Known.{if_err}
 use Rattle.stages.proofs.Ended.{why_ended}
 use Rattle.run_one.proofs.Opened.{untold}
@@ -24,3 +27,6 @@ returns-clause-cause g c =
 
 pub end-devices-requires-clause-failed : goal.end-devices-requires-clause-failed
 end-devices-requires-clause-failed g c p is = absurd (c.over_rings-sink.result.1.unwritten p is)
+
+pub over_rings-sink-requires-clause-vacant : goal.over_rings-sink-requires-clause-vacant
+over_rings-sink-requires-clause-vacant g c lives within = subst IsVacant (sym c.in-Ok.ensures.window) (λ n high. get-empty nat_cmp n)

@@ -1,4 +1,8 @@
+use Rattle.stages.specs.Custody.{HoldsFor}
 use Rattle.stages.proofs.threads.reader.obtain_one.Given as goal
 
 abbrev pub invariant-loop : goal.invariant-loop
-invariant-loop g l = (goal.iterator-loop g).can_next l.iterator' × (goal.iterator-loop g).is_finite l.iterator'
+invariant-loop g l = record {
+  iterator : (goal.iterator-loop g).can_next l.iterator' × (goal.iterator-loop g).is_finite l.iterator';
+  yours : HoldsFor l.access.hand l.batch l.stock;
+}

@@ -1,5 +1,5 @@
 use Rattle.std.proofs.Common.{◌≤◌, length}
-use Rattle.stages.proofs.threads.reader.put_unused.Given as goal
+use Rattle.stages.proofs.threads.reader.put_with.Given as goal
 
 abbrev pub invariant-loop-i : goal.invariant-loop-i
 invariant-loop-i g l = length l.list ≤ l._i
