@@ -1,0 +1,3 @@
+mod Steps
+mod Rows
+mod Unsound
