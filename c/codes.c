@@ -17,7 +17,7 @@
     X(HK_E_MEMORY, "out of memory")                                           \
     X(HK_E_PLAN, "no such rings, pool, table, port or window can be made") \
     X(HK_E_WORN, "the positions of the ring are used up")                     \
-    X(HK_E_PARTS, "too many splits")                                          \
+    X(HK_E_PARTS, "too many handles")                                         \
     X(HK_E_NOTYOURS, "a number that the handle doesn't have, or given twice") \
     X(HK_E_DEPTH, "a depth that is not 1 to 32")                              \
     X(HK_E_HOP, "a next hop of 2^24 or more")                                 \

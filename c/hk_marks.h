@@ -22,6 +22,8 @@ enum hk_mark { HK_MARK_PUBLISH, HK_MARK_LET_GO, HK_MARK_END, HK_MARK_WORDS };
 
 #ifdef HK_MARKS
 
+#include <pthread.h>
+
 void __tsan_acquire(void *at);
 void __tsan_release(void *at);
 
@@ -41,6 +43,18 @@ static inline void gets(enum hk_mark mark) {
     __tsan_acquire(&hk_places[mark]);
 }
 
+/* A split passes on a hand, and its memory, that another thread's split may have made. Here they are made one at a time,
+ * so that their order is seen. */
+static pthread_mutex_t hk_splits = PTHREAD_MUTEX_INITIALIZER;
+
+static inline void begins_split(void) {
+    (void)pthread_mutex_lock(&hk_splits);
+}
+
+static inline void ends_split(void) {
+    (void)pthread_mutex_unlock(&hk_splits);
+}
+
 static inline void give_word(uint64_t word) {
     __tsan_release(hk_place(word));
 }
@@ -50,6 +64,10 @@ static inline void get_word(uint64_t word) {
 }
 
 #else
+
+static inline void begins_split(void) {}
+
+static inline void ends_split(void) {}
 
 static inline void gives(enum hk_mark mark) {
     (void)mark;

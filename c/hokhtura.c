@@ -108,7 +108,9 @@ int64_t hk_hand_open(hk_hand **out, const hk_ring_plan *plans, size_t count) {
 int64_t hk_hand_split(hk_hand *hand, hk_hand **out) {
     if (!out) return HK_E_NULL;
     struct hk_cell first = {hand}, second = {NULL};
+    begins_split();
     int64_t code = hkx_hand_split(&first, &second);
+    ends_split();
     if (code >= 0) *out = second.at;
     return code;
 }
@@ -372,7 +374,9 @@ int64_t hk_pool_open(hk_pool **out, uint32_t n, uint32_t cache, uint32_t rings) 
 int64_t hk_pool_split(hk_pool *pool, hk_pool **out) {
     if (!out) return HK_E_NULL;
     struct hk_cell first = {pool}, second = {NULL};
+    begins_split();
     int64_t code = hkx_pool_split(&first, &second);
+    ends_split();
     if (code >= 0) *out = second.at;
     return code;
 }

@@ -82,7 +82,7 @@ enum hk_code {
     HK_E_MEMORY = -13,  /* out of memory */
     HK_E_PLAN = -14,    /* no such rings, pool, table, port or window can be made */
     HK_E_WORN = -15,    /* as many words as the ring's plan allows were put */
-    HK_E_PARTS = -16,   /* too many splits lie between this hand and the first one (63 at most) */
+    HK_E_PARTS = -16,   /* as many handles were made as there can be on one set of rings or one pool, 2^62 */
     HK_E_NOTYOURS = -17, /* a number that this handle of the pool doesn't have, has cached, or that is given twice */
     HK_E_DEPTH = -20,   /* a depth that is not 1 to 32 */
     HK_E_HOP = -21,     /* a next hop of 2^24 or more */
@@ -149,8 +149,9 @@ typedef struct hk_hand hk_hand;
 
 /* [memory] Makes a set of `count` empty rings, and the first hand on it. HK_E_NULL, HK_E_PLAN, HK_E_MEMORY. */
 HK_API HK_CHECKED int64_t hk_hand_open(hk_hand **out, const hk_ring_plan *plans, size_t count);
-/* [memory] Makes another hand on the same rings, for another thread. HK_E_NULL, HK_E_KIND, HK_E_OPEN, HK_E_PARTS,
- * HK_E_MEMORY. */
+/* [memory] Makes another hand on the same rings, for another thread. 2^62 can be made, one after the other. HK_E_AGAIN:
+ * other threads were splitting hands of these rings each of the 1,024 times that the call tried. HK_E_NULL, HK_E_KIND,
+ * HK_E_OPEN, HK_E_AGAIN, HK_E_PARTS, HK_E_MEMORY. */
 HK_API HK_CHECKED int64_t hk_hand_split(hk_hand *hand, hk_hand **out);
 /* Frees a hand, and with the last one the rings; null is allowed. As each of the calls that free, it frees a handle of
  * another kind, too. A span that the hand has open stays reserved forever: no word of an open put comes out, and none
@@ -261,8 +262,8 @@ typedef struct hk_pool hk_pool;
  * all of them. HK_E_NULL, HK_E_PLAN, HK_E_MEMORY. */
 HK_API HK_CHECKED int64_t hk_pool_open(hk_pool **out, uint32_t n, uint32_t cache, uint32_t rings);
 /* [memory] Makes another handle on the same pool, for another thread. It has no numbers, and a cache of the same size.
- * HK_E_NULL, HK_E_KIND, HK_E_PARTS (one handle can be split 60 times, and a split of a split 30 levels deep),
- * HK_E_MEMORY. */
+ * The first split takes 62 times n bytes of memory, and each later one twice n bytes on average. HK_E_AGAIN: as of
+ * `hk_hand_split`. HK_E_NULL, HK_E_KIND, HK_E_AGAIN, HK_E_PARTS, HK_E_MEMORY. */
 HK_API HK_CHECKED int64_t hk_pool_split(hk_pool *pool, hk_pool **out);
 /* Frees a handle, and with the last one the pool; null is allowed. The numbers that the handle has, those in its cache
  * too, are lost to the other handles: put them back and flush first. */

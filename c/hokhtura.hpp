@@ -308,8 +308,8 @@ public:
         *this = std::move(made);
         return HK_OK;
     }
-    // Makes another handle on the same ring, for another thread. HK_E_NULL if this one is empty, HK_E_PARTS,
-    // HK_E_MEMORY.
+    // Makes another handle on the same ring, for another thread. HK_E_NULL if this one is empty, HK_E_AGAIN,
+    // HK_E_PARTS, HK_E_MEMORY.
     result split(ring &other) noexcept {
         ring made;
         if (auto code = hand_.split(made.hand_); !code) return code;

@@ -194,19 +194,6 @@ static void long_calls(void) {
     hk_hand_free(hand);
 }
 
-/* A hand can be split 63 times, one after the other. */
-static void splits(void) {
-    hk_hand *hands[64] = {NULL};
-    hk_ring_plan plan = {8, 0, HK_MULTI, HK_HTS, 0, 0};
-    IS(hk_hand_open(&hands[0], &plan, 1), HK_OK);
-    for (int i = 1; i < 64; i++) IS(hk_hand_split(hands[i - 1], &hands[i]), HK_OK);
-    hk_hand *none = NULL;
-    IS(hk_hand_split(hands[63], &none), HK_E_PARTS);
-    for (int i = 1; i < 64; i++) hk_hand_free(hands[i]);
-    IS(hk_ring_try_put_bulk(hands[0], 0, words, 1), 1);
-    hk_hand_free(hands[0]);
-}
-
 /* What another hand finds after a hand with an open put was freed: the side stays reserved, and the words that were put
  * before come out alone. */
 static void freed_while_putting(void) {
@@ -336,7 +323,6 @@ static void texts(void) {
 int main(void) {
     for (uint64_t i = 0; i <= HK_MOST; i++) words[i] = 100 + i;
     for (uint32_t pair = 0; pair < 4; pair++) rings(pair & 1, pair >> 1);
-    splits();
     freed_while_putting();
     freed_while_taking();
     long_calls();

@@ -169,19 +169,18 @@ static void passed(void) {
     hk_pool_free(second);
 }
 
-static void splits(void) {
-    hk_pool *pools[65] = {NULL};
-    IS(hk_pool_open(&pools[0], FEW, 0, 63), HK_OK);
-    int made = 1;
-    while (made < 65 && hk_pool_split(pools[made - 1], &pools[made]) == HK_OK) made++;
-    IS(made > 24 && made < 64, 1);
-    IS(hk_pool_split(pools[made - 1], &pools[made]), HK_E_PARTS);
-    IS(pools[made] == NULL, 1);
-    get_all(pools[made - 1], FEW, FEW);
-    IS(hk_pool_try_send_bulk(pools[made - 1], 62, got, FEW), FEW);
-    IS(hk_pool_try_receive_bulk(pools[0], 62, got, FEW), FEW);
-    IS(hk_pool_try_put_bulk(pools[0], got, FEW), FEW);
-    for (int i = 0; i < made; i++) hk_pool_free(pools[i]);
+/* A handle whose first one was freed, on the last ring. */
+static void others(void) {
+    hk_pool *first = NULL, *second = NULL, *third = NULL;
+    IS(hk_pool_open(&first, FEW, 0, 63), HK_OK), IS(hk_pool_split(first, &second), HK_OK);
+    hk_pool_free(first);
+    IS(hk_pool_split(second, &third), HK_OK);
+    get_all(third, FEW, FEW);
+    IS(hk_pool_try_send_bulk(third, 62, got, FEW), FEW);
+    hk_pool_free(third);
+    IS(hk_pool_try_receive_bulk(second, 62, got, FEW), FEW);
+    IS(hk_pool_try_put_bulk(second, got, FEW), FEW);
+    hk_pool_free(second);
 }
 
 static void kinds(void) {
@@ -218,7 +217,7 @@ int main(void) {
     orders();
     strangers();
     passed();
-    splits();
+    others();
     kinds();
     return hk_count_up("pools");
 }

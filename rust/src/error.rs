@@ -70,8 +70,8 @@ errors! {
     Plan = 14, "no such ring, pool, table, port or window can be made";
     /// The positions of the ring are used up.
     Worn = 15, "the positions of the ring are used up";
-    /// Too many splits lie between this handle and the first one.
-    Parts = 16, "too many splits";
+    /// As many handles were made as there can be, 2^62.
+    Parts = 16, "too many handles";
     /// A number that the pool's handle doesn't have, has in its cache, or that is given twice.
     NotYours = 17, "a number that the handle doesn't have, or given twice";
     /// A depth that is not 1 to 32.

@@ -50,7 +50,7 @@ impl Pool {
     ///
     /// # Errors
     ///
-    /// `Parts`, `Memory`.
+    /// `Memory`, `Again`, `Parts`.
     pub fn split(&mut self) -> Result<Self, Error> {
         let mut at = null_mut();
         answer(unsafe { ffi::hk_pool_split(self.0.as_ptr(), &raw mut at) })?;

@@ -75,7 +75,7 @@ impl<T: Send> Queue<T> {
     ///
     /// # Errors
     ///
-    /// `Memory`, `Parts`.
+    /// `Memory`, `Again`, `Parts`.
     pub fn try_clone(&mut self) -> Result<Self, Error> {
         Ok(Queue { hand: self.hand.split()?, rest: Arc::clone(&self.rest) })
     }

@@ -220,7 +220,7 @@ impl<T: Word> Ring<T> {
     ///
     /// # Errors
     ///
-    /// `Memory`, `Parts`, `Open`.
+    /// `Memory`, `Again`, `Parts`, `Open`.
     pub fn try_clone(&mut self) -> Result<Self, Error> {
         Ok(Ring { hand: self.hand.split()? })
     }
@@ -238,7 +238,7 @@ impl<T: Word> Producer<T> {
     ///
     /// # Errors
     ///
-    /// `Memory`, `Parts`, `Open`.
+    /// `Memory`, `Again`, `Parts`, `Open`.
     pub fn try_clone(&mut self) -> Result<Self, Error> {
         Ok(Producer { hand: self.hand.split()? })
     }
@@ -252,7 +252,7 @@ impl<T: Word> Consumer<T> {
     ///
     /// # Errors
     ///
-    /// `Memory`, `Parts`, `Open`.
+    /// `Memory`, `Again`, `Parts`, `Open`.
     pub fn try_clone(&mut self) -> Result<Self, Error> {
         Ok(Consumer { hand: self.hand.split()? })
     }

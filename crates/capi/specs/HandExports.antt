@@ -5,7 +5,6 @@ use Rattle.capi.specs.HandCalls.{HasHand, HasNoHand}
 use Rattle.capi.specs.Openings.{IsNewHand, RefusesRings}
 use Rattle.capi.specs.RingCalls.{LikeMember, RefusesSplit, Splits}
 use Rattle.capi.specs.declared.rings.fault.Fault.TheVariants as fault
-use Rattle.capi.specs.declared.rings.member.Member.{Member}
 use Rattle.capi.specs.declared.object.Object.{Object}
 use Rattle.capi.specs.declared.rings.opening.Asked.{Asked}
 

@@ -22,6 +22,6 @@ pub mod Rests
 pub mod PoolMembers
 pub mod Tries
 pub mod PoolCalls
-pub mod Splits
+pub mod Spare
 pub mod Same
 pub mod PoolOpenings

@@ -3,7 +3,8 @@ use Rattle.std.specs.Prelude.{◌≡◌, ℕ, ◌⊎◌, Option, None, Some, Ok,
 use Rattle.capi.specs.Codes.{Outcome}
 use Rattle.capi.specs.declared.rings.fault.Fault.{Fault}
 use Rattle.capi.specs.declared.rings.fault.Fault.TheVariants as fault
-use Rattle.capi.specs.PoolOpenings.{IsNewPool, IsSecond, LikePool, RefusesHalf, RefusesPool}
+use Rattle.capi.specs.PoolOpenings.{IsNewPool, IsSecond, RefusesPool}
+use Rattle.capi.specs.Spare.{RefusesSpare}
 use Rattle.capi.specs.declared.pools.member.PoolMember.{PoolMember}
 use Rattle.capi.specs.Handles.{At, Has, HasNone}
 use Rattle.capi.specs.declared.object.Object.{Object}
@@ -37,10 +38,9 @@ OpensPool (Err why) n size rings old new =
 -- a pool's handle was split
 abbrev pub SplitsPool : Outcome → Option Object → Option Object → Option Object → Type 0
 SplitsPool (Ok count) old new second =
-    (count ≡ 0) × HasPool old (λ p. HasPool new (LikePool p) × HasPool second (IsSecond p))
-SplitsPool (Err why) old new second = (second ≡ None)
-    × ((HasNoPool old why × (new ≡ old))
-    ⊎ HasPool old (λ p. HasPool new (LikePool p) × RefusesHalf why))
+    (count ≡ 0) × (new ≡ old) × HasPool old (λ p. HasPool second (IsSecond p))
+SplitsPool (Err why) old new second = (second ≡ None) × (new ≡ old)
+    × (HasNoPool old why ⊎ HasPool old (λ p. RefusesSpare why))
 
 abbrev pub SplitsPoolAt : Outcome → Option Object → Option Object → Option Object → Option Object → Type 0
 SplitsPoolAt (Ok count) old new second_old second_new =

@@ -45,12 +45,6 @@ NoPoolSize n size rings = (n ≡ 0) ⊎ ((MAX_POOL < n) ⊎ ((MAX_CACHE < size) 
 abbrev pub RefusesPool : ℕ → ℕ → ℕ → Fault → Type 0
 RefusesPool n size rings why = ((why ≡ fault.Plan) × NoPoolSize n size rings) ⊎ (why ≡ fault.Memory)
 
--- what a pool's handle has is as it was, but for what is kept for later splits
-pub record LikePool (p q : PoolMember) : Type 0 where
-  pub fabric : q.fabric ≡ p.fabric
-  pub cache : q.local ≡ p.local
-  pub rings : q.rings ≡ p.rings
-
 -- a second handle on the same rings, without a number, with a cache of the same size
 pub record IsSecond (p other : PoolMember) : Type 0 where
   pub fabric : other.fabric.value ≡ p.fabric.value
@@ -58,7 +52,3 @@ pub record IsSecond (p other : PoolMember) : Type 0 where
   pub size : cache_size other.local ≡ cache_size p.local
   pub empty : cache_of other.local ≡ []
   pub party : (view_of other.local).party ≡ newcomer []
-
--- why none was made: memory, or too many splits
-abbrev pub RefusesHalf : Fault → Type 0
-RefusesHalf why = (why ≡ fault.Memory) ⊎ (why ≡ fault.Parts)

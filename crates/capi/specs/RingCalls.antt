@@ -5,7 +5,6 @@ use Rattle.geom.specs.declared.plan.Side.{Side}
 use Rattle.geom.specs.declared.plan.Side.TheVariants.{Put, Take}
 use Rattle.geom.specs.Plan.{mode_of}
 use Rattle.ringcore_laws.specs.declared.protocol.Span.{Span}
-use Rattle.fabric_laws.specs.Changes.{kept, split_off}
 use Rattle.fabric.specs.Held.{span_at}
 use Rattle.fabric.specs.InPlace.{placed_view}
 use Rattle.fabric.specs.Starts.{FindsRoom}
@@ -15,9 +14,11 @@ use Rattle.fabric.specs.Hands.{OnRing, rings_of}
 use Rattle.fabric.specs.declared.hand.in_place.OpenSpan.{OpenSpan}
 use Rattle.fabric.specs.declared.hand.in_place.OpenSpan.TheVariants as open_span
 use Rattle.fabric.specs.declared.hand.in_place.OpenSpan.TheVariants.{Idle}
+use Rattle.ringapi.specs.Spares.{IsSameBut, IsUnused}
 use Rattle.capi.specs.Codes.{Outcome}
 use Rattle.capi.specs.Members.{Rings}
 use Rattle.capi.specs.Spans.{tags}
+use Rattle.capi.specs.Spare.{RefusesSpare}
 use Rattle.capi.specs.declared.rings.fault.Fault.{Fault}
 use Rattle.capi.specs.declared.rings.fault.Fault.TheVariants as fault
 use Rattle.capi.specs.declared.rings.member.Member.{Member}
@@ -73,10 +74,10 @@ OnHts ring side m outcome same does =
     × OnRing m.port.fabric.value ring (λ plan. mode_of plan side ≡ Multi))
     ⊎ ((ring < length (rings_of m.port.fabric.value)) × OnIdle m.port.hand.span outcome same (does (member_view m))))
 
--- what a member has of a set of rings is as it was
+-- what a member has of a set of rings is as it was, but for half of its parts, which may have become spare hands
 pub record LikeMember (m u : Member) : Type 0 where
   pub fabric : u.port.fabric ≡ m.port.fabric
-  pub view : member_view u ≡ member_view m
+  pub view : IsSameBut (member_view m) (member_view u)
   pub shown : u.shown.value ≡ m.shown.value
   pub left : u.left ≡ m.left
 
@@ -92,15 +93,13 @@ Looks f ring side v w (Ok count) = IsKept v w × (room : ℕ) × (count ≡ min 
 Looks f ring side v w (Err why) = (why ≡ fault.Again) × IsKept v w
     × (word : ℕ) × OnRing f ring (λ plan. FindsRoom tags ring side plan v w (Err word))
 
--- a hand was split in two: the first keeps what it has done, the second has done nothing
+-- another thread has a hand now: the first keeps what it has done, the second has done nothing
 pub record Splits (m u other : Member) : Type 0 where
-  pub fabric : u.port.fabric ≡ m.port.fabric
+  pub first : LikeMember m u
   pub same : other.port.fabric.value ≡ m.port.fabric.value
-  pub first : member_view u ≡ kept (member_view m)
-  pub second : member_view other ≡ split_off (member_view m)
+  pub second : IsUnused (member_view other)
 
 -- why a hand isn't split
 abbrev pub RefusesSplit : Member → Fault → Type 0
 RefusesSplit m why =
-    ((why ≡ fault.Open) × (IsSome (member_view m).party.span))
-    ⊎ ((why ≡ fault.Memory) ⊎ ((why ≡ fault.Parts) × ((member_view m).parts ≡ 1)))
+    ((why ≡ fault.Open) × (IsSome (member_view m).party.span)) ⊎ RefusesSpare why

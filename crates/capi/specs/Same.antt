@@ -10,7 +10,7 @@ use Rattle.capi.specs.declared.pools.member.PoolMember.{PoolMember}
 -- the rings are the same, and so is what the handle has for later splits
 pub record SamePool (p q : PoolMember) : Type 0 where
   pub fabric : q.fabric ≡ p.fabric
-  pub reserve : q.reserve ≡ p.reserve
+  pub spares : q.spares ≡ p.spares
   pub rings : q.rings ≡ p.rings
 
 -- a call on a ring of the pool: there is none of this number, or it does what it says

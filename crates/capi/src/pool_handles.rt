@@ -46,7 +46,7 @@ fn split_into(
 {
     match take_pool(slot) {
         Ok(pool) => {
-            let (pool, made) = split_pool(alloc, pool);
+            let made = split_pool(alloc, &pool);
             *slot = Some(Object::Pool(pool));
             match made {
                 Ok(other) => {

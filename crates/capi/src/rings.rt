@@ -1,10 +1,10 @@
 //! Rings of words as C calls them: a hand with its rings in one value, and the calls on it.
 //!
-//! `member` is a thread's hand on a set of rings, `opening` and `making` make it, `member_calls` splits it and looks at
-//! it, `closing` and `ending` close its rings. `reaching` finds the ring that a call is on. `whole_calls` puts and
-//! takes words in one call; `span_calls` peeks and finishes, through `peeking` and `finishing`; `holding` has the calls
-//! on a side that is held. Below these `starting` and `settling` are the two halves of a call. `word64` is a word, and
-//! `fault` what calls return.
+//! `member` is a thread's hand on a set of rings, `opening` and `making` make it, `splitting` makes one for another
+//! thread, `member_calls` looks at rings, `closing` and `ending` close them. `reaching` finds the ring that a call is
+//! on. `whole_calls` puts and takes words in one call; `span_calls` peeks and finishes, through `peeking` and
+//! `finishing`; `holding` has the calls on a side that is held. Below these `starting` and `settling` are the two halves
+//! of a call. `word64` is a word, and `fault` what calls return.
 mod closing;
 mod ending;
 mod fault;
@@ -18,6 +18,7 @@ mod peeking;
 mod reaching;
 mod settling;
 mod span_calls;
+mod splitting;
 mod starting;
 mod whole_calls;
 mod word64;
@@ -28,9 +29,10 @@ pub(crate) use fault::{Fault, answer};
 pub(crate) use holding::{advance_put, advance_take, hold_take, release_take};
 pub(crate) use making::open;
 pub(crate) use member::{MOST, Member};
-pub(crate) use member_calls::{clamped, look, side_of, split};
+pub(crate) use member_calls::{clamped, look, side_of};
 pub(crate) use opening::Asked;
 pub(crate) use span_calls::{finish_put_of, finish_take_of, peek_put_of, peek_take_of};
+pub(crate) use splitting::{spare_fault, split};
 pub(crate) use starting::fault_of;
 pub(crate) use whole_calls::{how, put_word, put_words, take_word, take_words};
 pub(crate) use word64::Word64;

@@ -16,6 +16,7 @@ mod port_calls;
 mod port_fault;
 mod put;
 mod slices;
+mod spares;
 mod take;
 mod unfinished;
 mod values;
@@ -36,6 +37,7 @@ pub use slices::{
     take_burst_slice, try_put_bulk_slice, try_put_burst_slice, try_take_bulk_slice,
     try_take_burst_slice,
 };
+pub use spares::{SpareFault, Spares};
 pub use take::take_into;
 pub use unfinished::is_transient;
 pub use values::{

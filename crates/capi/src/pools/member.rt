@@ -1,6 +1,6 @@
 //! One thread's way to a pool of numbers: a cache in front of the free ring, and the rings that pass numbers on.
 ghost use Rattle.std.specs.Prelude.{◌≡◌, ◌+◌, length};
-ghost use Rattle.fabric.specs.Hands.{IsHandOf, rings_of};
+ghost use Rattle.fabric.specs.Hands.{rings_of};
 ghost use Rattle.pool.specs.Locals.{ring_of};
 ghost use Rattle.capi.specs.PoolMembers.{ArePoolRings, SuitsCache};
 
@@ -8,6 +8,7 @@ use arrayvec::ArrayVec;
 use burst::{Slot, Tagged, Word};
 use fabric::{Fabric, Hand};
 use pool::LocalWords;
+use ringapi::Spares;
 use std::sync::Arc;
 
 /// The most numbers of one call.
@@ -30,6 +31,9 @@ pub(crate) type PoolRings = Fabric<Number, 1024, Slot<Number>>;
 
 /// A hand on them.
 pub(crate) type PoolHand = Hand<Number, Slot<Number>>;
+
+/// The hands of threads that come later: none of them has a number.
+pub(crate) type PoolSpares = Spares<Number, 1024, Slot<Number>>;
 
 /// A cache in front of the free ring.
 pub(crate) type PoolCache = LocalWords<Number, 1024, Slot<Number>>;
@@ -69,13 +73,12 @@ impl Word for Number {
 pub struct PoolMember {
     pub fabric: Arc<PoolRings>,
     pub local: PoolCache,
-    /// A hand without numbers: the hands of further handles are split off it, so that a split leaves the cache alone.
-    pub reserve: PoolHand,
+    pub spares: Arc<PoolSpares>,
     /// How many rings pass numbers on: those after the free ring.
     pub rings: usize,
     pub ghost plans: { ArePoolRings (rings_of fabric.value) },
     pub ghost many: { length (rings_of fabric.value) ≡ rings + 1 },
     pub ghost first: { ring_of local ≡ 0 },
     pub ghost suits: { SuitsCache fabric.value local },
-    pub ghost spare: { IsHandOf fabric.value reserve },
+    pub ghost spare: { spares.value.lock.key ≡ fabric.value },
 }

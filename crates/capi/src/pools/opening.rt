@@ -8,7 +8,7 @@ ghost use Rattle.capi.specs.PoolMembers.{ArePoolRings, all_numbers};
 ghost use Rattle.capi.specs.declared.rings.fault.Fault.TheVariants as fault;
 
 use crate::pools::member::{
-    MAX_CACHE, MAX_POOL, MAX_RINGS, Number, PoolCache, PoolHand, PoolMember, PoolRings,
+    MAX_CACHE, MAX_POOL, MAX_RINGS, Number, PoolCache, PoolHand, PoolMember, PoolRings, PoolSpares,
 };
 use crate::rings::Fault;
 use fabric::{Fabric, OpenFault, Opened};
@@ -118,7 +118,7 @@ fn fill(f: &PoolRings, hand: PoolHand, items: &[Number]) -> Result<PoolHand, Fau
     Ok(hand)
 }
 
-/// The first handle of a pool: all numbers are put on the free ring, and a hand is split off for later splits.
+/// The first handle of a pool: all numbers are put on the free ring, and half of the hand's parts become spare hands.
 fn stocked(
     alloc: Global,
     fabric: PoolRings,
@@ -141,14 +141,23 @@ fn stocked(
     let Ok(fabric) = Arc::new(alloc, fabric) else {
         return Err(Fault::Memory);
     };
-    let Ok((first, reserve)) = hand.split(alloc, &fabric) else {
+    let Ok(spares) = PoolSpares::new(alloc, &fabric) else {
+        return Err(Fault::Memory);
+    };
+    let Ok((first, spare)) = hand.split(alloc, &fabric) else {
+        return Err(Fault::Memory);
+    };
+    let Ok(()) = spares.add(&fabric, spare) else {
+        return Err(Fault::Memory);
+    };
+    let Ok(spares) = Arc::new(alloc, spares) else {
         return Err(Fault::Memory);
     };
     match PoolCache::new(alloc, first, 0, size) {
         Ok(local) => Ok(PoolMember {
             fabric,
             local,
-            reserve,
+            spares,
             rings,
         }),
         Err(_) => Err(Fault::Memory),

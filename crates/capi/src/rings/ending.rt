@@ -28,6 +28,7 @@ pub fn close(member: Member) -> Result<Rest, (Member, Fault)>
         left,
         put_at,
         take_at,
+        spares,
     } = member;
     let Port { fabric, hand } = port;
     let rings = fabric.rings();
@@ -44,6 +45,7 @@ pub fn close(member: Member) -> Result<Rest, (Member, Fault)>
                 left,
                 put_at,
                 take_at,
+                spares,
             };
             Err((member, Fault::Shared))
         }

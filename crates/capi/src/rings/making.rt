@@ -4,11 +4,13 @@ ghost use Rattle.fabric_laws.specs.Changes.{newborn};
 ghost use Rattle.fabric_laws.specs.Rule.{all_parts};
 ghost use Rattle.fabric.specs.Hands.{IsHandOf, rings_of, view};
 ghost use Rattle.fabric.specs.Making.{WordsMayStand};
+ghost use Rattle.capi.specs.Members.{ArePlain};
 ghost use Rattle.capi.specs.Openings.{IsNewHand, RefusesRings};
+ghost use Rattle.capi.specs.RingCalls.{member_view};
 ghost use Rattle.capi.specs.declared.rings.fault.Fault.TheVariants as fault;
 
 use crate::rings::fault::Fault;
-use crate::rings::member::{MOST, Member};
+use crate::rings::member::{MOST, Member, WordSpares};
 use crate::rings::opening::{Asked, MOST_RINGS, plans};
 use crate::rings::word64::Word64;
 use burst::Slot;
@@ -37,6 +39,41 @@ fn fabric_of(
     }
 }
 
+/// The first member of new rings.
+fn first_member(
+    alloc: Global,
+    opened: Opened<Word64, 4095, Slot<Word64>>,
+    shown: Box<[Word64; MOST]>,
+) -> Result<Member, Fault>
+    requires of { IsHandOf opened.fabric opened.hand }
+    requires plain { ArePlain (rings_of opened.fabric) }
+    ensures rings { IfOk result (λ m. m.port.fabric.value ≡ opened.fabric) }
+    ensures view { IfOk result (λ m. member_view m ≡ view opened.hand) }
+    ensures refused { IfErr result (λ why. why ≡ fault.Memory) }
+{
+    let Ok(spares) = WordSpares::new(alloc, &opened.fabric) else {
+        return Err(Fault::Memory);
+    };
+    let Ok(spares) = Arc::new(alloc, spares) else {
+        return Err(Fault::Memory);
+    };
+    let Ok(fabric) = Arc::new(alloc, opened.fabric) else {
+        return Err(Fault::Memory);
+    };
+    let hand = HandInPlace::of(opened.hand);
+    let put_at = fabric.place(0);
+    let take_at = put_at;
+    let port = Port { fabric, hand };
+    Ok(Member {
+        port,
+        shown,
+        left: 0,
+        put_at,
+        take_at,
+        spares,
+    })
+}
+
 /// Rings as C asked for them, all empty. Errors: `Plan`; `Memory`.
 pub fn open(alloc: Global, asked: &[Asked]) -> Result<Member, Fault>
     ensures made { IfOk result (λ m. IsNewHand asked.now m) }
@@ -50,22 +87,7 @@ pub fn open(alloc: Global, asked: &[Asked]) -> Result<Member, Fault>
         return Err(Fault::Memory);
     };
     match fabric_of(alloc, plans) {
-        Ok(opened) => match Arc::new(alloc, opened.fabric) {
-            Ok(fabric) => {
-                let hand = HandInPlace::of(opened.hand);
-                let put_at = fabric.place(0);
-                let take_at = put_at;
-                let port = Port { fabric, hand };
-                Ok(Member {
-                    port,
-                    shown,
-                    left: 0,
-                    put_at,
-                    take_at,
-                })
-            }
-            Err(_) => Err(Fault::Memory),
-        },
+        Ok(opened) => first_member(alloc, opened, shown),
         Err(why) => Err(why),
     }
 }

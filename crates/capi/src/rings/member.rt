@@ -1,4 +1,5 @@
 //! One thread's hand on a set of rings, and what it has open between two calls.
+ghost use Rattle.std.specs.Prelude.{◌≡◌};
 ghost use Rattle.capi.specs.Members.{ArePlain, AreShown};
 ghost use Rattle.fabric.specs.Hands.{rings_of};
 ghost use Rattle.fabric.specs.Places.{IsPlaceOf};
@@ -6,7 +7,8 @@ ghost use Rattle.fabric.specs.Places.{IsPlaceOf};
 use crate::rings::word64::Word64;
 use burst::Slot;
 use fabric::{Fabric, HandInPlace, Place};
-use ringapi::Port;
+use ringapi::{Port, Spares};
+use std::sync::Arc;
 
 /// The largest number of words in one call.
 pub const MOST: usize = 4095;
@@ -20,6 +22,9 @@ pub(crate) type WordHand = HandInPlace<Word64, 4095, Slot<Word64>>;
 /// A hand with its rings.
 pub(crate) type WordPort = Port<Word64, 4095, Slot<Word64>>;
 
+/// The hands of threads that come later.
+pub(crate) type WordSpares = Spares<Word64, 4095, Slot<Word64>>;
+
 /// A hand with its rings, and what its calls leave.
 #[derive(Drop)]
 pub struct Member {
@@ -31,8 +36,10 @@ pub struct Member {
     /// The ring of the last put, and that of the last take: a call on the same ring needn't look it up.
     pub put_at: Place,
     pub take_at: Place,
+    pub spares: Arc<WordSpares>,
     pub ghost plain: { ArePlain (rings_of port.fabric.value) },
     pub ghost shows: { AreShown port.hand shown.value },
     pub ghost puts: { IsPlaceOf port.fabric.value put_at },
     pub ghost takes: { IsPlaceOf port.fabric.value take_at },
+    pub ghost spare: { spares.value.lock.key ≡ port.fabric.value },
 }

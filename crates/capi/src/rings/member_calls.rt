@@ -1,19 +1,15 @@
-//! Looks at rings by a member, and splitting a member in two.
+//! Looks at rings by a member.
 ghost use Rattle.std.specs.Prelude.{◌≡◌, ◌<◌, ◌-◌, ◌^◌, IfErr, IfOk, length, min};
 ghost use Rattle.fabric.specs.Hands.{rings_of};
 ghost use Rattle.fabric.specs.InPlace.{IsPlacedOf, placed_view};
 ghost use Rattle.fabric.specs.declared.hand.in_place.OpenSpan.TheVariants as open_span;
 ghost use Rattle.capi.specs.MemberCalls.{LooksAt};
-ghost use Rattle.capi.specs.RingCalls.{LikeMember, Looks, RefusesSplit, Splits, room_side};
+ghost use Rattle.capi.specs.RingCalls.{Looks, room_side};
 
 use crate::rings::fault::Fault;
-use crate::rings::member::{MOST, Member, Rings, WordHand};
-use crate::rings::word64::Word64;
-use fabric::{HandInPlace, OpenSpan, SplitFault};
+use crate::rings::member::{Member, Rings, WordHand};
+use fabric::OpenSpan;
 use geom::Side;
-use ringapi::Port;
-use std::alloc::Global;
-use std::sync::Arc;
 
 /// A number as C gets it: at most the greatest of 32 bits.
 pub fn clamped(number: u64) -> u32
@@ -54,64 +50,5 @@ pub fn look(member: &mut Member, ring: usize, side: Side) -> Result<u32, Fault>
     match member.port.span() {
         OpenSpan::Idle => look_at(&member.port.fabric, &mut member.port.hand, ring, side),
         _ => Err(Fault::Open),
-    }
-}
-
-/// A second member on the same rings, for another thread. Errors: `Open`, `Memory`, `Parts`.
-pub fn split(alloc: Global, member: Member) -> (Member, Result<Member, Fault>)
-    ensures split { IfOk result.1 (λ other. Splits member result.0 other) }
-    ensures refused { IfErr result.1 (λ why. LikeMember member result.0 × RefusesSplit member why) }
-{
-    match member.port.span() {
-        OpenSpan::Idle => (),
-        _ => return (member, Err(Fault::Open)),
-    }
-    let Ok(second) = Box::new(alloc, [Word64 { bits: 0 }; MOST]) else {
-        return (member, Err(Fault::Memory));
-    };
-    let Ok(rings) = Arc::try_clone(&member.port.fabric) else {
-        return (member, Err(Fault::Memory));
-    };
-    let Member {
-        port,
-        shown,
-        left,
-        put_at,
-        take_at,
-    } = member;
-    let (second_put, second_take) = (put_at, take_at);
-    let Port { fabric, hand } = port;
-    let (hand, other) = match hand.into_hand().split(alloc, &fabric) {
-        Ok((hand, other)) => (hand, Ok(other)),
-        Err((hand, SplitFault::Memory)) => (hand, Err(Fault::Memory)),
-        Err((hand, SplitFault::TooMany)) => (hand, Err(Fault::Parts)),
-    };
-    let port = Port {
-        fabric,
-        hand: HandInPlace::of(hand),
-    };
-    let member = Member {
-        port,
-        shown,
-        left,
-        put_at,
-        take_at,
-    };
-    match other {
-        Ok(other) => {
-            let port = Port {
-                fabric: rings,
-                hand: HandInPlace::of(other),
-            };
-            let second = Member {
-                port,
-                shown: second,
-                left: 0,
-                put_at: second_put,
-                take_at: second_take,
-            };
-            (member, Ok(second))
-        }
-        Err(why) => (member, Err(why)),
     }
 }
