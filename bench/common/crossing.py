@@ -52,5 +52,5 @@ def together(ours, theirs, rounds, results=None, pinned=False):
                       flush=True)
                 if results:
                     title, beside = MODES[mode]
-                    results.add(f"{PARTIES[pairs]}, {n} words a call, {title}", here, "Mitem/s", beside, there,
+                    results.add(f"{PARTIES[pairs]}, {n} {'word' if n == 1 else 'words'} a call, {title}", here, "Mitem/s", beside, there,
                                 f"between threads, {title}")

@@ -1,4 +1,4 @@
-/* Whole calls of rte_ring, MP/MC and HTS, on a ring of 1,024 slots for 1,023 items.
+/* Whole calls of rte_ring, MP/MC, HTS and, one item a call, SP/SC, on a ring of 1,024 slots for 1,023 items.
  *
  *   calls.yardstick alone                        one thread puts items and takes them again: ns an item
  *   calls.yardstick threads MODE PAIRS N CALLS   PAIRS producers and as many consumers, each on a processor of its own,
@@ -17,11 +17,16 @@
 #define CHUNK 2000
 #define LAP 64
 
-static struct rte_ring *ring_of(int hts)
+enum mode { MULTI, HTS, SINGLE };
+
+static struct rte_ring *ring_of(enum mode mode)
 {
+	static const unsigned flags[] = {
+		[HTS] = RING_F_MP_HTS_ENQ | RING_F_MC_HTS_DEQ,
+		[SINGLE] = RING_F_SP_ENQ | RING_F_SC_DEQ,
+	};
 	struct rte_ring *ring = aligned_alloc(RTE_CACHE_LINE_SIZE, rte_ring_get_memsize(SLOTS));
-	unsigned flags = hts ? RING_F_MP_HTS_ENQ | RING_F_MC_HTS_DEQ : 0;
-	if (!ring || rte_ring_init(ring, "ring", SLOTS, flags)) exit(1);
+	if (!ring || rte_ring_init(ring, "ring", SLOTS, flags[mode])) exit(1);
 	return ring;
 }
 
@@ -43,13 +48,14 @@ static __attribute__((noinline)) void laps(struct rte_ring *ring, void **table, 
 	}
 }
 
-static void laps_alone(int hts, void **table)
+static void laps_alone(enum mode mode, void **table)
 {
-	struct rte_ring *ring = ring_of(hts);
+	static const char *const names[] = { "multi-laps", "hts-laps", "single-laps" };
+	struct rte_ring *ring = ring_of(mode);
 	double ns;
 	laps(ring, table, WARM);
 	TIMED(ns, CHUNK / LAP * LAP, laps(ring, table, CHUNK / LAP * LAP););
-	report(hts ? "hts-laps" : "multi-laps", ns, "ns/item");
+	report(names[mode], ns, "ns/item");
 	free(ring);
 }
 
@@ -58,7 +64,7 @@ static void alone(void)
 	static const unsigned sizes[] = { 1, 8, 32, 128 };
 	void *table[MOST];
 	for (unsigned i = 0; i < MOST; i++) table[i] = (void *)(uintptr_t)(i + 1);
-	for (int hts = 0; hts < 2; hts++) laps_alone(hts, table);
+	for (enum mode mode = MULTI; mode <= SINGLE; mode++) laps_alone(mode, table);
 	for (int hts = 0; hts < 2; hts++)
 		for (unsigned s = 0; s < sizeof sizes / sizeof *sizes; s++) {
 			struct rte_ring *ring = ring_of(hts);
@@ -114,9 +120,9 @@ static void *consume(void *given)
 	return NULL;
 }
 
-static void threads(int hts, unsigned pairs, unsigned n, unsigned long calls)
+static void threads(enum mode mode, unsigned pairs, unsigned n, unsigned long calls)
 {
-	struct rte_ring *ring = ring_of(hts);
+	struct rte_ring *ring = ring_of(mode);
 	struct job jobs[8];
 	pthread_t ids[8];
 	uint64_t sums[2] = { 0, 0 }, start = now_ns();
@@ -140,7 +146,7 @@ int main(int argc, char **argv)
 {
 	if (argc == 2 && !strcmp(argv[1], "alone")) alone();
 	else if (argc == 6 && !strcmp(argv[1], "threads") && atoi(argv[3]) <= 4 && atoi(argv[4]) <= MOST)
-		threads(!strcmp(argv[2], "hts"), atoi(argv[3]), atoi(argv[4]), strtoul(argv[5], NULL, 10));
+		threads(!strcmp(argv[2], "hts") ? HTS : MULTI, atoi(argv[3]), atoi(argv[4]), strtoul(argv[5], NULL, 10));
 	else return 2;
 	return 0;
 }

@@ -10,7 +10,9 @@
  *   capi forwards                     frames of 64 bytes by 1,000 routes, half of them routed, in bursts of 32 and alone, by
  *                                     the names that yardsticks/ipv4.c prints
  *   capi threads MODE PAIRS N CALLS   PAIRS producers and as many consumers, each on a processor of its own, make CALLS
- *                                     calls of N words each: millions of items a second
+ *                                     calls of N words each: millions of items a second. MODE is multi or hts; with one
+ *                                     word a call also ones, multi sides and the word by value, and held, by ends that
+ *                                     hold their sides
  *
  * A producer writes numbers into its table before each call, a consumer adds up what it took; the sums are compared. A
  * call that does nothing is made again, one that stays pending is finished. */
@@ -403,13 +405,40 @@ static void forwards(void)
 	measure_forward(forward, routes, "forward-64-alone", forward_alone);
 }
 
-struct job { hk_hand *hand; size_t n; unsigned cpu; unsigned long calls; uint64_t sum; };
+enum by { LISTS, ONES, ENDS };
+
+struct job { hk_hand *hand; enum by by; size_t n; unsigned cpu; unsigned long calls; uint64_t sum; };
 
 static inline void pause_a_moment(void) { __asm__ volatile("pause"); }
+
+static inline void put(struct job *job, hk_end *end, const uint64_t *table)
+{
+	int64_t done = 0;
+	do {
+		if (done < 0) pause_a_moment();
+		if (done == HK_E_PENDING) done = hk_ring_finish_put(job->hand, table, job->n);
+		else if (job->by == ENDS) done = hk_end_put(end, *table);
+		else if (job->by == ONES) done = hk_ring_try_put_one(job->hand, 0, *table);
+		else done = hk_ring_try_put_bulk(job->hand, 0, table, job->n);
+	} while (done < 0);
+}
+
+static inline void take(struct job *job, hk_end *end, uint64_t *table)
+{
+	int64_t done = 0;
+	do {
+		if (done < 0) pause_a_moment();
+		if (done == HK_E_PENDING) done = hk_ring_finish_take(job->hand, job->n);
+		else if (job->by == ENDS) done = hk_end_take(end, table);
+		else if (job->by == ONES) done = hk_ring_try_take_one(job->hand, 0, table);
+		else done = hk_ring_try_take_bulk(job->hand, 0, table, job->n);
+	} while (done < 0);
+}
 
 static void *produce(void *given)
 {
 	struct job *job = given;
+	hk_end end = hk_end_of(job->hand, 0, HELD);
 	uint64_t table[MOST], next = 0, sum = 0;
 	pin(job->cpu);
 	for (unsigned long i = 0; i < job->calls; i++) {
@@ -417,13 +446,9 @@ static void *produce(void *given)
 			sum += next;
 			table[k] = next++;
 		}
-		int64_t done = hk_ring_try_put_bulk(job->hand, 0, table, job->n);
-		while (done < 0) {
-			pause_a_moment();
-			done = done == HK_E_PENDING ? hk_ring_finish_put(job->hand, table, job->n)
-			                            : hk_ring_try_put_bulk(job->hand, 0, table, job->n);
-		}
+		put(job, &end, table);
 	}
+	if (hk_end_release_put(&end) < 0) exit(1);
 	job->sum = sum;
 	return NULL;
 }
@@ -431,22 +456,19 @@ static void *produce(void *given)
 static void *consume(void *given)
 {
 	struct job *job = given;
+	hk_end end = hk_end_of(job->hand, 0, HELD);
 	uint64_t table[MOST], sum = 0;
 	pin(job->cpu);
 	for (unsigned long i = 0; i < job->calls; i++) {
-		int64_t done = hk_ring_try_take_bulk(job->hand, 0, table, job->n);
-		while (done < 0) {
-			pause_a_moment();
-			done = done == HK_E_PENDING ? hk_ring_finish_take(job->hand, job->n)
-			                            : hk_ring_try_take_bulk(job->hand, 0, table, job->n);
-		}
+		take(job, &end, table);
 		for (size_t k = 0; k < job->n; k++) sum += table[k];
 	}
+	if (hk_end_release_take(&end) < 0) exit(1);
 	job->sum = sum;
 	return NULL;
 }
 
-static void threads(int hts, unsigned pairs, size_t n, unsigned long calls)
+static void threads(int hts, enum by by, unsigned pairs, size_t n, unsigned long calls)
 {
 	hk_hand *first = ring_of(hts);
 	struct job jobs[8];
@@ -454,7 +476,7 @@ static void threads(int hts, unsigned pairs, size_t n, unsigned long calls)
 	for (unsigned i = 0; i < 2 * pairs; i++) {
 		hk_hand *hand;
 		if (hk_hand_split(first, &hand) < 0) exit(1);
-		jobs[i] = (struct job){ hand, n, i, calls, 0 };
+		jobs[i] = (struct job){ hand, by, n, i, calls, 0 };
 	}
 	uint64_t sums[2] = { 0, 0 }, start = now_ns();
 	for (unsigned i = 0; i < 2 * pairs; i++) pthread_create(&ids[i], NULL, i % 2 ? consume : produce, &jobs[i]);
@@ -478,8 +500,11 @@ int main(int argc, char **argv)
 	else if (argc == 2 && !strcmp(argv[1], "publishes")) publishes();
 	else if (argc == 3 && !strcmp(argv[1], "memory")) memory(!strcmp(argv[2], "twice"));
 	else if (argc == 2 && !strcmp(argv[1], "forwards")) forwards();
-	else if (argc == 6 && !strcmp(argv[1], "threads") && atoi(argv[3]) <= 4 && atoi(argv[4]) <= MOST)
-		threads(!strcmp(argv[2], "hts"), atoi(argv[3]), atoi(argv[4]), strtoul(argv[5], NULL, 10));
+	else if (argc == 6 && !strcmp(argv[1], "threads") && atoi(argv[3]) <= 4 && atoi(argv[4]) <= MOST) {
+		int held = !strcmp(argv[2], "held"), hts = held || !strcmp(argv[2], "hts");
+		enum by by = held ? ENDS : !strcmp(argv[2], "ones") ? ONES : LISTS;
+		threads(hts, by, atoi(argv[3]), by == LISTS ? atoi(argv[4]) : 1, strtoul(argv[5], NULL, 10));
+	}
 	else return 2;
 	return 0;
 }
