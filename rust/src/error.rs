@@ -42,7 +42,7 @@ macro_rules! errors {
 }
 
 errors! {
-    /// Too little room for a put, or too few words for a take.
+    /// A put found the ring too full, or a take found too few words.
     NoRoom = 1, "too little room, or too few words";
     /// Other threads came first each time that the call tried: call again.
     Again = 2, "other threads came first: call again";
@@ -68,7 +68,7 @@ errors! {
     Memory = 13, "out of memory";
     /// No such ring, pool, table, port or window can be made.
     Plan = 14, "no such ring, pool, table, port or window can be made";
-    /// The positions of the ring are used up.
+    /// The ring has carried as many words as it can count: 2^63 - 1, or 2^52 - 1 with a head/tail-sync side.
     Worn = 15, "the positions of the ring are used up";
     /// As many handles were made as there can be, 2^62.
     Parts = 16, "too many handles";

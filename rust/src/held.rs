@@ -5,8 +5,10 @@ use crate::ring::{Consumer, Producer};
 use crate::word::{bits, of_bits, Word};
 use core::fmt;
 
-/// A producer that holds the put side of a ring, which has to be head/tail-sync, until it is dropped. Puts of other
-/// threads return `Again` meanwhile. If it is forgotten, the side stays held.
+/// A producer that reserves several positions at once on the put side of a ring, which has to be head/tail-sync, and
+/// then puts each word by one store. A word can be taken as soon as its `put` returned. The side is given up when the
+/// positions are used, and when this is dropped; the next `put` reserves again, and another thread may come first. Puts
+/// of other threads return `Again` while the side is held. If this is forgotten, the side stays held.
 #[must_use]
 pub struct HeldPuts<'a, T: Word> {
     hand: &'a mut Hand<T>,
@@ -14,8 +16,10 @@ pub struct HeldPuts<'a, T: Word> {
     left: usize,
 }
 
-/// A consumer that holds the take side of a ring, which has to be head/tail-sync, until it is dropped. Takes of other
-/// threads return `Again` meanwhile. If it is forgotten, the side stays held, and its words don't come out.
+/// A consumer that reserves several words at once on the take side of a ring, which has to be head/tail-sync, and then
+/// takes each by one store. The side is given up when these are taken, and when this is dropped: the words that it
+/// didn't take stay on the ring. Takes of other threads return `Again` while the side is held. If this is forgotten,
+/// the side stays held, and its words don't come out.
 #[must_use]
 pub struct HeldTakes<'a, T: Word> {
     hand: &'a mut Hand<T>,
@@ -24,7 +28,7 @@ pub struct HeldTakes<'a, T: Word> {
 }
 
 impl<T: Word> Producer<T> {
-    /// Holds the put side from the first word on, with `most` positions at a time, 1 to `MOST`.
+    /// Holds the put side from the first word on: reserves up to `most` positions at a time, 1 to `MOST`.
     ///
     /// ```
     /// use hokhtura::{Mode, Ring};
@@ -50,7 +54,7 @@ impl<T: Word> Producer<T> {
 }
 
 impl<T: Word> Consumer<T> {
-    /// Holds the take side from the first word on, with `most` words at a time, 1 to `MOST`.
+    /// Holds the take side from the first word on: reserves up to `most` words at a time, 1 to `MOST`.
     pub fn hold(&mut self, most: usize) -> HeldTakes<'_, T> {
         HeldTakes { hand: self.hand(), most, left: 0 }
     }

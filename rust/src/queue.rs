@@ -6,7 +6,7 @@ use alloc::sync::Arc;
 use core::fmt;
 
 /// One thread's handle on a ring of values of any type. Each value is in a box while it is on the ring, and it is owned
-/// by one side at a time: a put moves it in, a take moves it out. Where the last handle is dropped, the values that are
+/// by one side at a time: a put moves it in, a take moves it out. When the last handle is dropped, the values that are
 /// left on the ring are dropped, too.
 ///
 /// Both sides are head/tail-sync, so no call is pending: it is done, or nothing is changed.

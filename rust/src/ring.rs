@@ -27,8 +27,8 @@ macro_rules! puts {
         ///
         /// # Errors
         ///
-        /// `Count` if there are none or more than `MOST`; `NoRoom`; `Again`; `Worn`. `Pending`: the positions are
-        /// reserved, and `finish_put` with the same words puts them.
+        /// `Count` if there are none or more than `MOST`; `NoRoom`; `Again`; `Worn`; `Open`: an earlier call of this
+        /// handle is pending. `Pending`: the positions are reserved, and `finish_put` with the same words puts them.
         pub fn try_put_bulk(&mut self, words: &[T]) -> Result<usize, Error> {
             self.hand.put(words, true)
         }
@@ -55,7 +55,7 @@ macro_rules! puts {
         ///
         /// # Errors
         ///
-        /// `Pending`: not yet. `NotOpen`: no put is open.
+        /// `Pending`: not yet. `NotOpen`: no put is open. `Count`: these are more words than it reserved.
         pub fn finish_put(&mut self, words: &[T]) -> Result<usize, Error> {
             self.hand.finish_put(words)
         }
@@ -77,8 +77,9 @@ macro_rules! takes {
         ///
         /// # Errors
         ///
-        /// `Count` if there are no places or more than `MOST`; `NoRoom` if too few words are queued; `Again`; `Worn`.
-        /// `Pending`: the words are at the front of the slice already, and `finish_take` takes them off the ring.
+        /// `Count` if there are no places or more than `MOST`; `NoRoom` if too few words are queued; `Again`; `Worn`;
+        /// `Open`: an earlier call of this handle is pending. `Pending`: the words are at the front of the slice
+        /// already, and `finish_take` takes them off the ring.
         pub fn try_take_bulk(&mut self, words: &mut [T]) -> Result<usize, Error> {
             self.hand.take(words, true)
         }
@@ -107,13 +108,14 @@ macro_rules! takes {
         ///
         /// # Errors
         ///
-        /// `Pending`: not yet. `NotOpen`: no take is open.
+        /// `Pending`: not yet. `NotOpen`: no take is open. `Count`: these are more words than it reserved.
         pub fn finish_take(&mut self, n: usize) -> Result<usize, Error> {
             self.hand.finish_take(n)
         }
 
-        /// The words that are queued, one after the other, until none is left or other threads come first. Each is
-        /// taken as it is returned. It waits for a thread that is at work on the same side.
+        /// The words that are queued, one after the other, until none is left or other threads come first: so `None`
+        /// doesn't mean that the ring is empty. Each is taken as it is returned. While an earlier take of another
+        /// thread isn't finished, it waits, without a limit.
         pub fn taken(&mut self) -> Taken<'_, T> {
             Taken { hand: &mut self.hand, ended: false }
         }
@@ -146,7 +148,8 @@ macro_rules! both {
             self.hand.capacity()
         }
 
-        /// What the last call found besides what it did: how much more room there was, or how many more words.
+        /// After a put, how much room was left; after a take, how many words were left; after `NoRoom`, how much or
+        /// how many there were in all. After `Count`, `Again` and `Worn` it means nothing.
         #[must_use]
         pub fn left(&self) -> usize {
             self.hand.left()
@@ -201,7 +204,8 @@ impl<T: Word> Ring<T> {
     ///
     /// # Errors
     ///
-    /// `Memory`.
+    /// `Memory`; `Again`; `Parts`; `Open` if a call is pending. This handle is dropped then, and if it is the only one,
+    /// the ring with its words.
     ///
     /// ```
     /// # fn main() -> Result<(), hokhtura::Error> {
