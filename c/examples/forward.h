@@ -13,6 +13,7 @@ static void forward(hk_forward *forward, size_t port, hk_frame *frames, size_t n
         if (to == HK_TO_PORT) frames[left++] = frames[i];
         else take_in(port, &frames[i], to);
     }
+    /* A code is a mistake in the call: then nothing was done, and the frames are still the caller's. */
     if (left == 0 || hk_forward_burst(forward, frames, verdicts, left) < 0) return;
     for (size_t i = 0; i < left; i++) {
         if (verdicts[i] < HK_DROP) send_to(verdicts[i] & 0xffff, &frames[i]);
