@@ -21,15 +21,20 @@ static int wrong;
 
 /* ---- Memory -------------------------------------------------------------------------------------------------------*/
 
-/* Which request is refused, with all after it, or 0; how many were made, and how many blocks aren't freed. */
+/* Which request is refused, with all after it unless it is only that one, or 0; how many were made, and how many blocks
+ * aren't freed. */
 static _Atomic long refused, requests, blocks;
+static _Atomic int is_only;
 
 static void *counted(void *at) {
     blocks += at != NULL;
     return at;
 }
 
-static int refuses(void) { return ++requests >= refused && refused != 0; }
+static int refuses(void) {
+    long number = ++requests;
+    return refused != 0 && (is_only ? number == refused : number >= refused);
+}
 
 void *__real_malloc(size_t size);
 void *__real_calloc(size_t n, size_t size);
@@ -53,25 +58,33 @@ void __wrap_free(void *at) {
 }
 
 /* Makes one thing, and refuses each request for memory in turn until nothing is refused any more. */
-static void refuse_each(void *(*make)(void), void (*end)(void *)) {
-    void *made = make(); /* what stays for the next one is there then */
-    CHECK(made != NULL);
-    end(made);
+static void refuse_in_turn(void *(*make)(void), void (*end)(void *)) {
     long before = blocks, tried = 0;
-    made = NULL;
+    void *made = NULL;
     while (!made && tried < 1000) {
         CHECK(blocks == before);
         requests = 0;
         refused = ++tried;
         rte_errno = 0;
         made = make();
-        CHECK(made || rte_errno == ENOMEM);
+        CHECK(made ? requests < refused : rte_errno == ENOMEM);
     }
     refused = 0;
     printf("%ld requests were refused\n", tried - 1);
     CHECK(made && tried > 2);
     end(made);
     CHECK(blocks == before);
+}
+
+/* With all requests after it, and then alone. */
+static void refuse_each(void *(*make)(void), void (*end)(void *)) {
+    void *made = make(); /* what stays for the next one is there then */
+    CHECK(made != NULL);
+    end(made);
+    refuse_in_turn(make, end);
+    is_only = 1;
+    refuse_in_turn(make, end);
+    is_only = 0;
 }
 
 static void *a_ring(void) { return rte_ring_create("r", 64, SOCKET_ID_ANY, RING_F_SP_ENQ | RING_F_MC_HTS_DEQ); }
@@ -165,10 +178,11 @@ static void beside_a_peek(void) {
     rte_ring_free(r);
 }
 
-/* Bulks of several thousand elements of 20 bytes, from an odd address. */
+/* Bulks of several thousand elements of 20 bytes, from an odd address. When one is on the ring, there is room for the
+ * first piece of another one, but not for all of it. */
 static void long_calls(void) {
     static char in[MANY * 20 + 1], out[MANY * 20 + 1];
-    struct rte_ring *r = rte_ring_create_elem("r", 20, 8192, SOCKET_ID_ANY, 0);
+    struct rte_ring *r = rte_ring_create_elem("r", 20, 2 * MANY - 500, SOCKET_ID_ANY, RING_F_EXACT_SZ);
     CHECK(r != NULL);
     for (size_t i = 0; i < sizeof in; i++) in[i] = (char)(i * 7);
     CHECK(rte_ring_enqueue_bulk_elem(r, in + 1, 20, MANY, NULL) == MANY);
@@ -224,28 +238,30 @@ static void zero_copy(void) {
     rte_ring_free(r);
 }
 
-/* A finish of more than the peek has, or without a peek, changes nothing. Places are for the elements that are put. */
+/* A finish of more than the peek has, without a peek, or of elements of another size changes nothing: the places of
+ * what is put later are those that are free. */
 static void wrong_finishes(void) {
-    struct element e[8], got[8];
-    struct rte_ring *r = rte_ring_create_elem("r", sizeof(struct element), 8, SOCKET_ID_ANY,
-                                              RING_F_MP_HTS_ENQ | RING_F_MC_HTS_DEQ);
+    struct element e[9], got[8];
+    struct rte_ring *r = rte_ring_create_elem("r", sizeof e[0], 8, SOCKET_ID_ANY, RING_F_EXACT_SZ | RING_F_MP_HTS_ENQ |
+                                                                                    RING_F_MC_HTS_DEQ);
     CHECK(r != NULL);
-    for (uint32_t i = 0; i < 8; i++) e[i] = element_of(i);
+    for (uint32_t i = 0; i < 9; i++) e[i] = element_of(i);
     rte_ring_enqueue_elem_finish(r, e, sizeof e[0], 1);
     rte_ring_dequeue_elem_finish(r, 1);
-    CHECK(rte_ring_empty(r));
-    CHECK(rte_ring_enqueue_bulk_elem_start(r, 3, NULL) == 3);
+    CHECK(rte_ring_enqueue_bulk_elem(r, e, sizeof e[0], 3, NULL) == 3);
+    CHECK(rte_ring_enqueue_bulk_elem_start(r, 4, NULL) == 4);
+    rte_ring_enqueue_elem_finish(r, e + 3, sizeof e[0], 5);
+    rte_ring_enqueue_elem_finish(r, e + 3, 8, 4);
+    CHECK(rte_ring_count(r) == 3 && rte_ring_enqueue_elem(r, e + 3, sizeof e[0]) == -ENOBUFS);
+    rte_ring_enqueue_elem_finish(r, e + 3, sizeof e[0], 2);
     rte_ring_enqueue_elem_finish(r, e, sizeof e[0], 4);
-    rte_ring_enqueue_elem_finish(r, e, 8, 3);
-    CHECK(rte_ring_empty(r) && rte_ring_enqueue_elem(r, e, sizeof e[0]) == -ENOBUFS);
-    rte_ring_enqueue_elem_finish(r, e, sizeof e[0], 2);
-    CHECK(rte_ring_enqueue_bulk_elem(r, e + 2, sizeof e[0], 5, NULL) == 5 && rte_ring_full(r));
+    CHECK(rte_ring_enqueue_bulk_elem(r, e + 5, sizeof e[0], 3, NULL) == 3 && rte_ring_full(r));
     CHECK(rte_ring_dequeue_bulk_elem_start(r, got, sizeof e[0], 7, NULL) == 7);
     rte_ring_dequeue_elem_finish(r, 8);
-    CHECK(rte_ring_count(r) == 7 && rte_ring_dequeue_elem(r, got, sizeof e[0]) == -ENOENT);
+    CHECK(rte_ring_count(r) == 8 && rte_ring_dequeue_elem(r, got, sizeof e[0]) == -ENOENT);
     rte_ring_dequeue_elem_finish(r, 3);
-    CHECK(rte_ring_dequeue_burst_elem(r, got + 3, sizeof e[0], 5, NULL) == 4);
-    for (uint32_t i = 0; i < 7; i++) CHECK(is_element(&got[i], i));
+    CHECK(rte_ring_dequeue_burst_elem(r, got + 3, sizeof e[0], 5, NULL) == 5);
+    for (uint32_t i = 0; i < 8; i++) CHECK(is_element(&got[i], i));
     rte_ring_free(r);
 }
 
