@@ -27,7 +27,7 @@ static inline unsigned int hkr_peek_put(struct rte_ring *r, unsigned int esize, 
     size_t most = hkr_peeked(r, r->prod_sync, esize, n, bulk);
     if (left) *left = 0;
     if (!hand || most == 0) return 0;
-    int64_t count = hkr_reserve_put(hand, most, bulk);
+    int64_t count = hkr_reserve_put(r, hand, most, bulk);
     if (count > 0) r->put->open = (uint64_t)count;
     if (left) *left = hkr_elements(hk_hand_left(hand));
     return hkr_elements(count);
@@ -40,7 +40,7 @@ static inline unsigned int hkr_peek_take(struct rte_ring *r, unsigned int esize,
     size_t most = hkr_peeked(r, r->cons_sync, esize, n, bulk);
     if (left) *left = 0;
     if (!hand || most == 0) return 0;
-    int64_t count = hkr_reserve_take(hand, r->take->room, most, bulk);
+    int64_t count = hkr_reserve_take(r, hand, most, bulk);
     if (count > 0) r->take->open = (uint64_t)count;
     if (left) *left = hkr_elements(hk_hand_left(hand));
     return hkr_elements(count);
@@ -62,12 +62,14 @@ static inline void hkr_finish_put(struct rte_ring *r, const void *table, unsigne
         hkr_put_places(r, hand, n);
     } else {
         if (table) memcpy(r->put->room, table, n * sizeof(uint64_t));
+        hkr_finishes(r);
         (void)!hk_ring_finish_put(hand, r->put->room, n);
     }
 }
 
 static inline void hkr_finish_take(struct rte_ring *r, unsigned int n) {
     hk_hand *hand = hk_hands_mine(&r->take->hands);
+    hkr_finishes(r);
     if (hand) (void)!hk_ring_finish_take(hand, n);
 }
 

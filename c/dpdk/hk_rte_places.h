@@ -13,19 +13,42 @@
 extern "C" {
 #endif
 
+/* ThreadSanitizer doesn't see the steps of the library that order two threads here: what one did before it finished a
+ * put or a take comes before what another one does that reserves positions after it. */
+#if defined(__SANITIZE_THREAD__)
+#define HKR_MARKS 1
+#elif defined(__has_feature)
+#if __has_feature(thread_sanitizer)
+#define HKR_MARKS 1
+#endif
+#endif
+#ifdef HKR_MARKS
+void __tsan_acquire(void *at);
+void __tsan_release(void *at);
+static inline void hkr_has_reserved(struct rte_ring *r) { __tsan_acquire(r); }
+static inline void hkr_finishes(struct rte_ring *r) { __tsan_release(r); }
+#else
+static inline void hkr_has_reserved(struct rte_ring *r) { (void)r; }
+static inline void hkr_finishes(struct rte_ring *r) { (void)r; }
+#endif
+
 /* Reserves positions for n elements, 1 to HK_MOST, and goes on while another thread has some. Returns how many. */
-static inline int64_t hkr_reserve_put(hk_hand *hand, size_t n, int bulk) {
+static inline int64_t hkr_reserve_put(struct rte_ring *r, hk_hand *hand, size_t n, int bulk) {
     int64_t count;
     while ((count = bulk ? hk_ring_peek_put_bulk(hand, 0, n) : hk_ring_peek_put_burst(hand, 0, n)) == HK_E_AGAIN)
         rte_pause();
+    hkr_has_reserved(r);
     return count;
 }
 
-static inline int64_t hkr_reserve_take(hk_hand *hand, uint64_t *words, size_t n, int bulk) {
+/* The words are in the room of the side. */
+static inline int64_t hkr_reserve_take(struct rte_ring *r, hk_hand *hand, size_t n, int bulk) {
+    uint64_t *room = r->take->room;
     int64_t count;
-    while ((count = bulk ? hk_ring_peek_take_bulk(hand, 0, words, n)
-                         : hk_ring_peek_take_burst(hand, 0, words, n)) == HK_E_AGAIN)
+    while ((count = bulk ? hk_ring_peek_take_bulk(hand, 0, room, n)
+                         : hk_ring_peek_take_burst(hand, 0, room, n)) == HK_E_AGAIN)
         rte_pause();
+    hkr_has_reserved(r);
     return count;
 }
 
@@ -53,12 +76,13 @@ static inline void hkr_copy_out(const struct rte_ring *r, uint64_t place, void *
 static inline void hkr_put_places(struct rte_ring *r, hk_hand *hand, size_t n) {
     uint64_t place = r->put->next, next = place + n;
     r->put->next = next < r->capacity ? next : next - r->capacity;
+    hkr_finishes(r);
     (void)!hk_ring_finish_put(hand, r->places + place, n);
 }
 
 /* Puts n elements, 1 to HK_MOST. Returns how many, or a code. */
 static inline int64_t hkr_put_elements(struct rte_ring *r, hk_hand *hand, const void *table, size_t n, int bulk) {
-    int64_t count = hkr_reserve_put(hand, n, bulk);
+    int64_t count = hkr_reserve_put(r, hand, n, bulk);
     if (count <= 0) return count;
     hkr_copy_in(r, r->put->next, table, (size_t)count);
     hkr_put_places(r, hand, (size_t)count);
@@ -66,9 +90,10 @@ static inline int64_t hkr_put_elements(struct rte_ring *r, hk_hand *hand, const 
 }
 
 static inline int64_t hkr_take_elements(struct rte_ring *r, hk_hand *hand, void *table, size_t n, int bulk) {
-    int64_t count = hkr_reserve_take(hand, r->take->room, n, bulk);
+    int64_t count = hkr_reserve_take(r, hand, n, bulk);
     if (count <= 0) return count;
     hkr_copy_out(r, r->take->room[0], table, (size_t)count);
+    hkr_finishes(r);
     return hk_ring_finish_take(hand, (size_t)count);
 }
 
