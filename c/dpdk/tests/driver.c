@@ -185,6 +185,17 @@ static void *registered(void *at) {
     return takes_and_puts(at);
 }
 
+/* All threads have the hands of their lcores at the same time, and then hands of their own. */
+static void *registered_together(void *at) {
+    CHECK(rte_thread_register() == 0);
+    takes_and_puts(at);
+    (void)pthread_barrier_wait(&barrier);
+    rte_thread_unregister();
+    takes_and_puts(at);
+    (void)pthread_barrier_wait(&barrier);
+    return NULL;
+}
+
 static void *together(void *at) {
     void *object;
     CHECK(rte_mempool_get(at, &object) == 0);
@@ -208,9 +219,8 @@ static void run(struct rte_mempool *mp, unsigned n, unsigned side_by_side, void 
 static void come_and_go(void) {
     struct rte_mempool *mp = pool_of(5000);
     CHECK(mp != NULL);
-    if (!mp) return;
-    run(mp, 4, 4, registered);
-    run(mp, 16, 4, takes_and_puts);
+    if (!mp || pthread_barrier_init(&barrier, NULL, 4) != 0) return;
+    run(mp, 4, 4, registered_together);
     long before = requests;
     run(mp, ROUNDS * THREADS, 4, takes_and_puts);
     run(mp, ROUNDS * 4, 4, registered);
