@@ -128,11 +128,46 @@ static __rte_always_inline int hkr_is_usual(const struct rte_ring *r, const hk_h
     return likely(hand != NULL && esize == r->esize && hkr_is_words(r, table) && n - 1 < HK_MOST);
 }
 
+/* Whether one peek of the library does: for elements that have places. */
+static __rte_always_inline int hkr_is_placed(const struct rte_ring *r, const hk_hand *hand, unsigned int esize,
+                                             unsigned int n) {
+    return esize != sizeof(uint64_t) && hand != NULL && esize == r->esize && n - 1 < HK_MOST;
+}
+
+static __rte_noinline unsigned int hkr_put_placed(struct rte_ring *r, hk_hand *hand, const void *table, unsigned int n,
+                                                  int bulk, unsigned int *left) {
+    int64_t count = hkr_put_elements(r, hand, table, n, bulk);
+    if (left) *left = (unsigned int)hk_hand_left(hand);
+    return hkr_elements(count);
+}
+
+static __rte_noinline unsigned int hkr_take_placed(struct rte_ring *r, hk_hand *hand, void *table, unsigned int n,
+                                                   int bulk, unsigned int *left) {
+    int64_t count = hkr_take_elements(r, hand, table, n, bulk);
+    if (left) *left = (unsigned int)hk_hand_left(hand);
+    return hkr_elements(count);
+}
+
+/* A single call, which the compiler sees: its word is passed by value. */
+#define HKR_IS_ONE(n) (__builtin_constant_p(n) && (n) == 1)
+
+static __rte_always_inline int64_t hkr_put_words(hk_hand *hand, const void *table, unsigned int n, int bulk) {
+    uint64_t word;
+    if (!HKR_IS_ONE(n)) return hk_put(hand, (const uint64_t *)table, n, bulk);
+    memcpy(&word, table, sizeof word);
+    return hk_put_one(hand, word);
+}
+
+static __rte_always_inline int64_t hkr_take_words(hk_hand *hand, void *table, unsigned int n, int bulk) {
+    return HKR_IS_ONE(n) ? hk_take_one(hand, (uint64_t *)table) : hk_take(hand, (uint64_t *)table, n, bulk);
+}
+
 static __rte_always_inline unsigned int hkr_enqueue(struct rte_ring *r, const void *table, unsigned int esize,
                                                     unsigned int n, int bulk, unsigned int *left) {
     hk_hand *hand = hk_hands_mine(&r->put->hands);
+    if (hkr_is_placed(r, hand, esize, n)) return hkr_put_placed(r, hand, table, n, bulk, left);
     if (!hkr_is_usual(r, hand, table, esize, n)) return hkr_put_otherwise(r, table, esize, n, bulk, left);
-    int64_t count = hk_put(hand, (const uint64_t *)table, n, bulk);
+    int64_t count = hkr_put_words(hand, table, n, bulk);
     if (left) *left = (unsigned int)hk_hand_left(hand);
     return hkr_elements(count);
 }
@@ -140,8 +175,9 @@ static __rte_always_inline unsigned int hkr_enqueue(struct rte_ring *r, const vo
 static __rte_always_inline unsigned int hkr_dequeue(struct rte_ring *r, void *table, unsigned int esize,
                                                     unsigned int n, int bulk, unsigned int *left) {
     hk_hand *hand = hk_hands_mine(&r->take->hands);
+    if (hkr_is_placed(r, hand, esize, n)) return hkr_take_placed(r, hand, table, n, bulk, left);
     if (!hkr_is_usual(r, hand, table, esize, n)) return hkr_take_otherwise(r, table, esize, n, bulk, left);
-    int64_t count = hk_take(hand, (uint64_t *)table, n, bulk);
+    int64_t count = hkr_take_words(hand, table, n, bulk);
     if (left) *left = (unsigned int)hk_hand_left(hand);
     return hkr_elements(count);
 }
