@@ -1,7 +1,7 @@
-/* Elements of another size than 8 bytes, part of hokhtura_rte.h. They lie in an array beside the ring, which has a place
- * for each element that the ring holds. A word on the ring is the number of such a place. The places are used in turn,
- * as the slots of rte_ring are: so the elements of one call are next to each other, and go on at the first place after
- * the last one.
+/* Elements of another size than 8 bytes, part of hokhtura_rte.h. They lie in an array beside the ring, which has a
+ * place for each element that the ring holds. A word on the ring is the number of such a place. The places are used in
+ * turn, as the slots of rte_ring are: so the elements of one call are next to each other, and go on at the first place
+ * after the last one.
  *
  * Each call first reserves positions, so both sides are head/tail-sync. Whoever has reserved positions of a put has the
  * places that follow, until it puts their numbers; whoever sees numbers by a take has those places, until it takes

@@ -1,9 +1,9 @@
 /* rte_ring's calls over the rings of the library. It stands for rte_ring.h and its parts: compile a program with
  * -include hokhtura_rte.h, or include it before any header of DPDK.
  *
- * An element of 8 bytes is a word of a ring of the library. Elements of another size are in an array beside the ring, and
- * its words say where (hk_rte_places.h). A ring holds 2^20 - 1 elements at most, and is private memory of its process.
- * docs/DPDK.md has what differs from rte_ring otherwise; what has no counterpart here doesn't compile
+ * An element of 8 bytes is a word of a ring of the library. Elements of another size are in an array beside the ring,
+ * and its words say where (hk_rte_places.h). A ring holds 2^20 - 1 elements at most, and is private memory of its
+ * process. docs/DPDK.md has what differs from rte_ring otherwise; what has no counterpart here doesn't compile
  * (hk_rte_refused.h). */
 #ifndef HOKHTURA_RTE_H
 #define HOKHTURA_RTE_H 1

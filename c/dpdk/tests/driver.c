@@ -112,16 +112,16 @@ static void sizes(void) {
     is_refused(MOST_OBJECTS + 1, EINVAL);
 }
 
-/* A long get takes all or none, also if there is enough for its first piece. */
+/* A long get takes all or none, also if there is enough for its first piece: what that took goes back. */
 static void all_or_none(void) {
-    void *objects[2000], *others[2000];
-    struct rte_mempool *mp = pool_of(3500);
+    static void *objects[5000], *others[5000];
+    struct rte_mempool *mp = pool_of(9500);
     CHECK(mp != NULL);
     if (!mp) return;
-    CHECK(rte_mempool_get_bulk(mp, objects, 2000) == 0);
-    CHECK(rte_mempool_get_bulk(mp, others, 2000) == -ENOBUFS);
-    CHECK(rte_mempool_avail_count(mp) == 1500);
-    rte_mempool_put_bulk(mp, objects, 2000);
+    CHECK(rte_mempool_get_bulk(mp, objects, 5000) == 0);
+    CHECK(rte_mempool_get_bulk(mp, others, 5000) == -ENOBUFS);
+    CHECK(rte_mempool_avail_count(mp) == 4500);
+    rte_mempool_put_bulk(mp, objects, 5000);
     all_there(mp);
     rte_mempool_free(mp);
 }
@@ -244,7 +244,7 @@ static void many(void) {
 }
 
 /* A mempool that is freed and made anew isn't taken for the one before by a thread that used that. */
-static void *anew_elsewhere(void *at) {
+static void *makes_anew(void *at) {
     (void)at;
     for (int round = 0; round < 100; round++) {
         struct rte_mempool *mp = pool_of(100);
@@ -256,7 +256,10 @@ static void *anew_elsewhere(void *at) {
     return NULL;
 }
 
-static void anew(void) { run(NULL, 1, 1, anew_elsewhere); }
+static void anew(void) {
+    run(NULL, 1, 1, makes_anew);
+    (void)makes_anew(NULL); /* by an lcore */
+}
 
 static const struct {
     const char *name;
