@@ -39,6 +39,21 @@ static __rte_always_inline int64_t hk_take(hk_hand *hand, uint64_t *words, size_
     return likely(code >= 0) ? code : hk_take_on(hand, words, n, bulk, code);
 }
 
+/* The same with one word, by value. */
+static __rte_noinline int64_t hk_put_one_on(hk_hand *hand, uint64_t word, int64_t code) {
+    return hk_put_on(hand, &word, 1, 1, code);
+}
+
+static __rte_always_inline int64_t hk_put_one(hk_hand *hand, uint64_t word) {
+    int64_t code = hk_ring_try_put_one(hand, 0, word);
+    return likely(code >= 0) ? code : hk_put_one_on(hand, word, code);
+}
+
+static __rte_always_inline int64_t hk_take_one(hk_hand *hand, uint64_t *word) {
+    int64_t code = hk_ring_try_take_one(hand, 0, word);
+    return likely(code >= 0) ? code : hk_take_on(hand, word, 1, 1, code);
+}
+
 /* Puts n words, any number, in pieces of HK_MOST. Returns how many were put: fewer if a piece found too little room.
  * Words of other threads may come between two pieces. */
 static inline size_t hk_put_pieces(hk_hand *hand, const uint64_t *words, size_t n) {

@@ -53,10 +53,10 @@ struct hk_mine {
     void *handle;
 };
 
+/* What a thread that isn't an lcore has: `room` places, which are behind it. */
 struct hk_table {
     struct hk_threads *threads;
     size_t room;
-    __extension__ struct hk_mine mine[];
 };
 
 /* All handles that one module makes, a program or a shared object. Handles know their own, so that a module can use
@@ -118,6 +118,10 @@ static inline size_t hk_handles_take(struct hk_handles *handles) {
 
 /* ---- Threads ------------------------------------------------------------------------------------------------------*/
 
+static inline struct hk_mine *hk_table_at(struct hk_table *table, size_t place) {
+    return (struct hk_mine *)(table + 1) + place;
+}
+
 /* Gives back the handles of a thread that ends, but for those that nobody else can use. */
 static inline void hk_thread_ends(void *at) {
     struct hk_table *table = (struct hk_table *)at;
@@ -125,7 +129,7 @@ static inline void hk_thread_ends(void *at) {
     pthread_mutex_lock(&threads->lock);
     for (size_t i = 0; i < table->room; i++) {
         struct hk_handles *handles = i < threads->room ? threads->all[i] : NULL;
-        const struct hk_mine *mine = &table->mine[i];
+        const struct hk_mine *mine = hk_table_at(table, i);
         /* Those that were made at this place since have another birth. */
         if (handles && mine->birth == handles->birth && handles->kind->is_done(mine->handle))
             handles->made[mine->which].taken = 0;
@@ -139,9 +143,9 @@ static inline struct hk_table *hk_table_with(struct hk_threads *threads, size_t 
     struct hk_table *table = (struct hk_table *)pthread_getspecific(threads->key);
     size_t had = table ? table->room : 0;
     if (place < had) return table;
-    struct hk_table *wider = (struct hk_table *)realloc(table, sizeof *table + threads->room * sizeof table->mine[0]);
+    struct hk_table *wider = (struct hk_table *)realloc(table, sizeof *table + threads->room * sizeof(struct hk_mine));
     if (!wider) return NULL;
-    memset(wider->mine + had, 0, (threads->room - had) * sizeof wider->mine[0]);
+    memset((void *)hk_table_at(wider, had), 0, (threads->room - had) * sizeof(struct hk_mine));
     wider->threads = threads;
     wider->room = threads->room;
     /* Only a first one can be refused, since later ones have their place. */
@@ -161,9 +165,10 @@ static __rte_noinline void *hk_handles_first_use(struct hk_handles *handles) {
         if (which < handles->count) {
             handle = handles->made[which].handle;
             if (table) {
-                table->mine[handles->place].birth = handles->birth;
-                table->mine[handles->place].which = which;
-                table->mine[handles->place].handle = handle;
+                struct hk_mine *mine = hk_table_at(table, handles->place);
+                mine->birth = handles->birth;
+                mine->which = which;
+                mine->handle = handle;
             } else {
                 handles->of_lcore[lcore] = handle;
             }
@@ -175,8 +180,8 @@ static __rte_noinline void *hk_handles_first_use(struct hk_handles *handles) {
 
 static __rte_noinline void *hk_handles_elsewhere(struct hk_handles *handles) {
     struct hk_table *table = (struct hk_table *)pthread_getspecific(handles->threads->key);
-    if (table && handles->place < table->room && table->mine[handles->place].birth == handles->birth)
-        return table->mine[handles->place].handle;
+    if (table && handles->place < table->room && hk_table_at(table, handles->place)->birth == handles->birth)
+        return hk_table_at(table, handles->place)->handle;
     return hk_handles_first_use(handles);
 }
 

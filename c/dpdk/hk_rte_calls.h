@@ -7,30 +7,18 @@
 extern "C" {
 #endif
 
-/* Elements as words, one after the other from a new word on, and back. */
-static inline void hkr_pack(const struct rte_ring *r, uint64_t *words, const void *table, size_t n) {
-    for (size_t i = n; i-- > 0;) { /* from the end, so that both may be at one address */
-        memmove(words + i * r->per, (const char *)table + i * r->esize, r->esize);
-        if (!r->is_plain) memset((char *)(words + i * r->per) + r->esize, 0, 8 * r->per - r->esize);
-    }
+/* Whether an array of elements is an array of words. */
+static __rte_always_inline int hkr_is_words(const struct rte_ring *r, const void *table) {
+    return r->esize == sizeof(uint64_t) && (uintptr_t)table % sizeof(uint64_t) == 0;
 }
 
-static inline void hkr_unpack(const struct rte_ring *r, void *table, const uint64_t *words, size_t n) {
-    for (size_t i = 0; i < n; i++) memmove((char *)table + i * r->esize, words + i * r->per, r->esize);
+/* How many elements a count stands for: none if it is a code. */
+static __rte_always_inline unsigned int hkr_elements(int64_t count) {
+    return likely(count > 0) ? (unsigned int)count : 0;
 }
 
-static inline int hkr_is_array(const struct rte_ring *r, const void *table) {
-    return r->is_plain && (uintptr_t)table % 8 == 0;
-}
-
-/* How many elements are in so many words, with a division only if it is needed. */
-static __rte_always_inline unsigned int hkr_elements(const struct rte_ring *r, int64_t words) {
-    if (unlikely(words <= 0)) return 0;
-    return likely(r->per == 1) ? (unsigned int)words : (unsigned int)words / r->per;
-}
-
-/* How many words are queued on a ring, or how many more there is room for. Goes on while another thread's peek is
- * open. */
+/* How many elements are queued on a ring, or how many more there is room for. Goes on while another thread has reserved
+ * positions of a head/tail-sync side. HK_E_OPEN: this hand has. */
 static inline int64_t hkr_wait_for_look(const hk_hand *hand, int room) {
     int64_t count;
     while ((count = room ? hk_ring_room(hand, 0) : hk_ring_count(hand, 0)) == HK_E_AGAIN) rte_pause();
@@ -39,48 +27,54 @@ static inline int64_t hkr_wait_for_look(const hk_hand *hand, int room) {
 
 /* ---- Calls whose elements aren't words, long calls, and calls of a thread without a hand ------------------------- */
 
-/* How many elements are in one piece of a call. */
+/* How many elements are in one piece of a call: fewer if they are copied to words. */
 static inline size_t hkr_piece(const struct rte_ring *r, const void *table) {
-    return (hkr_is_array(r, table) ? HK_MOST : HKR_PIECE) / r->per;
+    return r->elements || hkr_is_words(r, table) ? HK_MOST : HKR_PIECE;
+}
+
+static inline int64_t hkr_put_piece(struct rte_ring *r, hk_hand *hand, const void *table, size_t n, int bulk) {
+    uint64_t words[HKR_PIECE];
+    if (r->elements) return hkr_put_elements(r, hand, table, n, bulk);
+    if (hkr_is_words(r, table)) return hk_put(hand, (const uint64_t *)table, n, bulk);
+    memcpy(words, table, n * sizeof words[0]);
+    return hk_put(hand, words, n, bulk);
+}
+
+static inline int64_t hkr_take_piece(struct rte_ring *r, hk_hand *hand, void *table, size_t n, int bulk) {
+    uint64_t words[HKR_PIECE];
+    if (r->elements) return hkr_take_elements(r, hand, table, n, bulk);
+    if (hkr_is_words(r, table)) return hk_take(hand, (uint64_t *)table, n, bulk);
+    int64_t count = hk_take(hand, words, n, bulk);
+    memcpy(table, words, hkr_elements(count) * sizeof words[0]);
+    return count;
 }
 
 /* Enqueues in pieces. Between two pieces elements of other threads may come: a bulk, which may not stop in the middle,
  * then waits for room. */
-static inline size_t hkr_put_pieces(struct rte_ring *r, hk_hand *hand, const void *table, size_t n, int bulk) {
+static inline unsigned int hkr_put_pieces(struct rte_ring *r, hk_hand *hand, const void *table, size_t n, int bulk) {
     size_t most = hkr_piece(r, table), done = 0;
-    uint64_t words[HKR_PIECE];
     while (done < n) {
         size_t next = RTE_MIN(n - done, most);
-        const char *from = (const char *)table + done * r->esize;
-        const uint64_t *given = (const uint64_t *)(const void *)from;
-        if (!hkr_is_array(r, table)) {
-            hkr_pack(r, words, from, next);
-            given = words;
-        }
-        int64_t count = hk_put(hand, given, next * r->per, bulk);
-        done += hkr_elements(r, count);
-        if (count == (int64_t)(next * r->per)) continue;
+        int64_t count = hkr_put_piece(r, hand, (const char *)table + done * r->esize, next, bulk);
+        done += hkr_elements(count);
+        if (count == (int64_t)next) continue;
         if (!bulk || done == 0 || count != HK_E_NOROOM) break;
         rte_pause();
     }
-    return done;
+    return (unsigned int)done;
 }
 
-static inline size_t hkr_take_pieces(struct rte_ring *r, hk_hand *hand, void *table, size_t n, int bulk) {
+static inline unsigned int hkr_take_pieces(struct rte_ring *r, hk_hand *hand, void *table, size_t n, int bulk) {
     size_t most = hkr_piece(r, table), done = 0;
-    uint64_t words[HKR_PIECE];
     while (done < n) {
         size_t next = RTE_MIN(n - done, most);
-        char *to = (char *)table + done * r->esize;
-        uint64_t *into = hkr_is_array(r, table) ? (uint64_t *)(void *)to : words;
-        int64_t count = hk_take(hand, into, next * r->per, bulk);
-        if (into == words) hkr_unpack(r, to, words, hkr_elements(r, count));
-        done += hkr_elements(r, count);
-        if (count == (int64_t)(next * r->per)) continue;
+        int64_t count = hkr_take_piece(r, hand, (char *)table + done * r->esize, next, bulk);
+        done += hkr_elements(count);
+        if (count == (int64_t)next) continue;
         if (!bulk || done == 0 || count != HK_E_NOROOM) break;
         rte_pause();
     }
-    return done;
+    return (unsigned int)done;
 }
 
 /* All of a call that isn't a single call of the library. A bulk of more than one piece first looks whether there is
@@ -88,19 +82,19 @@ static inline size_t hkr_take_pieces(struct rte_ring *r, hk_hand *hand, void *ta
 static __rte_noinline unsigned int hkr_put_otherwise(struct rte_ring *r, const void *table, unsigned int esize,
                                                      unsigned int n, int bulk, unsigned int *left) {
     hk_hand *mine = hk_hands_mine(&r->put->hands), *hand = mine ? mine : hk_hands_borrow(&r->put->hands);
+    int is_long = bulk && n > hkr_piece(r, table), looks = is_long || n == 0;
     unsigned int done = 0;
-    if (left) *left = 0;
-    if (esize == r->esize && hk_hand_span(hand) == 0) {
-        int is_long = bulk && n > hkr_piece(r, table), looks = is_long || n == 0;
+    int64_t room = 0;
+    if (esize == r->esize) {
         if (is_long) pthread_mutex_lock(&r->put->of_long);
-        int64_t room = looks ? hkr_wait_for_look(hand, 1) : 0;
-        if (n != 0 && (!looks || (uint64_t)room >= (uint64_t)n * r->per)) {
-            done = (unsigned int)hkr_put_pieces(r, hand, table, n, bulk);
+        if (looks) room = hkr_wait_for_look(hand, 1);
+        if (n != 0 && (!looks || room >= (int64_t)n)) {
+            done = hkr_put_pieces(r, hand, table, n, bulk);
             room = hk_hand_left(hand);
         }
         if (is_long) pthread_mutex_unlock(&r->put->of_long);
-        if (left) *left = hkr_elements(r, room);
     }
+    if (left) *left = hkr_elements(room);
     if (!mine) hk_handles_return(&r->put->hands);
     return done;
 }
@@ -108,19 +102,19 @@ static __rte_noinline unsigned int hkr_put_otherwise(struct rte_ring *r, const v
 static __rte_noinline unsigned int hkr_take_otherwise(struct rte_ring *r, void *table, unsigned int esize,
                                                       unsigned int n, int bulk, unsigned int *left) {
     hk_hand *mine = hk_hands_mine(&r->take->hands), *hand = mine ? mine : hk_hands_borrow(&r->take->hands);
+    int is_long = bulk && n > hkr_piece(r, table), looks = is_long || n == 0;
     unsigned int done = 0;
-    if (left) *left = 0;
-    if (esize == r->esize && hk_hand_span(hand) == 0) {
-        int is_long = bulk && n > hkr_piece(r, table), looks = is_long || n == 0;
+    int64_t queued = 0;
+    if (esize == r->esize) {
         if (is_long) pthread_mutex_lock(&r->take->of_long);
-        int64_t queued = looks ? hkr_wait_for_look(hand, 0) : 0;
-        if (n != 0 && (!looks || (uint64_t)queued >= (uint64_t)n * r->per)) {
-            done = (unsigned int)hkr_take_pieces(r, hand, table, n, bulk);
+        if (looks) queued = hkr_wait_for_look(hand, 0);
+        if (n != 0 && (!looks || queued >= (int64_t)n)) {
+            done = hkr_take_pieces(r, hand, table, n, bulk);
             queued = hk_hand_left(hand);
         }
         if (is_long) pthread_mutex_unlock(&r->take->of_long);
-        if (left) *left = hkr_elements(r, queued);
     }
+    if (left) *left = hkr_elements(queued);
     if (!mine) hk_handles_return(&r->take->hands);
     return done;
 }
@@ -130,28 +124,62 @@ static __rte_noinline unsigned int hkr_take_otherwise(struct rte_ring *r, void *
 /* Whether one call of the library does: with a hand, for elements of the ring's size that are words, and not too many
  * or none. */
 static __rte_always_inline int hkr_is_usual(const struct rte_ring *r, const hk_hand *hand, const void *table,
-                                            unsigned int esize, size_t words) {
-    return likely(hand != NULL && esize == r->esize && hkr_is_array(r, table) && words - 1 < HK_MOST);
+                                            unsigned int esize, unsigned int n) {
+    return likely(hand != NULL && esize == r->esize && hkr_is_words(r, table) && n - 1 < HK_MOST);
+}
+
+/* Whether one peek of the library does: for elements that have places. */
+static __rte_always_inline int hkr_is_placed(const struct rte_ring *r, const hk_hand *hand, unsigned int esize,
+                                             unsigned int n) {
+    return esize != sizeof(uint64_t) && hand != NULL && esize == r->esize && n - 1 < HK_MOST;
+}
+
+static __rte_noinline unsigned int hkr_put_placed(struct rte_ring *r, hk_hand *hand, const void *table, unsigned int n,
+                                                  int bulk, unsigned int *left) {
+    int64_t count = hkr_put_elements(r, hand, table, n, bulk);
+    if (left) *left = (unsigned int)hk_hand_left(hand);
+    return hkr_elements(count);
+}
+
+static __rte_noinline unsigned int hkr_take_placed(struct rte_ring *r, hk_hand *hand, void *table, unsigned int n,
+                                                   int bulk, unsigned int *left) {
+    int64_t count = hkr_take_elements(r, hand, table, n, bulk);
+    if (left) *left = (unsigned int)hk_hand_left(hand);
+    return hkr_elements(count);
+}
+
+/* A single call, which the compiler sees: its word is passed by value. */
+#define HKR_IS_ONE(n) (__builtin_constant_p(n) && (n) == 1)
+
+static __rte_always_inline int64_t hkr_put_words(hk_hand *hand, const void *table, unsigned int n, int bulk) {
+    uint64_t word;
+    if (!HKR_IS_ONE(n)) return hk_put(hand, (const uint64_t *)table, n, bulk);
+    memcpy(&word, table, sizeof word);
+    return hk_put_one(hand, word);
+}
+
+static __rte_always_inline int64_t hkr_take_words(hk_hand *hand, void *table, unsigned int n, int bulk) {
+    return HKR_IS_ONE(n) ? hk_take_one(hand, (uint64_t *)table) : hk_take(hand, (uint64_t *)table, n, bulk);
 }
 
 static __rte_always_inline unsigned int hkr_enqueue(struct rte_ring *r, const void *table, unsigned int esize,
                                                     unsigned int n, int bulk, unsigned int *left) {
     hk_hand *hand = hk_hands_mine(&r->put->hands);
-    size_t words = (size_t)n * r->per;
-    if (!hkr_is_usual(r, hand, table, esize, words)) return hkr_put_otherwise(r, table, esize, n, bulk, left);
-    int64_t count = hk_put(hand, (const uint64_t *)table, words, bulk);
-    if (left) *left = hkr_elements(r, hk_hand_left(hand));
-    return likely(count == (int64_t)words) ? n : hkr_elements(r, count);
+    if (hkr_is_placed(r, hand, esize, n)) return hkr_put_placed(r, hand, table, n, bulk, left);
+    if (!hkr_is_usual(r, hand, table, esize, n)) return hkr_put_otherwise(r, table, esize, n, bulk, left);
+    int64_t count = hkr_put_words(hand, table, n, bulk);
+    if (left) *left = (unsigned int)hk_hand_left(hand);
+    return hkr_elements(count);
 }
 
 static __rte_always_inline unsigned int hkr_dequeue(struct rte_ring *r, void *table, unsigned int esize,
                                                     unsigned int n, int bulk, unsigned int *left) {
     hk_hand *hand = hk_hands_mine(&r->take->hands);
-    size_t words = (size_t)n * r->per;
-    if (!hkr_is_usual(r, hand, table, esize, words)) return hkr_take_otherwise(r, table, esize, n, bulk, left);
-    int64_t count = hk_take(hand, (uint64_t *)table, words, bulk);
-    if (left) *left = hkr_elements(r, hk_hand_left(hand));
-    return likely(count == (int64_t)words) ? n : hkr_elements(r, count);
+    if (hkr_is_placed(r, hand, esize, n)) return hkr_take_placed(r, hand, table, n, bulk, left);
+    if (!hkr_is_usual(r, hand, table, esize, n)) return hkr_take_otherwise(r, table, esize, n, bulk, left);
+    int64_t count = hkr_take_words(hand, table, n, bulk);
+    if (left) *left = (unsigned int)hk_hand_left(hand);
+    return hkr_elements(count);
 }
 
 /* The six calls of rte_ring for each of these prefixes. */

@@ -1,5 +1,6 @@
-/* rte_ring's peeks, part of hokhtura_rte.h. A peek of more than HK_MOST words is refused if it is a bulk, and has fewer
- * if it is a burst. Zero copy works on an array beside the ring, and costs one copy. */
+/* rte_ring's peeks, part of hokhtura_rte.h. A peek of more than HK_MOST elements is refused if it is a bulk, and has
+ * fewer if it is a burst. Zero copy shows the places of elements that have places. Words are on an array beside the
+ * ring, and so are copied once. */
 #ifndef HK_RTE_PEEKS_H
 #define HK_RTE_PEEKS_H 1
 
@@ -8,67 +9,76 @@ extern "C" {
 #endif
 
 struct rte_ring_zc_data {
-    void *ptr1;      /* all elements: none wraps around here */
-    void *ptr2;      /* null */
+    void *ptr1;      /* the first elements */
+    void *ptr2;      /* the others, or null if there are none */
     unsigned int n1; /* how many are at ptr1 */
 } __rte_cache_aligned;
 
-/* How many words to peek for n elements, or 0 if it is none or too many. */
-static inline size_t hkr_peek_words(const struct rte_ring *r, unsigned int n, int bulk) {
-    size_t most = HK_MOST / r->per;
-    return n <= most ? n * r->per : bulk ? 0 : most * r->per;
+/* How many elements to peek at for n, or 0 if none: a side of many threads has no peeks, as in rte_ring. */
+static inline size_t hkr_peeked(const struct rte_ring *r, enum rte_ring_sync_type sync, unsigned int esize,
+                                unsigned int n, int bulk) {
+    if (esize != r->esize || !hkr_peeks(sync)) return 0;
+    return n <= HK_MOST ? n : bulk ? 0 : HK_MOST;
 }
 
 static inline unsigned int hkr_peek_put(struct rte_ring *r, unsigned int esize, unsigned int n, int bulk,
                                         unsigned int *left) {
     hk_hand *hand = hk_hands_mine(&r->put->hands);
-    size_t words = hkr_peek_words(r, n, bulk);
-    int64_t count = 0;
+    size_t most = hkr_peeked(r, r->prod_sync, esize, n, bulk);
     if (left) *left = 0;
-    if (!hand || esize != r->esize || words == 0) return 0;
-    do count = bulk ? hk_ring_peek_put_bulk(hand, 0, words) : hk_ring_peek_put_burst(hand, 0, words);
-    while (count == HK_E_AGAIN && (rte_pause(), 1));
+    if (!hand || most == 0) return 0;
+    int64_t count = hkr_reserve_put(r, hand, most, bulk);
     if (count > 0) r->put->open = (uint64_t)count;
-    if (left) *left = hkr_elements(r, hk_hand_left(hand));
-    return hkr_elements(r, count);
+    if (left) *left = hkr_elements(hk_hand_left(hand));
+    return hkr_elements(count);
 }
 
 /* Shows words in the side's own room, which is this thread's until it finishes. */
 static inline unsigned int hkr_peek_take(struct rte_ring *r, unsigned int esize, unsigned int n, int bulk,
                                          unsigned int *left) {
     hk_hand *hand = hk_hands_mine(&r->take->hands);
-    size_t words = hkr_peek_words(r, n, bulk);
-    uint64_t *room = r->take->room;
-    int64_t count = 0;
+    size_t most = hkr_peeked(r, r->cons_sync, esize, n, bulk);
     if (left) *left = 0;
-    if (!hand || esize != r->esize || words == 0 || !room) return 0;
-    do count = bulk ? hk_ring_peek_take_bulk(hand, 0, room, words) : hk_ring_peek_take_burst(hand, 0, room, words);
-    while (count == HK_E_AGAIN && (rte_pause(), 1));
+    if (!hand || most == 0) return 0;
+    int64_t count = hkr_reserve_take(r, hand, most, bulk);
     if (count > 0) r->take->open = (uint64_t)count;
-    if (left) *left = hkr_elements(r, hk_hand_left(hand));
-    return hkr_elements(r, count);
+    if (left) *left = hkr_elements(hk_hand_left(hand));
+    return hkr_elements(count);
 }
 
+/* The elements that a peek shows. */
+static inline void hkr_copy_shown(const struct rte_ring *r, void *table, unsigned int n) {
+    if (r->elements) hkr_copy_out(r, r->take->room[0], table, n);
+    else memcpy(table, r->take->room, n * sizeof(uint64_t));
+}
+
+/* Puts the first n elements of a peek: those of a table, or those that are in their places, if it is null. A peek that
+ * this thread hasn't open isn't finished. */
 static inline void hkr_finish_put(struct rte_ring *r, const void *table, unsigned int n) {
     hk_hand *hand = hk_hands_mine(&r->put->hands);
-    const uint64_t *words = (const uint64_t *)table;
-    if (!hand) return;
-    if (!hkr_is_array(r, table) && r->put->room) {
-        hkr_pack(r, r->put->room, table, n);
-        words = r->put->room;
+    if (!hand || hk_hand_span(hand) != 1 || !r->put->room || n > r->put->open) return;
+    if (r->elements) {
+        if (table) hkr_copy_in(r, r->put->next, table, n);
+        hkr_put_places(r, hand, n);
+    } else {
+        if (table) memcpy(r->put->room, table, n * sizeof(uint64_t));
+        hkr_finishes(r);
+        (void)!hk_ring_finish_put(hand, r->put->room, n);
     }
-    (void)!hk_ring_finish_put(hand, words, (size_t)n * r->per);
 }
 
 static inline void hkr_finish_take(struct rte_ring *r, unsigned int n) {
     hk_hand *hand = hk_hands_mine(&r->take->hands);
-    if (hand) (void)!hk_ring_finish_take(hand, (size_t)n * r->per);
+    hkr_finishes(r);
+    if (hand) (void)!hk_ring_finish_take(hand, n);
 }
 
-static inline void hkr_show(struct hkr_side *side, struct rte_ring_zc_data *zcd, unsigned int n) {
-    zcd->ptr1 = side->room;
-    zcd->ptr2 = NULL;
-    zcd->n1 = n;
+/* Shows n elements from a place on, or n words. */
+static inline void hkr_show(const struct rte_ring *r, struct hkr_side *side, uint64_t place, unsigned int n,
+                            struct rte_ring_zc_data *zcd) {
+    zcd->n1 = r->elements ? (unsigned int)hkr_before_end(r, place, n) : n;
+    zcd->ptr1 = r->elements ? (void *)hkr_at(r, place) : side->room;
+    zcd->ptr2 = zcd->n1 < n ? r->elements : NULL;
 }
 
 #define HKR_PEEKS(how, bulk)                                                                                        \
@@ -84,7 +94,7 @@ static inline void hkr_show(struct hkr_side *side, struct rte_ring_zc_data *zcd,
                                                                    unsigned int esize, unsigned int n,              \
                                                                    unsigned int *left) {                            \
         n = hkr_peek_take(r, esize, n, bulk, left);                                                                 \
-        if (n != 0) hkr_unpack(r, table, r->take->room, n);                                                         \
+        if (n != 0) hkr_copy_shown(r, table, n);                                                                    \
         return n;                                                                                                   \
     }                                                                                                               \
     static inline unsigned int rte_ring_dequeue_##how##_start(struct rte_ring *r, void **table, unsigned int n,     \
@@ -94,7 +104,7 @@ static inline void hkr_show(struct hkr_side *side, struct rte_ring_zc_data *zcd,
     static inline unsigned int rte_ring_enqueue_zc_##how##_elem_start(                                              \
         struct rte_ring *r, unsigned int esize, unsigned int n, struct rte_ring_zc_data *zcd, unsigned int *left) { \
         n = hkr_peek_put(r, esize, n, bulk, left);                                                                  \
-        hkr_show(r->put, zcd, n);                                                                                   \
+        hkr_show(r, r->put, r->put->next, n, zcd);                                                                  \
         return n;                                                                                                   \
     }                                                                                                               \
     static inline unsigned int rte_ring_enqueue_zc_##how##_start(                                                   \
@@ -104,8 +114,7 @@ static inline void hkr_show(struct hkr_side *side, struct rte_ring_zc_data *zcd,
     static inline unsigned int rte_ring_dequeue_zc_##how##_elem_start(                                              \
         struct rte_ring *r, unsigned int esize, unsigned int n, struct rte_ring_zc_data *zcd, unsigned int *left) { \
         n = hkr_peek_take(r, esize, n, bulk, left);                                                                 \
-        if (n != 0 && !r->is_plain) hkr_unpack(r, r->take->room, r->take->room, n);                                 \
-        hkr_show(r->take, zcd, n);                                                                                  \
+        hkr_show(r, r->take, n != 0 ? r->take->room[0] : 0, n, zcd);                                                \
         return n;                                                                                                   \
     }                                                                                                               \
     static inline unsigned int rte_ring_dequeue_zc_##how##_start(                                                   \
@@ -130,11 +139,7 @@ static inline void rte_ring_dequeue_elem_finish(struct rte_ring *r, unsigned int
 
 static inline void rte_ring_dequeue_finish(struct rte_ring *r, unsigned int n) { hkr_finish_take(r, n); }
 
-static inline void rte_ring_enqueue_zc_elem_finish(struct rte_ring *r, unsigned int n) {
-    if (!r->is_plain && r->put->room) hkr_pack(r, r->put->room, r->put->room, n);
-    hk_hand *hand = hk_hands_mine(&r->put->hands);
-    if (hand) (void)!hk_ring_finish_put(hand, r->put->room, (size_t)n * r->per);
-}
+static inline void rte_ring_enqueue_zc_elem_finish(struct rte_ring *r, unsigned int n) { hkr_finish_put(r, NULL, n); }
 
 static inline void rte_ring_enqueue_zc_finish(struct rte_ring *r, unsigned int n) {
     rte_ring_enqueue_zc_elem_finish(r, n);

@@ -1,9 +1,10 @@
 /* rte_ring's calls over the rings of the library. It stands for rte_ring.h and its parts: compile a program with
  * -include hokhtura_rte.h, or include it before any header of DPDK.
  *
- * An element of `esize` bytes takes (esize + 7) / 8 words of a ring, which holds 2^20 - 1 words at most. A ring is
- * private memory of its process. docs/DPDK.md has what differs from rte_ring otherwise; what has no counterpart here
- * doesn't compile (hk_rte_refused.h). */
+ * An element of 8 bytes is a word of a ring of the library. Elements of another size are in an array beside the ring,
+ * and its words say where (hk_rte_places.h). A ring holds 2^20 - 1 elements at most, and is private memory of its
+ * process. docs/DPDK.md has what differs from rte_ring otherwise; what has no counterpart here doesn't compile
+ * (hk_rte_refused.h). */
 #ifndef HOKHTURA_RTE_H
 #define HOKHTURA_RTE_H 1
 
@@ -56,16 +57,18 @@ enum rte_ring_queue_behavior { RTE_RING_QUEUE_FIXED = 0, RTE_RING_QUEUE_VARIABLE
 
 enum rte_ring_sync_type { RTE_RING_SYNC_MT, RTE_RING_SYNC_ST, RTE_RING_SYNC_MT_RTS, RTE_RING_SYNC_MT_HTS };
 
-/* The most words of a ring, and of one piece of a call whose elements are copied to words. */
-#define HKR_WORDS ((1u << 20) - 1)
+/* The most elements of a ring, and of one piece of a call whose elements are copied to words. */
+#define HKR_ELEMENTS ((1u << 20) - 1)
 #define HKR_PIECE 512u
 
-/* One side of a ring. What is below `of_long` belongs to the thread that has a peek open there, and only one has. */
+/* One side of a ring. What is below `of_long` belongs to the thread that has reserved positions there, and only one
+ * has, since all of it is for head/tail-sync sides. */
 struct hkr_side {
     struct hk_handles hands;
     pthread_mutex_t of_long; /* bulks of several pieces, one at a time: two would wait for what the other one has */
-    uint64_t open;  /* how many words that peek has */
-    uint64_t *room; /* HK_MOST words, or null on a side without peeks */
+    uint64_t open;  /* how many positions its peek has */
+    uint64_t next;  /* of a put side: the place of the next element, if elements have places */
+    uint64_t *room; /* HK_MOST words, or null on a multi side */
 };
 
 struct rte_ring {
@@ -73,8 +76,9 @@ struct rte_ring {
     int flags;
     uint32_t size, mask, capacity;
     /* What a DPDK program doesn't look at. */
-    uint32_t esize, per; /* bytes and words of an element */
-    int is_plain;        /* an array of elements is an array of words */
+    uint32_t esize;   /* bytes of an element */
+    char *elements;   /* a place for each element; null if elements are words */
+    uint64_t *places; /* the numbers of the places, in turn, for a call that begins at any of them */
     int is_created;
     enum rte_ring_sync_type prod_sync, cons_sync;
     struct hkr_side *put, *take;
@@ -106,13 +110,21 @@ static inline int hkr_peeks(enum rte_ring_sync_type sync) {
     return sync == RTE_RING_SYNC_ST || sync == RTE_RING_SYNC_MT_HTS;
 }
 
+/* The mode of a side. If elements have places, both sides need peeks, whatever the flags say. */
+static inline uint32_t hkr_mode(const struct rte_ring *r, enum rte_ring_sync_type sync) {
+    return hkr_peeks(sync) || r->elements ? HK_HTS : HK_MULTI;
+}
+
+/* So many bytes, which begin on a cache line; null if there is no memory. */
+static inline void *hkr_memory(size_t bytes) { return aligned_alloc(64, RTE_ALIGN_CEIL(bytes, 64)); }
+
 /* A side with this first hand, which it takes over; null if there is no memory. */
-static inline struct hkr_side *hkr_side_open(hk_hand *first, enum rte_ring_sync_type sync) {
-    struct hkr_side *side = (struct hkr_side *)aligned_alloc(64, RTE_ALIGN_CEIL(sizeof *side, 64));
+static inline struct hkr_side *hkr_side_open(hk_hand *first, uint32_t mode) {
+    struct hkr_side *side = (struct hkr_side *)hkr_memory(sizeof *side);
     if (!side) return NULL;
-    side->open = 0;
-    side->room = hkr_peeks(sync) ? (uint64_t *)aligned_alloc(64, HK_MOST * sizeof(uint64_t)) : NULL;
-    if ((side->room || !hkr_peeks(sync)) && hk_hands_open(&side->hands, first)) {
+    side->open = side->next = 0;
+    side->room = mode == HK_HTS ? (uint64_t *)hkr_memory(HK_MOST * sizeof(uint64_t)) : NULL;
+    if ((side->room || mode != HK_HTS) && hk_hands_open(&side->hands, first)) {
         pthread_mutex_init(&side->of_long, NULL);
         return side;
     }
@@ -131,19 +143,39 @@ static inline void hkr_side_close(struct hkr_side *side) {
 
 /* Both sides of a ring whose other fields are there. */
 static inline int hkr_sides_open(struct rte_ring *r) {
-    hk_ring_plan plan = {r->capacity * r->per, 1, hkr_peeks(r->prod_sync) ? HK_HTS : HK_MULTI,
-                         hkr_peeks(r->cons_sync) ? HK_HTS : HK_MULTI, 0, 0};
+    hk_ring_plan plan = {r->capacity, 1, hkr_mode(r, r->prod_sync), hkr_mode(r, r->cons_sync), 0, 0};
     hk_hand *put, *take;
     if (hk_hand_open(&put, &plan, 1) < 0) return -ENOMEM;
     if (hk_hand_split(put, &take) < 0) take = NULL;
-    r->put = hkr_side_open(put, r->prod_sync);
-    r->take = take ? hkr_side_open(take, r->cons_sync) : NULL;
+    r->put = hkr_side_open(put, plan.put);
+    r->take = take ? hkr_side_open(take, plan.take) : NULL;
     if (r->put && r->take) return 0;
     if (!r->take) hk_hand_free(take);
     else hkr_side_close(r->take);
     if (!r->put) hk_hand_free(put);
     else hkr_side_close(r->put);
     return -ENOMEM;
+}
+
+/* The places of elements that aren't words. The numbers of a call's places go on after the last one. */
+static inline int hkr_places_open(struct rte_ring *r) {
+    size_t numbers = r->capacity + RTE_MIN(r->capacity, (uint32_t)HK_MOST);
+    r->elements = (char *)hkr_memory((size_t)r->capacity * r->esize);
+    r->places = (uint64_t *)hkr_memory(numbers * sizeof(uint64_t));
+    for (size_t i = 0; i < numbers && r->places; i++) r->places[i] = i % r->capacity;
+    return r->elements && r->places ? 0 : -ENOMEM;
+}
+
+static inline void hkr_places_close(struct rte_ring *r) {
+    free(r->elements);
+    free(r->places);
+}
+
+static inline int hkr_open(struct rte_ring *r) {
+    int code = r->esize == sizeof(uint64_t) ? 0 : hkr_places_open(r);
+    if (code == 0) code = hkr_sides_open(r);
+    if (code < 0) hkr_places_close(r);
+    return code;
 }
 
 static inline int hkr_is_size(unsigned int count, unsigned int flags) {
@@ -162,14 +194,11 @@ static inline int hkr_init(struct rte_ring *r, const char *name, unsigned int es
     r->size = flags & RING_F_EXACT_SZ ? rte_align32pow2(count + 1) : count;
     r->mask = r->size - 1;
     r->esize = esize;
-    r->per = (esize + 7) / 8;
-    r->is_plain = esize % 8 == 0;
     if (!hkr_sync(&r->prod_sync, flags, RING_F_SP_ENQ, RING_F_MP_RTS_ENQ, RING_F_MP_HTS_ENQ) ||
         !hkr_sync(&r->cons_sync, flags, RING_F_SC_DEQ, RING_F_MC_RTS_DEQ, RING_F_MC_HTS_DEQ))
         return -EINVAL;
-    if (r->per <= HKR_PIECE && (uint64_t)r->capacity * r->per <= HKR_WORDS) return hkr_sides_open(r);
-    RTE_LOG(ERR, RING, "%s: %u elements of %u bytes: a ring of hokhtura holds %u words, an element %u\n", name,
-            r->capacity, esize, HKR_WORDS, HKR_PIECE);
+    if (r->capacity <= HKR_ELEMENTS) return hkr_open(r);
+    RTE_LOG(ERR, RING, "%s: %u elements, and a ring of hokhtura holds %u\n", name, r->capacity, HKR_ELEMENTS);
     return -EINVAL;
 }
 
@@ -203,7 +232,7 @@ static inline struct rte_ring *rte_ring_lookup(const char *name) {
 
 static inline struct rte_ring *rte_ring_create_elem(const char *name, unsigned int esize, unsigned int count,
                                                     int socket_id, unsigned int flags) {
-    struct rte_ring *r = (struct rte_ring *)aligned_alloc(64, RTE_ALIGN_CEIL(sizeof *r, 64));
+    struct rte_ring *r = (struct rte_ring *)hkr_memory(sizeof *r);
     int code = -ENOMEM;
     (void)socket_id;
     pthread_mutex_lock(&hkr_names.lock);
@@ -234,6 +263,7 @@ static inline void rte_ring_free(struct rte_ring *r) {
     pthread_mutex_unlock(&hkr_names.lock);
     hkr_side_close(r->put);
     hkr_side_close(r->take);
+    hkr_places_close(r);
     if (r->is_created) free(r);
 }
 
@@ -241,6 +271,7 @@ static inline void rte_ring_free(struct rte_ring *r) {
 }
 #endif
 
+#include "hk_rte_places.h"
 #include "hk_rte_calls.h"
 #include "hk_rte_looks.h"
 #include "hk_rte_peeks.h"

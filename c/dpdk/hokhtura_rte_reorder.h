@@ -69,12 +69,8 @@ static inline size_t hko_bytes(unsigned int size) {
 /* In memory of the caller. rte_reorder_free frees what it has beside that. */
 static inline struct rte_reorder_buffer *rte_reorder_init(struct rte_reorder_buffer *b, unsigned int bufsize,
                                                           const char *name, unsigned int size) {
-    static const struct rte_mbuf_dynfield field = {
-        .name = "rte_reorder_seqn_dynfield",
-        .size = sizeof(rte_reorder_seqn_t),
-        .align = __alignof__(rte_reorder_seqn_t),
-        .flags = 0,
-    };
+    static const struct rte_mbuf_dynfield field = {"rte_reorder_seqn_dynfield", sizeof(rte_reorder_seqn_t),
+                                                   __alignof__(rte_reorder_seqn_t), 0};
     if (!b || !name || !rte_is_power_of_2(size) || size > HKO_MOST || bufsize < hko_bytes(size)) {
         rte_errno = EINVAL;
         return NULL;

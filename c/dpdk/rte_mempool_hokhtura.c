@@ -33,6 +33,9 @@ _Static_assert(sizeof(void *) == sizeof(uint64_t), "a pointer is a word");
 static struct hk_handles *rings[1 + RTE_MAX_MEMZONE];
 static pthread_mutex_t of_rings = PTHREAD_MUTEX_INITIALIZER;
 
+/* The hands of lcores that have called, by the numbers of rings: a call finds its own by one load. */
+static hk_hand *of_lcores[RTE_DIM(rings)][RTE_MAX_LCORE];
+
 /* ---- Memory of the rings: DPDK's, on the socket of the mempool ----------------------------------------------------*/
 
 static __thread int socket_id = SOCKET_ID_ANY;
@@ -104,6 +107,7 @@ static int make_hts(struct rte_mempool *mp) { return make(mp, HK_HTS); }
 static void end(struct rte_mempool *mp) {
     struct hk_handles *hands = ring_of(mp);
     if (!hands) return;
+    memset(of_lcores[mp->pool_id], 0, sizeof of_lcores[0]);
     pthread_mutex_lock(&of_rings);
     rings[mp->pool_id] = NULL;
     pthread_mutex_unlock(&of_rings);
@@ -114,54 +118,104 @@ static void end(struct rte_mempool *mp) {
 
 /* ---- Objects ------------------------------------------------------------------------------------------------------*/
 
-static __rte_always_inline int put(hk_hand *hand, const uint64_t *words, unsigned n) {
-    if (likely(n <= HK_MOST)) return likely(hk_put(hand, words, n, 1) >= 0) ? 0 : -ENOBUFS;
-    return hk_put_pieces(hand, words, n) == n ? 0 : -ENOBUFS;
+/* The hand that this lcore has called with; null if it hasn't, and for another thread. */
+static __rte_always_inline hk_hand *hand_at_once(const struct rte_mempool *mp) {
+    unsigned lcore = rte_lcore_id();
+    return likely(lcore < RTE_MAX_LCORE && mp->pool_id < RTE_DIM(rings)) ? of_lcores[mp->pool_id][lcore] : NULL;
+}
+
+/* The hand of this thread on a ring, or null if there is no memory for it. */
+static hk_hand *hand_of(const struct rte_mempool *mp, struct hk_handles *hands) {
+    unsigned lcore = rte_lcore_id();
+    hk_hand *hand = hk_hands_mine(hands);
+    if (lcore < RTE_MAX_LCORE) of_lcores[mp->pool_id][lcore] = hand;
+    return hand;
+}
+
+/* What a call needs to go on after its first try. It is in memory, so that a first try that succeeds saves no
+ * registers. */
+struct put_call {
+    hk_hand *hand;
+    const uint64_t *words;
+    unsigned n;
+};
+
+struct take_call {
+    hk_hand *hand;
+    uint64_t *words;
+    unsigned n;
+};
+
+/* The first try. A count that isn't one of the library's is refused before anything else. */
+static __rte_always_inline int64_t try_put(const struct put_call *call) {
+    return call->n == 1 ? hk_ring_try_put_one(call->hand, 0, call->words[0])
+                        : hk_ring_try_put_bulk(call->hand, 0, call->words, call->n);
+}
+
+static __rte_always_inline int64_t try_take(const struct take_call *call) {
+    return call->n == 1 ? hk_ring_try_take_one(call->hand, 0, call->words)
+                        : hk_ring_try_take_bulk(call->hand, 0, call->words, call->n);
+}
+
+/* Goes on after a first try that returned a code. */
+static __rte_noinline int put_on(const struct put_call *call, int64_t code) {
+    if (code == HK_E_COUNT) return hk_put_pieces(call->hand, call->words, call->n) == call->n ? 0 : -ENOBUFS;
+    return hk_put_on(call->hand, call->words, call->n, 1, code) >= 0 ? 0 : -ENOBUFS;
 }
 
 /* All or none: what was taken of too few objects goes back. There is room for it, since there is for all objects. */
-static __rte_noinline int take_long(hk_hand *hand, uint64_t *words, unsigned n) {
-    size_t got = hk_take_pieces(hand, words, n);
-    if (got == n) return 0;
-    (void)hk_put_pieces(hand, words, got);
+static int take_long(const struct take_call *call) {
+    size_t got = hk_take_pieces(call->hand, call->words, call->n);
+    if (got == call->n) return 0;
+    (void)hk_put_pieces(call->hand, call->words, got);
     return -ENOBUFS;
 }
 
-static __rte_always_inline int take(hk_hand *hand, uint64_t *words, unsigned n) {
-    if (unlikely(n > HK_MOST)) return take_long(hand, words, n);
-    return likely(hk_take(hand, words, n, 1) >= 0) ? 0 : -ENOBUFS;
+static __rte_noinline int take_on(const struct take_call *call, int64_t code) {
+    if (code == HK_E_COUNT) return take_long(call);
+    return hk_take_on(call->hand, call->words, call->n, 1, code) >= 0 ? 0 : -ENOBUFS;
+}
+
+static __rte_always_inline int put(const struct put_call *call) {
+    int64_t code = try_put(call);
+    return likely(code >= 0) ? 0 : put_on(call, code);
+}
+
+static __rte_always_inline int take(const struct take_call *call) {
+    int64_t code = try_take(call);
+    return likely(code >= 0) ? 0 : take_on(call, code);
 }
 
 /* rte_mempool doesn't look at what an enqueue returns, so it mustn't fail: a thread that has no memory for a hand of
  * its own borrows one. */
-static __rte_noinline int put_borrowed(struct hk_handles *hands, const uint64_t *words, unsigned n) {
-    int code = put(hk_hands_borrow(hands), words, n);
-    hk_handles_return(hands);
+static __rte_noinline int put_otherwise(const struct rte_mempool *mp, const uint64_t *words, unsigned n) {
+    struct hk_handles *hands = ring_of(mp);
+    if (!hands) return no_ring();
+    hk_hand *hand = hand_of(mp, hands);
+    int code = put(&(struct put_call){hand ? hand : hk_hands_borrow(hands), words, n});
+    if (!hand) hk_handles_return(hands);
     return code;
 }
 
-static __rte_noinline int take_borrowed(struct hk_handles *hands, uint64_t *words, unsigned n) {
-    int code = take(hk_hands_borrow(hands), words, n);
-    hk_handles_return(hands);
+static __rte_noinline int take_otherwise(const struct rte_mempool *mp, uint64_t *words, unsigned n) {
+    struct hk_handles *hands = ring_of(mp);
+    if (!hands) return no_ring();
+    hk_hand *hand = hand_of(mp, hands);
+    int code = take(&(struct take_call){hand ? hand : hk_hands_borrow(hands), words, n});
+    if (!hand) hk_handles_return(hands);
     return code;
 }
 
 static int enqueue(struct rte_mempool *mp, void *const *objects, unsigned n) {
     const uint64_t *words = (const uint64_t *)(const void *)objects;
-    struct hk_handles *hands = ring_of(mp);
-    if (unlikely(!hands)) return no_ring();
-    if (unlikely(n == 0)) return 0;
-    hk_hand *hand = hk_hands_mine(hands);
-    return likely(hand != NULL) ? put(hand, words, n) : put_borrowed(hands, words, n);
+    hk_hand *hand = hand_at_once(mp);
+    return likely(hand != NULL) ? put(&(struct put_call){hand, words, n}) : put_otherwise(mp, words, n);
 }
 
 static int dequeue(struct rte_mempool *mp, void **objects, unsigned n) {
     uint64_t *words = (uint64_t *)(void *)objects;
-    struct hk_handles *hands = ring_of(mp);
-    if (unlikely(!hands)) return no_ring();
-    if (unlikely(n == 0)) return 0;
-    hk_hand *hand = hk_hands_mine(hands);
-    return likely(hand != NULL) ? take(hand, words, n) : take_borrowed(hands, words, n);
+    hk_hand *hand = hand_at_once(mp);
+    return likely(hand != NULL) ? take(&(struct take_call){hand, words, n}) : take_otherwise(mp, words, n);
 }
 
 static int64_t look(const hk_hand *hand) {

@@ -112,16 +112,16 @@ static void sizes(void) {
     is_refused(MOST_OBJECTS + 1, EINVAL);
 }
 
-/* A long get takes all or none, also if there is enough for its first piece. */
+/* A long get takes all or none, also if there is enough for its first piece: what that took goes back. */
 static void all_or_none(void) {
-    void *objects[2000], *others[2000];
-    struct rte_mempool *mp = pool_of(3500);
+    static void *objects[5000], *others[5000];
+    struct rte_mempool *mp = pool_of(9500);
     CHECK(mp != NULL);
     if (!mp) return;
-    CHECK(rte_mempool_get_bulk(mp, objects, 2000) == 0);
-    CHECK(rte_mempool_get_bulk(mp, others, 2000) == -ENOBUFS);
-    CHECK(rte_mempool_avail_count(mp) == 1500);
-    rte_mempool_put_bulk(mp, objects, 2000);
+    CHECK(rte_mempool_get_bulk(mp, objects, 5000) == 0);
+    CHECK(rte_mempool_get_bulk(mp, others, 5000) == -ENOBUFS);
+    CHECK(rte_mempool_avail_count(mp) == 4500);
+    rte_mempool_put_bulk(mp, objects, 5000);
     all_there(mp);
     rte_mempool_free(mp);
 }
@@ -185,6 +185,17 @@ static void *registered(void *at) {
     return takes_and_puts(at);
 }
 
+/* All threads have the hands of their lcores at the same time, and then hands of their own. */
+static void *registered_together(void *at) {
+    CHECK(rte_thread_register() == 0);
+    takes_and_puts(at);
+    (void)pthread_barrier_wait(&barrier);
+    rte_thread_unregister();
+    takes_and_puts(at);
+    (void)pthread_barrier_wait(&barrier);
+    return NULL;
+}
+
 static void *together(void *at) {
     void *object;
     CHECK(rte_mempool_get(at, &object) == 0);
@@ -208,9 +219,8 @@ static void run(struct rte_mempool *mp, unsigned n, unsigned side_by_side, void 
 static void come_and_go(void) {
     struct rte_mempool *mp = pool_of(5000);
     CHECK(mp != NULL);
-    if (!mp) return;
-    run(mp, 4, 4, registered);
-    run(mp, 16, 4, takes_and_puts);
+    if (!mp || pthread_barrier_init(&barrier, NULL, 4) != 0) return;
+    run(mp, 4, 4, registered_together);
     long before = requests;
     run(mp, ROUNDS * THREADS, 4, takes_and_puts);
     run(mp, ROUNDS * 4, 4, registered);
@@ -234,7 +244,7 @@ static void many(void) {
 }
 
 /* A mempool that is freed and made anew isn't taken for the one before by a thread that used that. */
-static void *anew_elsewhere(void *at) {
+static void *makes_anew(void *at) {
     (void)at;
     for (int round = 0; round < 100; round++) {
         struct rte_mempool *mp = pool_of(100);
@@ -246,7 +256,10 @@ static void *anew_elsewhere(void *at) {
     return NULL;
 }
 
-static void anew(void) { run(NULL, 1, 1, anew_elsewhere); }
+static void anew(void) {
+    run(NULL, 1, 1, makes_anew);
+    (void)makes_anew(NULL); /* by an lcore */
+}
 
 static const struct {
     const char *name;

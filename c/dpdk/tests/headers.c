@@ -21,15 +21,20 @@ static int wrong;
 
 /* ---- Memory -------------------------------------------------------------------------------------------------------*/
 
-/* Which request is refused, with all after it, or 0; how many were made, and how many blocks aren't freed. */
+/* Which request is refused, with all after it unless it is only that one, or 0; how many were made, and how many blocks
+ * aren't freed. */
 static _Atomic long refused, requests, blocks;
+static _Atomic int is_only;
 
 static void *counted(void *at) {
     blocks += at != NULL;
     return at;
 }
 
-static int refuses(void) { return ++requests >= refused && refused != 0; }
+static int refuses(void) {
+    long number = ++requests;
+    return refused != 0 && (is_only ? number == refused : number >= refused);
+}
 
 void *__real_malloc(size_t size);
 void *__real_calloc(size_t n, size_t size);
@@ -53,19 +58,16 @@ void __wrap_free(void *at) {
 }
 
 /* Makes one thing, and refuses each request for memory in turn until nothing is refused any more. */
-static void refuse_each(void *(*make)(void), void (*end)(void *)) {
-    void *made = make(); /* what stays for the next one is there then */
-    CHECK(made != NULL);
-    end(made);
+static void refuse_in_turn(void *(*make)(void), void (*end)(void *)) {
     long before = blocks, tried = 0;
-    made = NULL;
+    void *made = NULL;
     while (!made && tried < 1000) {
         CHECK(blocks == before);
         requests = 0;
         refused = ++tried;
         rte_errno = 0;
         made = make();
-        CHECK(made || rte_errno == ENOMEM);
+        CHECK(made ? requests < refused : rte_errno == ENOMEM);
     }
     refused = 0;
     printf("%ld requests were refused\n", tried - 1);
@@ -74,9 +76,24 @@ static void refuse_each(void *(*make)(void), void (*end)(void *)) {
     CHECK(blocks == before);
 }
 
+/* With all requests after it, and then alone. */
+static void refuse_each(void *(*make)(void), void (*end)(void *)) {
+    void *made = make(); /* what stays for the next one is there then */
+    CHECK(made != NULL);
+    end(made);
+    refuse_in_turn(make, end);
+    is_only = 1;
+    refuse_in_turn(make, end);
+    is_only = 0;
+}
+
 static void *a_ring(void) { return rte_ring_create("r", 64, SOCKET_ID_ANY, RING_F_SP_ENQ | RING_F_MC_HTS_DEQ); }
 static void end_ring(void *at) { rte_ring_free(at); }
 static void ring_memory(void) { refuse_each(a_ring, end_ring); }
+
+/* One with elements that have places beside the ring. */
+static void *a_wide_ring(void) { return rte_ring_create_elem("w", 12, 64, SOCKET_ID_ANY, 0); }
+static void wide_memory(void) { refuse_each(a_wide_ring, end_ring); }
 
 static void *a_table(void) {
     struct rte_lpm_config config = {.max_rules = 4, .number_tbl8s = 4, .flags = 0};
@@ -101,6 +118,10 @@ static void *without_memory(void *at) {
     CHECK(rte_ring_count(r) == 1);
     CHECK(rte_ring_dequeue(r, &object) == 0 && object == r);
     CHECK(rte_ring_enqueue_bulk_start(r, 1, NULL) == 0);
+    struct rte_ring *wide = rte_ring_lookup("w");
+    uint32_t element[3] = {1, 2, 3}, got[3] = {0, 0, 0};
+    CHECK(rte_ring_enqueue_elem(wide, element, sizeof element) == 0);
+    CHECK(rte_ring_dequeue_elem(wide, got, sizeof got) == 0 && !memcmp(element, got, sizeof got));
     CHECK(rte_lpm_lookup(lpm, 0x0a000001, &hop) == 0 && hop == 7);
     CHECK(requests > 0);
     refused = 0;
@@ -109,11 +130,12 @@ static void *without_memory(void *at) {
 
 static void no_hand(void) {
     pthread_t thread;
-    struct rte_ring *r = a_ring();
+    struct rte_ring *r = a_ring(), *wide = a_wide_ring();
     struct rte_lpm *lpm = a_table();
-    CHECK(r && lpm && rte_lpm_add(lpm, 0x0a000000, 8, 7) == 0);
+    CHECK(r && wide && lpm && rte_lpm_add(lpm, 0x0a000000, 8, 7) == 0);
     CHECK(pthread_create(&thread, NULL, without_memory, r) == 0 && pthread_join(thread, NULL) == 0);
     rte_ring_free(r);
+    rte_ring_free(wide);
     rte_lpm_free(lpm);
 }
 
@@ -121,11 +143,14 @@ static void no_hand(void) {
 
 static void refusals(void) {
     struct rte_ring *r = rte_ring_create("r", 1u << 20, SOCKET_ID_ANY, 0);
-    CHECK(r && rte_ring_get_capacity(r) == HKR_WORDS);
+    CHECK(r && rte_ring_get_capacity(r) == HKR_ELEMENTS);
     CHECK(!rte_ring_create("r", 16, SOCKET_ID_ANY, 0) && rte_errno == EEXIST);
     rte_ring_free(r);
     CHECK(!rte_ring_create("r", 1u << 21, SOCKET_ID_ANY, 0) && rte_errno == EINVAL);
-    CHECK(!rte_ring_create_elem("r", 16, 1u << 20, SOCKET_ID_ANY, 0) && rte_errno == EINVAL);
+    r = rte_ring_create_elem("r", 16, 1u << 20, SOCKET_ID_ANY, 0);
+    CHECK(r && rte_ring_get_capacity(r) == HKR_ELEMENTS);
+    rte_ring_free(r);
+    CHECK(!rte_ring_create_elem("r", 16, 1u << 21, SOCKET_ID_ANY, 0) && rte_errno == EINVAL);
     CHECK(!rte_ring_create("r", 16, SOCKET_ID_ANY, RING_F_SP_ENQ | RING_F_MP_HTS_ENQ) && rte_errno == EINVAL);
     CHECK(!rte_ring_create("r", 16, SOCKET_ID_ANY, 0x80) && rte_errno == EINVAL);
     CHECK(!rte_ring_lookup("r") && rte_errno == ENOENT);
@@ -153,10 +178,11 @@ static void beside_a_peek(void) {
     rte_ring_free(r);
 }
 
-/* Bulks of several thousand elements of 20 bytes, from an odd address. */
+/* Bulks of several thousand elements of 20 bytes, from an odd address. When one is on the ring, there is room for the
+ * first piece of another one, but not for all of it. */
 static void long_calls(void) {
     static char in[MANY * 20 + 1], out[MANY * 20 + 1];
-    struct rte_ring *r = rte_ring_create_elem("r", 20, 8192, SOCKET_ID_ANY, 0);
+    struct rte_ring *r = rte_ring_create_elem("r", 20, 2 * MANY - 500, SOCKET_ID_ANY, RING_F_EXACT_SZ);
     CHECK(r != NULL);
     for (size_t i = 0; i < sizeof in; i++) in[i] = (char)(i * 7);
     CHECK(rte_ring_enqueue_bulk_elem(r, in + 1, 20, MANY, NULL) == MANY);
@@ -167,7 +193,151 @@ static void long_calls(void) {
     rte_ring_free(r);
 }
 
+/* ---- Elements that have places ------------------------------------------------------------------------------------*/
+
+struct element {
+    uint32_t number, other, third;
+};
+
+static struct element element_of(uint32_t number) {
+    struct element made = {number, number ^ 0x5a5a5a5a, number * 7};
+    return made;
+}
+
+static int is_element(const struct element *e, uint32_t number) {
+    struct element made = element_of(number);
+    return !memcmp(e, &made, sizeof made);
+}
+
+/* Zero copy shows the places themselves, and those after the last one are the first ones. */
+static void zero_copy(void) {
+    struct rte_ring_zc_data in, out;
+    unsigned left;
+    struct rte_ring *r = rte_ring_create_elem("r", sizeof(struct element), 10, SOCKET_ID_ANY,
+                                              RING_F_SP_ENQ | RING_F_SC_DEQ | RING_F_EXACT_SZ);
+    CHECK(r != NULL);
+    uint32_t put = 0, taken = 0;
+    for (unsigned round = 0; round < 40; round++) {
+        unsigned n = 1 + round % 9, kept = round % (n + 1);
+        CHECK(rte_ring_enqueue_zc_bulk_elem_start(r, sizeof(struct element), n, &in, &left) == n && left == 10 - n);
+        CHECK(in.n1 == RTE_MIN(n, 10 - put % 10) && (in.n1 < n) == (in.ptr2 != NULL));
+        struct element *first = in.ptr1, *second = in.ptr2;
+        for (unsigned i = 0; i < n; i++) *(i < in.n1 ? &first[i] : &second[i - in.n1]) = element_of(put + i);
+        rte_ring_enqueue_zc_elem_finish(r, kept);
+        put += kept;
+        CHECK(rte_ring_count(r) == kept);
+        CHECK(rte_ring_dequeue_zc_burst_elem_start(r, sizeof(struct element), 10, &out, &left) == kept && left == 0);
+        CHECK(kept == 0 || (out.ptr1 == in.ptr1 && out.n1 == RTE_MIN(kept, in.n1)));
+        first = out.ptr1, second = out.ptr2;
+        for (unsigned i = 0; i < kept; i++)
+            CHECK(is_element(i < out.n1 ? &first[i] : &second[i - out.n1], taken + i));
+        rte_ring_dequeue_zc_elem_finish(r, kept);
+        taken += kept;
+        CHECK(rte_ring_empty(r));
+    }
+    rte_ring_free(r);
+}
+
+/* A finish of more than the peek has, without a peek, or of elements of another size changes nothing: the places of
+ * what is put later are those that are free. */
+static void wrong_finishes(void) {
+    struct element e[9], got[8];
+    struct rte_ring *r = rte_ring_create_elem("r", sizeof e[0], 8, SOCKET_ID_ANY, RING_F_EXACT_SZ | RING_F_MP_HTS_ENQ |
+                                                                                    RING_F_MC_HTS_DEQ);
+    CHECK(r != NULL);
+    for (uint32_t i = 0; i < 9; i++) e[i] = element_of(i);
+    rte_ring_enqueue_elem_finish(r, e, sizeof e[0], 1);
+    rte_ring_dequeue_elem_finish(r, 1);
+    CHECK(rte_ring_enqueue_bulk_elem(r, e, sizeof e[0], 3, NULL) == 3);
+    CHECK(rte_ring_enqueue_bulk_elem_start(r, 4, NULL) == 4);
+    rte_ring_enqueue_elem_finish(r, e + 3, sizeof e[0], 5);
+    rte_ring_enqueue_elem_finish(r, e + 3, 8, 4);
+    CHECK(rte_ring_count(r) == 3 && rte_ring_enqueue_elem(r, e + 3, sizeof e[0]) == -ENOBUFS);
+    rte_ring_enqueue_elem_finish(r, e + 3, sizeof e[0], 2);
+    rte_ring_enqueue_elem_finish(r, e, sizeof e[0], 4);
+    CHECK(rte_ring_enqueue_bulk_elem(r, e + 5, sizeof e[0], 3, NULL) == 3 && rte_ring_full(r));
+    CHECK(rte_ring_dequeue_bulk_elem_start(r, got, sizeof e[0], 7, NULL) == 7);
+    rte_ring_dequeue_elem_finish(r, 8);
+    CHECK(rte_ring_count(r) == 8 && rte_ring_dequeue_elem(r, got, sizeof e[0]) == -ENOENT);
+    rte_ring_dequeue_elem_finish(r, 3);
+    CHECK(rte_ring_dequeue_burst_elem(r, got + 3, sizeof e[0], 5, NULL) == 5);
+    for (uint32_t i = 0; i < 8; i++) CHECK(is_element(&got[i], i));
+    rte_ring_free(r);
+}
+
+/* A side of many threads has no peeks, though it would allow them here. */
+static void no_peeks(void) {
+    struct element e = element_of(1);
+    struct rte_ring *r = a_wide_ring();
+    CHECK(r && rte_ring_enqueue_elem(r, &e, sizeof e) == 0);
+    CHECK(rte_ring_enqueue_bulk_elem_start(r, 1, NULL) == 0);
+    CHECK(rte_ring_dequeue_bulk_elem_start(r, &e, sizeof e, 1, NULL) == 0);
+    CHECK(rte_ring_dequeue_elem(r, &e, sizeof e) == 0 && is_element(&e, 1));
+    rte_ring_free(r);
+}
+
 static pthread_barrier_t barrier;
+
+enum { OF_EACH = 200000, BURST = 24, PAIRS = 2 };
+
+static _Atomic uint32_t arrived;
+
+/* Elements of each producer come in their order, each whole and once. Each third call is a peek that gives some up. */
+static void *produces(void *at) {
+    struct rte_ring *r = at;
+    static _Atomic uint32_t producers;
+    uint32_t sent = 0, mine = producers++ % PAIRS << 24;
+    struct element e[BURST];
+    for (unsigned turn = 0; sent < OF_EACH; turn++) {
+        unsigned n = RTE_MIN(1 + turn % BURST, OF_EACH - sent);
+        for (unsigned i = 0; i < n; i++) e[i] = element_of(mine | (sent + i));
+        if (turn % 3 || rte_ring_get_prod_sync_type(r) == RTE_RING_SYNC_MT) {
+            sent += rte_ring_enqueue_burst_elem(r, e, sizeof e[0], n, NULL);
+        } else if ((n = rte_ring_enqueue_burst_elem_start(r, n, NULL)) != 0) {
+            rte_ring_enqueue_elem_finish(r, e, sizeof e[0], n - turn % 2);
+            sent += n - turn % 2;
+        }
+    }
+    return NULL;
+}
+
+static void *consumes(void *at) {
+    struct rte_ring *r = at;
+    uint32_t last[PAIRS] = {0};
+    struct element e[BURST];
+    for (unsigned turn = 0; arrived < PAIRS * OF_EACH; turn++) {
+        unsigned n = 1 + turn % BURST;
+        if (turn % 3 || rte_ring_get_cons_sync_type(r) == RTE_RING_SYNC_MT) {
+            n = rte_ring_dequeue_burst_elem(r, e, sizeof e[0], n, NULL);
+        } else if ((n = rte_ring_dequeue_burst_elem_start(r, e, sizeof e[0], n, NULL)) != 0) {
+            n -= turn % 2;
+            rte_ring_dequeue_elem_finish(r, n);
+        }
+        arrived += n;
+        for (unsigned i = 0; i < n; i++) {
+            uint32_t of = e[i].number >> 24, number = e[i].number & 0xffffff;
+            CHECK(of < PAIRS && is_element(&e[i], e[i].number) && number + 1 > last[of]);
+            last[of % PAIRS] = number + 1;
+        }
+    }
+    return NULL;
+}
+
+static void side_by_side(unsigned flags) {
+    pthread_t threads[2 * PAIRS];
+    struct rte_ring *r = rte_ring_create_elem("r", sizeof(struct element), 50, SOCKET_ID_ANY, flags | RING_F_EXACT_SZ);
+    CHECK(r != NULL);
+    arrived = 0;
+    for (int i = 0; i < 2 * PAIRS; i++) CHECK(pthread_create(&threads[i], NULL, i % 2 ? consumes : produces, r) == 0);
+    for (int i = 0; i < 2 * PAIRS; i++) CHECK(pthread_join(threads[i], NULL) == 0);
+    CHECK(arrived == PAIRS * OF_EACH && rte_ring_empty(r));
+    rte_ring_free(r);
+}
+
+static void places_multi(void) { side_by_side(0); }
+static void places_hts(void) { side_by_side(RING_F_MP_HTS_ENQ | RING_F_MC_HTS_DEQ); }
+
+/* ---- Long calls beside each other ---------------------------------------------------------------------------------*/
 
 enum { LONG = 3000, RACES = 1000 };
 
@@ -244,12 +414,18 @@ static const struct {
     const char *name;
     void (*run)(void);
 } tests[] = {{"a ring without memory", ring_memory},
+             {"a ring of elements without memory", wide_memory},
              {"a table without memory", table_memory},
              {"a window without memory", window_memory},
              {"a thread without memory", no_hand},
              {"what a ring refuses", refusals},
              {"counts beside a peek", beside_a_peek},
              {"long calls", long_calls},
+             {"elements shown in their places", zero_copy},
+             {"finishes that are refused", wrong_finishes},
+             {"no peeks on a side of many threads", no_peeks},
+             {"elements of four threads", places_multi},
+             {"elements of four threads, with peeks", places_hts},
              {"long calls beside each other", long_beside_long},
              {"200 threads at once", many_threads},
              {"routes", tables}};
