@@ -20,8 +20,7 @@ extern "C" {
 
 struct hk_made {
     void *handle;
-    unsigned splits; /* of hands: how many lie between it and the first one */
-    int taken;       /* an lcore or a thread has it */
+    int taken; /* an lcore or a thread has it */
 };
 
 struct hk_handles;
@@ -29,7 +28,7 @@ struct hk_threads;
 
 /* What is done with handles of a kind. */
 struct hk_kind {
-    void (*more)(struct hk_handles *handles); /* makes spare ones, if there is memory, when one is left */
+    void (*more)(struct hk_handles *handles); /* makes a spare one, if there is memory, when one is left */
     int (*is_done)(const void *handle);       /* whether another thread can use it */
     void (*free)(void *handle);
 };
@@ -78,7 +77,7 @@ HK_THREADS_STORAGE struct hk_threads hk_threads = {PTHREAD_MUTEX_INITIALIZER, 0,
 /* ---- With the lock ------------------------------------------------------------------------------------------------*/
 
 /* Notes a handle that was made, as a spare one. */
-static inline int hk_handles_keep(struct hk_handles *handles, void *handle, unsigned splits) {
+static inline int hk_handles_keep(struct hk_handles *handles, void *handle) {
     if (handles->count == handles->room) {
         size_t room = handles->room ? 2 * handles->room : 16;
         struct hk_made *made = (struct hk_made *)realloc(handles->made, room * sizeof *made);
@@ -87,33 +86,32 @@ static inline int hk_handles_keep(struct hk_handles *handles, void *handle, unsi
         handles->room = room;
     }
     handles->made[handles->count].handle = handle;
-    handles->made[handles->count].splits = splits;
     handles->made[handles->count++].taken = 0;
     return 1;
 }
 
-/* Which spare handle has the most splits, and how many are spare. One is always. */
+/* Which spare handle is the last, and how many are spare. One is always. */
 static inline size_t hk_handles_spare(const struct hk_handles *handles, size_t *spares) {
-    size_t best = handles->count;
+    size_t last = handles->count;
     *spares = 0;
     for (size_t i = 0; i < handles->count; i++)
         if (!handles->made[i].taken) {
             ++*spares;
-            if (best == handles->count || handles->made[i].splits > handles->made[best].splits) best = i;
+            last = i;
         }
-    return best;
+    return last;
 }
 
 /* Takes a spare handle, and leaves another one. Returns which, or `count` if there is no memory for more. */
 static inline size_t hk_handles_take(struct hk_handles *handles) {
-    size_t spares, best = hk_handles_spare(handles, &spares);
+    size_t spares, spare = hk_handles_spare(handles, &spares);
     if (spares == 1) {
         handles->kind->more(handles);
-        best = hk_handles_spare(handles, &spares);
+        spare = hk_handles_spare(handles, &spares);
     }
     if (spares == 1) return handles->count;
-    handles->made[best].taken = 1;
-    return best;
+    handles->made[spare].taken = 1;
+    return spare;
 }
 
 /* ---- Threads ------------------------------------------------------------------------------------------------------*/
@@ -231,7 +229,7 @@ static inline int hk_handles_open(struct hk_handles *handles, const struct hk_ki
     handles->owner = owner;
     pthread_mutex_lock(&threads->lock);
     if (!threads->has_key) threads->has_key = pthread_key_create(&threads->key, hk_thread_ends) == 0;
-    int good = threads->has_key && hk_handles_keep(handles, first, 0) && hk_handles_place(threads, handles);
+    int good = threads->has_key && hk_handles_keep(handles, first) && hk_handles_place(threads, handles);
     pthread_mutex_unlock(&threads->lock);
     if (!good) free(handles->made);
     return good;

@@ -1,34 +1,22 @@
-/* The hands of all threads on one set of rings.
- *
- * A hand that is 63 splits away from the first one can't be split (HK_E_PARTS). So hands are split in a tree, before
- * they are needed: with each level there are twice as many. */
+/* The hands of all threads on one set of rings. */
 #ifndef HK_HANDS_H
 #define HK_HANDS_H 1
 
 #include "hk_handles.h"
 
+#include <rte_pause.h>
+
 #ifdef __cplusplus
 extern "C" {
 #endif
 
-static inline int hk_hands_split(struct hk_handles *hands, size_t which) {
-    hk_hand *other;
-    if (hk_hand_split((hk_hand *)hands->made[which].handle, &other) < 0) return 0;
-    if (hk_handles_keep(hands, other, ++hands->made[which].splits)) return 1;
-    hk_hand_free(other);
-    return 0;
-}
-
-/* Twice as many hands, at least 8, all from the spare one: it and each new one are split once in each round. */
+/* One more hand, split off the spare one. Others split hands of these rings for a moment at most. */
 static inline void hk_hands_more(struct hk_handles *hands) {
-    size_t spares, spare = hk_handles_spare(hands, &spares);
-    size_t first = hands->count, wanted = RTE_MAX(2 * first, (size_t)8);
-    while (hands->count < wanted) {
-        size_t end = hands->count;
-        if (!hk_hands_split(hands, spare)) return;
-        for (size_t i = first; i < end; i++)
-            if (!hk_hands_split(hands, i)) return;
-    }
+    size_t spares;
+    hk_hand *spare = (hk_hand *)hands->made[hk_handles_spare(hands, &spares)].handle, *other;
+    int64_t code;
+    while ((code = hk_hand_split(spare, &other)) == HK_E_AGAIN) rte_pause();
+    if (code >= 0 && !hk_handles_keep(hands, other)) hk_hand_free(other);
 }
 
 /* Nobody else can finish a peek that a hand has open. */

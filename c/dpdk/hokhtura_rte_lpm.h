@@ -73,7 +73,7 @@ static inline void hkl_more(struct hk_handles *readers) {
     pthread_mutex_lock(&lpm->lock);
     int64_t code = hk_fib_share(lpm->fib, &reader);
     pthread_mutex_unlock(&lpm->lock);
-    if (code >= 0 && !hk_handles_keep(readers, reader, 0)) hk_forward_free(reader);
+    if (code >= 0 && !hk_handles_keep(readers, reader)) hk_forward_free(reader);
 }
 
 static inline int hkl_is_done(const void *reader) {
