@@ -3,8 +3,8 @@
 //! `member` is a thread's hand on a set of rings, `opening` and `making` make it, `splitting` makes one for another
 //! thread, `member_calls` looks at rings, `closing` and `ending` close them. `reaching` finds the ring that a call is
 //! on. `whole_calls` puts and takes words in one call; `span_calls` peeks and finishes, through `peeking` and
-//! `finishing`; `holding` has the calls on a side that is held. Below these `starting` and `settling` are the two halves
-//! of a call. `word64` is a word, and `fault` what calls return.
+//! `finishing`; `holding` has the calls on a side that is held. Below these `starting` and `settling` are the two
+//! halves of a call. `word64` is a word, and `fault` what calls return.
 mod closing;
 mod ending;
 mod fault;
