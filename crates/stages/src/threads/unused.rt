@@ -4,16 +4,16 @@ ghost use Rattle.std.specs.Prelude.{◌≡◌, ◌+◌, ◌*◌, ◌<◌, ◌≤
 use crate::threads::item::RingItem;
 use stages_laws::Run;
 
-/// How many packets may wait while a thread wakes from a sleep of some 60 µs. With 256 a run over long rings took up to
-/// a tenth longer.
-const ASLEEP: usize = 128;
+/// How many packets may wait while a thread wakes from a sleep of some 60 µs, and while it works off those that came
+/// meanwhile. With 128 the threads slept almost twice as often.
+const ASLEEP: usize = 512;
 
 /// How many packets on their way are enough to keep all threads busy: a burst for the reader, the sink and each
 /// worker, and those that wait while a thread wakes.
 fn enough(workers: usize, burst: usize) -> usize
     requires workers { workers ≤ 16 }
     requires burst { burst ≤ 64 }
-    ensures { result ≡ 128 + (workers + 2) * burst }
+    ensures { result ≡ 512 + (workers + 2) * burst }
 {
     ASLEEP + (workers + 2) * burst
 }
@@ -28,7 +28,7 @@ pub(crate) struct Unused<J: Run> {
     pub(crate) all: usize,
     /// How many packets on their way are enough.
     pub(crate) enough: usize,
-    pub ghost small: { enough ≤ 1280 },
+    pub ghost small: { enough ≤ 1664 },
 }
 
 impl<J: Run> Unused<J> {
@@ -38,7 +38,7 @@ impl<J: Run> Unused<J> {
         requires burst { burst ≤ 64 }
         ensures rest { result.rest ≡ segments }
         ensures all { result.all ≡ vec_len segments }
-        ensures enough { result.enough ≡ 128 + (workers + 2) * burst }
+        ensures enough { result.enough ≡ 512 + (workers + 2) * burst }
     {
         let all = segments.len();
         Unused {
