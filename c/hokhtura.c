@@ -46,8 +46,10 @@ extern int64_t hkx_pool_put(struct hk_cell *h, const uint32_t *items, size_t ite
 extern int64_t hkx_pool_flush(struct hk_cell *h);
 extern int64_t hkx_pool_cached(struct hk_cell *h);
 extern int64_t hkx_pool_owns(struct hk_cell *h, uint32_t number);
-extern int64_t hkx_pool_send(struct hk_cell *h, size_t ring, const uint32_t *items, size_t items_length);
-extern int64_t hkx_pool_receive(struct hk_cell *h, size_t ring, uint32_t *into, size_t into_length);
+extern int64_t hkx_pool_send(struct hk_cell *h, size_t ring, const uint32_t *items, size_t items_length, bool bulk);
+extern int64_t hkx_pool_receive(struct hk_cell *h, size_t ring, uint32_t *into, size_t into_length, bool bulk);
+extern int64_t hkx_pool_room(struct hk_cell *h, size_t ring, bool queued);
+extern int64_t hkx_pool_free_count(struct hk_cell *h);
 extern int64_t hkx_routes_open(struct hk_cell *h, uint32_t bits, uint32_t groups);
 extern int64_t hkx_routes_share(struct hk_cell *h, struct hk_cell *second);
 extern int64_t hkx_routes_add(struct hk_cell *h, uint32_t address, uint32_t depth, uint32_t hop);
@@ -381,7 +383,9 @@ int64_t hk_pool_split(hk_pool *pool, hk_pool **out) {
     return code;
 }
 
+/* A flush of null or of a handle of another kind, which this call takes too, is refused and changes nothing. */
 void hk_pool_free(hk_pool *pool) {
+    (void)hkx_pool_flush(CELL(pool));
     (void)hkx_free(CELL(pool));
 }
 
@@ -410,17 +414,45 @@ int64_t hk_pool_owns(const hk_pool *pool, uint32_t number) {
     return hkx_pool_owns(LOOK(pool), number);
 }
 
-int64_t hk_pool_try_send_bulk(hk_pool *pool, size_t ring, const uint32_t *numbers, size_t n) {
+static inline int64_t send_numbers(hk_pool *pool, size_t ring, const uint32_t *numbers, size_t n, bool bulk) {
     int64_t code = refused_numbers(numbers, n);
     if (code < 0) return code;
     give_numbers(numbers, n);
-    return hkx_pool_send(CELL(pool), ring, numbers ? numbers : no_numbers, n);
+    return hkx_pool_send(CELL(pool), ring, numbers ? numbers : no_numbers, n, bulk);
+}
+
+int64_t hk_pool_try_send_bulk(hk_pool *pool, size_t ring, const uint32_t *numbers, size_t n) {
+    return send_numbers(pool, ring, numbers, n, true);
+}
+
+int64_t hk_pool_try_send_burst(hk_pool *pool, size_t ring, const uint32_t *numbers, size_t n) {
+    return send_numbers(pool, ring, numbers, n, false);
+}
+
+static inline int64_t receive_numbers(hk_pool *pool, size_t ring, uint32_t *numbers, size_t n, bool bulk) {
+    int64_t code = refused_numbers(numbers, n);
+    if (code < 0) return code;
+    return got_numbers(numbers, hkx_pool_receive(CELL(pool), ring, numbers ? numbers : no_numbers, n, bulk));
 }
 
 int64_t hk_pool_try_receive_bulk(hk_pool *pool, size_t ring, uint32_t *numbers, size_t n) {
-    int64_t code = refused_numbers(numbers, n);
-    if (code < 0) return code;
-    return got_numbers(numbers, hkx_pool_receive(CELL(pool), ring, numbers ? numbers : no_numbers, n));
+    return receive_numbers(pool, ring, numbers, n, true);
+}
+
+int64_t hk_pool_try_receive_burst(hk_pool *pool, size_t ring, uint32_t *numbers, size_t n) {
+    return receive_numbers(pool, ring, numbers, n, false);
+}
+
+int64_t hk_pool_ring_count(const hk_pool *pool, size_t ring) {
+    return hkx_pool_room(LOOK(pool), ring, true);
+}
+
+int64_t hk_pool_ring_room(const hk_pool *pool, size_t ring) {
+    return hkx_pool_room(LOOK(pool), ring, false);
+}
+
+int64_t hk_pool_free_count(const hk_pool *pool) {
+    return hkx_pool_free_count(LOOK(pool));
 }
 
 /* ---- Routes ---- */

@@ -64,7 +64,7 @@ extern "C" {
 /* The largest number of rings in one set. */
 #define HK_MOST_RINGS 64
 /* The largest count of numbers in one call on a pool. */
-#define HK_POOL_MOST 512
+#define HK_POOL_MOST 4096
 
 enum hk_code {
     HK_OK = 0,
@@ -231,9 +231,10 @@ HK_API int64_t hk_hand_span(const hk_hand *hand);
  * HK_E_NOROOM, how many in all. After HK_E_COUNT, HK_E_WORN and HK_E_AGAIN it says nothing, and other codes leave it as
  * it was. HK_E_NULL, HK_E_KIND. */
 HK_API int64_t hk_hand_left(const hk_hand *hand);
-/* How many words are queued on a ring, and how many more there is room for, as found by one look. Others may have put
- * or taken since. HK_E_NULL, HK_E_KIND, HK_E_RING, HK_E_OPEN. HK_E_AGAIN: another thread's span of a head/tail-sync
- * side is open. */
+/* How many words are queued on a ring, and how many more there is room for, as found by one look: the numbers of
+ * rte_ring_count and rte_ring_free_count. Others may put or take meanwhile. Spans may be open, of this hand too: words
+ * that an open take shows are queued until they are taken, and positions that an open put has reserved are room until
+ * words are put there, so that another put may find less room. HK_E_NULL, HK_E_KIND, HK_E_RING. */
 HK_API int64_t hk_ring_count(const hk_hand *hand, size_t ring);
 HK_API int64_t hk_ring_room(const hk_hand *hand, size_t ring);
 
@@ -254,7 +255,8 @@ HK_API HK_CHECKED int64_t hk_hand_drain(hk_hand *hand, size_t ring, uint64_t *wo
  * handle. The sides of all rings of a pool are head/tail-sync, so no call is pending: if other threads come first, a
  * call tries a ring 1,024 times at most, the first try included, and then returns HK_E_AGAIN. A get that found too few
  * numbers on the free ring to fill the cache too asks the ring once more, for those that it needs, with as many tries.
- * If a call returns a code, nothing was changed: no number, no cache, no array. */
+ * A ring of a pool ends after 2^51 - 1 numbers (7 years at ten million a second): calls that put numbers on it return
+ * HK_E_WORN then. If a call returns a code, nothing was changed: no number, no cache, no array. */
 typedef struct hk_pool hk_pool;
 
 /* [memory] Makes a pool of n numbers, 1 to 2^20 - 1, all of them free, and the first handle on it. Each handle has a
@@ -265,14 +267,16 @@ HK_API HK_CHECKED int64_t hk_pool_open(hk_pool **out, uint32_t n, uint32_t cache
  * The first split takes 62 times n bytes of memory, and each later one twice n bytes on average. HK_E_AGAIN: as of
  * `hk_hand_split`. HK_E_NULL, HK_E_KIND, HK_E_AGAIN, HK_E_PARTS, HK_E_MEMORY. */
 HK_API HK_CHECKED int64_t hk_pool_split(hk_pool *pool, hk_pool **out);
-/* Frees a handle, and with the last one the pool; null is allowed. The numbers that the handle has, those in its cache
- * too, are lost to the other handles: put them back and flush first. */
+/* Frees a handle, and with the last one the pool; null is allowed. What is cached is first put on the free ring, by one
+ * hk_pool_try_flush. If that returns HK_E_AGAIN or HK_E_WORN, these numbers are lost to the other handles: where other
+ * threads use the pool meanwhile, flush before, until it succeeds. Numbers that the handle got or received, and that
+ * weren't put back, are lost to the others in any case. */
 HK_API void hk_pool_free(hk_pool *pool);
 
 /* Gets n numbers, 1 to HK_POOL_MOST, all or none: from the cache, the newest first; if it has too few, the others from
- * the free ring, and as many more as the cache's size if that ring has them. Returns n. HK_E_NULL, HK_E_KIND,
- * HK_E_COUNT. HK_E_NOROOM: the free ring has too few; numbers may be in the caches of other handles. HK_E_WORN.
- * HK_E_AGAIN. */
+ * the free ring, the oldest first. If n is at most 512, as many more as the cache's size then go from that ring to the
+ * cache, if it has them, too. Returns n. HK_E_NULL, HK_E_KIND, HK_E_COUNT. HK_E_NOROOM: the free ring has too few;
+ * numbers may be in the caches of other handles. HK_E_WORN. HK_E_AGAIN. */
 HK_API HK_CHECKED int64_t hk_pool_try_get_bulk(hk_pool *pool, uint32_t *numbers, size_t n);
 /* Puts n numbers back, 1 to HK_POOL_MOST, all or none: into the cache; if that would pass one and a half times its
  * size, they go to the free ring, and the cache stays as it is. Returns n. HK_E_NULL, HK_E_KIND, HK_E_COUNT.
@@ -286,14 +290,25 @@ HK_API HK_CHECKED int64_t hk_pool_try_flush(hk_pool *pool);
 HK_API int64_t hk_pool_cached(const hk_pool *pool);
 /* 1 if the handle has this number, cached or not, and otherwise 0. HK_E_NULL, HK_E_KIND. */
 HK_API int64_t hk_pool_owns(const hk_pool *pool, uint32_t number);
-/* Puts n numbers, 1 to HK_POOL_MOST, on a ring of the pool, 0 to rings - 1, all or none. Then the handle doesn't have
- * them any more; the handle that takes them from the ring has them. Returns n. HK_E_NULL, HK_E_KIND, HK_E_RING,
- * HK_E_COUNT, HK_E_NOTYOURS, HK_E_WORN, HK_E_AGAIN. */
+/* Puts n numbers, 1 to HK_POOL_MOST, on a ring of the pool, 0 to rings - 1: by bulk all of them or none, by burst as
+ * many of the first ones as there is room for. A ring of a pool has room for all its numbers, so a burst sends all n,
+ * too. Then the handle doesn't have them any more; the handle that takes them from the ring has them. Returns how many
+ * were sent. HK_E_NULL, HK_E_KIND, HK_E_RING, HK_E_COUNT, HK_E_NOTYOURS, HK_E_WORN, HK_E_AGAIN. */
 HK_API HK_CHECKED int64_t hk_pool_try_send_bulk(hk_pool *pool, size_t ring, const uint32_t *numbers, size_t n);
-/* Takes n numbers, 1 to HK_POOL_MOST, from a ring of the pool, the oldest first, all or none: the handle has them
- * then, and they aren't cached. Returns n. HK_E_NULL, HK_E_KIND, HK_E_RING, HK_E_COUNT, HK_E_NOROOM if fewer are
- * there, HK_E_WORN, HK_E_AGAIN. */
+HK_API HK_CHECKED int64_t hk_pool_try_send_burst(hk_pool *pool, size_t ring, const uint32_t *numbers, size_t n);
+/* Takes n numbers, 1 to HK_POOL_MOST, from a ring of the pool, the oldest first: by bulk all n or none, by burst at
+ * most n, as many as are queued. The handle has them then, and they aren't cached. Returns how many are at the front of
+ * the array; its other places are unchanged. HK_E_NULL, HK_E_KIND, HK_E_RING, HK_E_COUNT. HK_E_NOROOM: fewer than n are
+ * queued, or for a burst none. HK_E_WORN. HK_E_AGAIN. */
 HK_API HK_CHECKED int64_t hk_pool_try_receive_bulk(hk_pool *pool, size_t ring, uint32_t *numbers, size_t n);
+HK_API HK_CHECKED int64_t hk_pool_try_receive_burst(hk_pool *pool, size_t ring, uint32_t *numbers, size_t n);
+/* How many numbers are queued on a ring of the pool, 0 to rings - 1, and how many more it takes, as found by one look.
+ * Others may send or receive meanwhile. HK_E_NULL, HK_E_KIND, HK_E_RING. */
+HK_API int64_t hk_pool_ring_count(const hk_pool *pool, size_t ring);
+HK_API int64_t hk_pool_ring_room(const hk_pool *pool, size_t ring);
+/* How many numbers are on the free ring, as found by one look; those in the caches of handles aren't. HK_E_NULL,
+ * HK_E_KIND. */
+HK_API int64_t hk_pool_free_count(const hk_pool *pool);
 
 /* ---- Routes by longest prefix ------------------------------------------------------------------------------------ */
 

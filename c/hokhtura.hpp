@@ -150,7 +150,7 @@ public:
     }
 };
 
-// A thread's handle on a pool of numbers.
+// A thread's handle on a pool of numbers. Where it ends, what is cached is put on the free ring, if one try_flush does.
 class pool : public handle<hk_pool, hk_pool_free> {
 public:
     result open(std::uint32_t n, std::uint32_t cache, std::uint32_t rings) noexcept {
@@ -170,9 +170,18 @@ public:
     result try_send_bulk(std::size_t ring, numbers in) noexcept {
         return hk_pool_try_send_bulk(get(), ring, in.data(), in.size());
     }
+    result try_send_burst(std::size_t ring, numbers in) noexcept {
+        return hk_pool_try_send_burst(get(), ring, in.data(), in.size());
+    }
     result try_receive_bulk(std::size_t ring, number_places out) noexcept {
         return hk_pool_try_receive_bulk(get(), ring, out.data(), out.size());
     }
+    result try_receive_burst(std::size_t ring, number_places out) noexcept {
+        return hk_pool_try_receive_burst(get(), ring, out.data(), out.size());
+    }
+    result ring_count(std::size_t ring) const noexcept { return hk_pool_ring_count(get(), ring); }
+    result ring_room(std::size_t ring) const noexcept { return hk_pool_ring_room(get(), ring); }
+    result free_count() const noexcept { return hk_pool_free_count(get()); }
     result cached() const noexcept { return hk_pool_cached(get()); }
     bool owns(std::uint32_t number) const noexcept { return hk_pool_owns(get(), number) == 1; }
 };

@@ -4,7 +4,7 @@
  * is released; a thread that stops while it holds a side stops that side.
  *
  * An end belongs to the thread that has its hand. While it holds the side, other calls of this hand on rings return
- * HK_E_OPEN. All of it is inline: the library has none of these names. */
+ * HK_E_OPEN, but for hk_ring_count and hk_ring_room. All of it is inline: the library has none of these names. */
 #ifndef HOKHTURA_HOLD_H
 #define HOKHTURA_HOLD_H 1
 

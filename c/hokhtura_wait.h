@@ -137,10 +137,27 @@ static inline int64_t hk_pool_send_bulk(hk_pool *pool, size_t ring, const uint32
     return code;
 }
 
+/* Puts as many of n numbers, 1 to HK_POOL_MOST, on a ring of the pool as there is room for, which are all. Returns how
+ * many. */
+static inline int64_t hk_pool_send_burst(hk_pool *pool, size_t ring, const uint32_t *numbers, size_t n,
+                                         hk_relax relax) {
+    int64_t code = hk_pool_try_send_burst(pool, ring, numbers, n);
+    HK_UNTIL(code, HK_IS_EARLY(code), relax, hk_pool_try_send_burst(pool, ring, numbers, n));
+    return code;
+}
+
 /* Takes n numbers, 1 to HK_POOL_MOST, from a ring of the pool, once as many are there. Returns n. */
 static inline int64_t hk_pool_receive_bulk(hk_pool *pool, size_t ring, uint32_t *numbers, size_t n, hk_relax relax) {
     int64_t code = hk_pool_try_receive_bulk(pool, ring, numbers, n);
     HK_UNTIL(code, HK_IS_EARLY(code), relax, hk_pool_try_receive_bulk(pool, ring, numbers, n));
+    return code;
+}
+
+/* Takes as many numbers as are there, at most n, 1 to HK_POOL_MOST, from a ring of the pool, once there is one. Returns
+ * how many. */
+static inline int64_t hk_pool_receive_burst(hk_pool *pool, size_t ring, uint32_t *numbers, size_t n, hk_relax relax) {
+    int64_t code = hk_pool_try_receive_burst(pool, ring, numbers, n);
+    HK_UNTIL(code, HK_IS_EARLY(code), relax, hk_pool_try_receive_burst(pool, ring, numbers, n));
     return code;
 }
 

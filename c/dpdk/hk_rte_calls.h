@@ -17,14 +17,6 @@ static __rte_always_inline unsigned int hkr_elements(int64_t count) {
     return likely(count > 0) ? (unsigned int)count : 0;
 }
 
-/* How many elements are queued on a ring, or how many more there is room for. Goes on while another thread has reserved
- * positions of a head/tail-sync side. HK_E_OPEN: this hand has. */
-static inline int64_t hkr_wait_for_look(const hk_hand *hand, int room) {
-    int64_t count;
-    while ((count = room ? hk_ring_room(hand, 0) : hk_ring_count(hand, 0)) == HK_E_AGAIN) rte_pause();
-    return count;
-}
-
 /* ---- Calls whose elements aren't words, long calls, and calls of a thread without a hand ------------------------- */
 
 /* How many elements are in one piece of a call: fewer if they are copied to words. */
@@ -49,8 +41,8 @@ static inline int64_t hkr_take_piece(struct rte_ring *r, hk_hand *hand, void *ta
     return count;
 }
 
-/* Enqueues in pieces. Between two pieces elements of other threads may come: a bulk, which may not stop in the middle,
- * then waits for room. */
+/* Enqueues in pieces. Elements of other threads may come between two pieces, or use room that they had reserved already
+ * when it was looked at: a bulk, which may not stop in the middle, then waits for room. */
 static inline unsigned int hkr_put_pieces(struct rte_ring *r, hk_hand *hand, const void *table, size_t n, int bulk) {
     size_t most = hkr_piece(r, table), done = 0;
     while (done < n) {
@@ -87,7 +79,7 @@ static __rte_noinline unsigned int hkr_put_otherwise(struct rte_ring *r, const v
     int64_t room = 0;
     if (esize == r->esize) {
         if (is_long) pthread_mutex_lock(&r->put->of_long);
-        if (looks) room = hkr_wait_for_look(hand, 1);
+        if (looks) room = hk_ring_room(hand, 0);
         if (n != 0 && (!looks || room >= (int64_t)n)) {
             done = hkr_put_pieces(r, hand, table, n, bulk);
             room = hk_hand_left(hand);
@@ -107,7 +99,7 @@ static __rte_noinline unsigned int hkr_take_otherwise(struct rte_ring *r, void *
     int64_t queued = 0;
     if (esize == r->esize) {
         if (is_long) pthread_mutex_lock(&r->take->of_long);
-        if (looks) queued = hkr_wait_for_look(hand, 0);
+        if (looks) queued = hk_ring_count(hand, 0);
         if (n != 0 && (!looks || queued >= (int64_t)n)) {
             done = hkr_take_pieces(r, hand, table, n, bulk);
             queued = hk_hand_left(hand);

@@ -6,19 +6,13 @@
 extern "C" {
 #endif
 
-/* How many elements are queued. While this thread has a peek open, as many as were queued when it began, since a ring
- * with an open peek can't be looked at; while another thread has, the call waits for its end. */
-static inline int64_t hkr_queued(const struct rte_ring *r) {
-    hk_hand *put = r->put->room ? hk_hands_mine(&r->put->hands) : NULL, *take = hk_hands_mine(&r->take->hands);
-    if (take && r->take->room && hk_hand_span(take) == 2) return (int64_t)r->take->open + hk_hand_left(take);
-    if (put && hk_hand_span(put) == 1) return (int64_t)(r->capacity - r->put->open) - hk_hand_left(put);
-    if (take) return hkr_wait_for_look(take, 0);
-    int64_t count = hkr_wait_for_look(hk_hands_borrow(&r->take->hands), 0);
-    hk_handles_return(&r->take->hands);
-    return count;
+/* How many elements are queued, also while this thread or another one has a peek open. */
+static inline unsigned int rte_ring_count(const struct rte_ring *r) {
+    hk_hand *mine = hk_hands_mine(&r->take->hands), *hand = mine ? mine : hk_hands_borrow(&r->take->hands);
+    int64_t count = hk_ring_count(hand, 0);
+    if (!mine) hk_handles_return(&r->take->hands);
+    return hkr_elements(count);
 }
-
-static inline unsigned int rte_ring_count(const struct rte_ring *r) { return hkr_elements(hkr_queued(r)); }
 
 static inline unsigned int rte_ring_free_count(const struct rte_ring *r) { return r->capacity - rte_ring_count(r); }
 

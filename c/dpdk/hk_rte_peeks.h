@@ -41,7 +41,6 @@ static inline unsigned int hkr_peek_take(struct rte_ring *r, unsigned int esize,
     if (left) *left = 0;
     if (!hand || most == 0) return 0;
     int64_t count = hkr_reserve_take(r, hand, most, bulk);
-    if (count > 0) r->take->open = (uint64_t)count;
     if (left) *left = hkr_elements(hk_hand_left(hand));
     return hkr_elements(count);
 }

@@ -66,7 +66,7 @@ enum rte_ring_sync_type { RTE_RING_SYNC_MT, RTE_RING_SYNC_ST, RTE_RING_SYNC_MT_R
 struct hkr_side {
     struct hk_handles hands;
     pthread_mutex_t of_long; /* bulks of several pieces, one at a time: two would wait for what the other one has */
-    uint64_t open;  /* how many positions its peek has */
+    uint64_t open;  /* of a put side: how many positions its peek has */
     uint64_t next;  /* of a put side: the place of the next element, if elements have places */
     uint64_t *room; /* HK_MOST words, or null on a multi side */
 };

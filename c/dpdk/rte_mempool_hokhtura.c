@@ -218,17 +218,11 @@ static int dequeue(struct rte_mempool *mp, void **objects, unsigned n) {
     return likely(hand != NULL) ? take(&(struct take_call){hand, words, n}) : take_otherwise(mp, words, n);
 }
 
-static int64_t look(const hk_hand *hand) {
-    int64_t count;
-    while ((count = hk_ring_count(hand, 0)) == HK_E_AGAIN) rte_pause();
-    return count;
-}
-
 static unsigned get_count(const struct rte_mempool *mp) {
     struct hk_handles *hands = ring_of(mp);
     if (!hands) return no_ring(), 0;
     hk_hand *hand = hk_hands_mine(hands);
-    int64_t count = look(hand ? hand : hk_hands_borrow(hands));
+    int64_t count = hk_ring_count(hand ? hand : hk_hands_borrow(hands), 0);
     if (!hand) hk_handles_return(hands);
     return count < 0 ? 0 : (unsigned)count;
 }

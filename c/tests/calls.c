@@ -103,7 +103,7 @@ static void peeks_of_puts(hk_hand *hand, uint32_t mode) {
     IS(hk_ring_try_put_bulk(hand, 0, words, 1), HK_E_OPEN);
     IS(hk_ring_try_take_bulk(hand, 0, words, 1), HK_E_OPEN);
     IS(hk_ring_peek_put_bulk(hand, 0, 1), HK_E_OPEN);
-    IS(hk_ring_count(hand, 0), HK_E_OPEN);
+    IS(hk_ring_count(hand, 0), 0), IS(hk_ring_room(hand, 0), 6);
     IS(hk_hand_close(hand), HK_E_OPEN);
     IS(hk_ring_finish_take(hand, 0), HK_E_NOTOPEN);
     IS(hk_ring_finish_put(hand, words, 7), HK_E_COUNT);
@@ -137,8 +137,9 @@ static void peeks_of_takes(hk_hand *hand, uint32_t mode) {
     IS(hk_hand_split(hand, &other), HK_OK);
     IS(hk_ring_peek_take_burst(hand, 0, out, 1), 1);
     IS(hk_ring_try_take_burst(other, 0, out, 1), HK_E_AGAIN);
-    IS(hk_ring_count(other, 0), HK_E_AGAIN);
+    IS(hk_ring_count(other, 0), 2), IS(hk_ring_room(other, 0), 4);
     IS(hk_ring_try_put_bulk(other, 0, words, 1), 1);
+    IS(hk_ring_count(hand, 0), 3), IS(hk_ring_room(hand, 0), 3);
     IS(hk_ring_finish_take(hand, 0), 0);
     IS(hk_ring_try_take_burst(other, 0, out, 16), 3);
     IS(out[0], 101), IS(out[1], 102), IS(out[2], 100);
@@ -207,12 +208,14 @@ static void freed_while_putting(void) {
         IS(hk_ring_try_put_bulk(hand, 0, words, 1), HK_E_AGAIN);
         IS(hk_ring_try_put_burst(hand, 0, words, 1), HK_E_AGAIN);
         IS(hk_ring_peek_put_bulk(hand, 0, 1), HK_E_AGAIN), IS(hk_ring_peek_put_burst(hand, 0, 1), HK_E_AGAIN);
-        IS(hk_ring_room(hand, 0), HK_E_AGAIN), IS(hk_ring_finish_put(hand, words, 1), HK_E_NOTOPEN);
+        IS(hk_ring_count(hand, 0), 2), IS(hk_ring_room(hand, 0), 5);
+        IS(hk_ring_finish_put(hand, words, 1), HK_E_NOTOPEN);
     }
     mark();
     IS(hk_ring_try_take_burst(hand, 0, out, 7), 2);
     IS(out[0], 100), IS(out[1], 101), IS(out[2], -1);
     IS(hk_ring_try_take_burst(hand, 0, out, 7), HK_E_NOROOM), IS(hk_ring_try_put_bulk(hand, 0, words, 1), HK_E_AGAIN);
+    IS(hk_ring_count(hand, 0), 0), IS(hk_ring_room(hand, 0), 7);
     IS(hk_hand_close(hand), HK_OK), IS(hk_hand_drain(hand, 0, out, 7), 0);
     hk_hand_free(hand);
 }
@@ -228,9 +231,11 @@ static void freed_while_taking(void) {
     for (int turn = 0; turn < 2; turn++) {
         IS(hk_ring_try_take_bulk(hand, 0, out, 1), HK_E_AGAIN), IS(hk_ring_try_take_burst(hand, 0, out, 1), HK_E_AGAIN);
         IS(hk_ring_peek_take_bulk(hand, 0, out, 1), HK_E_AGAIN);
-        IS(hk_ring_count(hand, 0), HK_E_AGAIN), IS(hk_ring_finish_take(hand, 1), HK_E_NOTOPEN);
+        IS(hk_ring_count(hand, 0), 3), IS(hk_ring_room(hand, 0), 4);
+        IS(hk_ring_finish_take(hand, 1), HK_E_NOTOPEN);
     }
     IS(hk_ring_try_put_burst(hand, 0, words + 3, 7), 4), IS(hk_ring_try_put_bulk(hand, 0, words, 1), HK_E_NOROOM);
+    IS(hk_ring_count(hand, 0), 7), IS(hk_ring_room(hand, 0), 0);
     IS(hk_hand_close(hand), HK_OK), IS(hk_hand_drain(hand, 0, out, 16), 5);
     for (int i = 0; i < 5; i++) IS(out[i], 102 + i);
     hk_hand_free(hand);

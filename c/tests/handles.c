@@ -49,7 +49,8 @@ static void *hands(void *at) {
     return NULL;
 }
 
-/* A handle that was just split off gets numbers, and puts all of them back before it is freed. */
+/* A handle that was just split off gets numbers, and puts all of them back before it is freed. It flushes itself, since
+ * a free tries one flush only, and other threads may come first then. */
 static void *pools(void *at) {
     struct job *job = at;
     for (uint64_t i = 0; i < each && !wrong; i++) {

@@ -27,6 +27,7 @@ static void puts_by_one(void) {
     IS(hk_ring_peek_put_bulk(hand, 0, 4), 4);
     IS(hk_ring_advance_put(hand, words, 1), 1), IS(hk_ring_try_put_bulk(other, 0, words, 1), HK_E_AGAIN);
     IS(hk_ring_advance_put(hand, words + 1, 2), 2), IS(hk_hand_span(hand), 1);
+    IS(hk_ring_count(other, 0), 3), IS(hk_ring_room(hand, 0), 3);
     IS(hk_ring_advance_put(hand, words + 3, 1), HK_E_COUNT), IS(hk_ring_advance_put(hand, NULL, 0), 0);
     IS(hk_ring_try_take_burst(other, 0, out, 8), 3), IS(memcmp(out, words, 3 * sizeof *out), 0);
     IS(hk_ring_try_take_burst(other, 0, out, 8), HK_E_NOROOM);
@@ -46,7 +47,9 @@ static void takes_by_one(void) {
     IS(hk_ring_hold_take_burst(hand, 0, 4), 4), IS(hk_hand_left(hand), 2), IS(hk_hand_span(hand), 3);
     IS(hk_ring_try_take_bulk(other, 0, out, 1), HK_E_AGAIN), IS(hk_ring_try_put_bulk(other, 0, words, 1), HK_E_NOROOM);
     memset(out, 0, sizeof out);
+    IS(hk_ring_count(other, 0), 6), IS(hk_ring_room(hand, 0), 0);
     IS(hk_ring_advance_take(hand, out, 2), 2), IS(out[0], 100), IS(out[1], 101), IS(out[2], 0);
+    IS(hk_ring_count(hand, 0), 4), IS(hk_ring_room(other, 0), 2);
     IS(hk_ring_try_put_bulk(other, 0, words + 6, 2), 2), IS(hk_ring_try_put_bulk(other, 0, words, 1), HK_E_NOROOM);
     IS(hk_ring_advance_take(hand, out, 2), HK_E_COUNT), IS(hk_ring_release_take(hand, out, 3), HK_E_COUNT);
     IS(hk_hand_close(hand), HK_E_OPEN), IS(hk_ring_finish_take(hand, 0), HK_E_NOTOPEN);

@@ -78,6 +78,14 @@ static void pools() {
     IS(pool.try_send_bulk(0, numbers).count(), 2), IS(other.try_receive_bulk(0, numbers).count(), 2);
     IS(pool.try_put_bulk(numbers).code(), HK_E_NOTYOURS), IS(other.try_put_bulk(numbers).count(), 2);
     IS(other.cached().count(), 2), IS(other.try_flush().count(), 2);
+    std::uint32_t more[4];
+    IS(pool.try_get_bulk(numbers).count(), 2), IS(pool.try_send_burst(0, numbers).count(), 2);
+    IS(pool.ring_count(0).count(), 2), IS(pool.ring_room(0).count(), 6), IS(pool.ring_count(1).code(), HK_E_RING);
+    IS(other.try_receive_burst(0, more).count(), 2), IS(other.try_receive_burst(0, more).code(), HK_E_NOROOM);
+    IS(other.try_put_bulk(hokhtura::numbers(more).first(2)).count(), 2);
+    // What is cached goes back where a handle ends.
+    auto on_ring = pool.free_count().count();
+    other.reset(), IS(pool.free_count().count(), on_ring + 2), IS(other.free_count().code(), HK_E_NULL);
 }
 
 static void tables() {

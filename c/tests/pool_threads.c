@@ -39,19 +39,37 @@ static void put_back(struct job *job, const uint32_t *numbers, size_t n) {
     while (!is_done(hk_pool_try_put_bulk(job->pool, numbers, n)) && !wrong) sched_yield();
 }
 
+/* Passes all numbers on, by bulk or by burst, or none. */
+static int pass(struct job *job, uint64_t round, const uint32_t *numbers, size_t n) {
+    size_t ring = (job->who + 1) % THREADS;
+    int64_t code = round % 2 ? hk_pool_try_send_bulk(job->pool, ring, numbers, n)
+                             : hk_pool_try_send_burst(job->pool, ring, numbers, n);
+    wrong += code > 0 && code != (int64_t)n;
+    return is_done(code);
+}
+
+/* Counts are those of numbers of the pool, whatever the others do meanwhile. */
+static void count(struct job *job) {
+    int64_t counts[3] = {hk_pool_ring_count(job->pool, job->who), hk_pool_ring_room(job->pool, job->who),
+                         hk_pool_free_count(job->pool)};
+    for (int i = 0; i < 3; i++) wrong += counts[i] < 0 || counts[i] > NUMBERS;
+}
+
 static void one_round(struct job *job, uint64_t round) {
     uint32_t numbers[LONGEST];
     size_t n = 1 + (round * 7 + job->who) % LONGEST;
     if (is_done(hk_pool_try_get_bulk(job->pool, numbers, n))) {
         sign(job, numbers, n);
         moved += n;
-        int passes = round % 3 == 0 && is_done(hk_pool_try_send_bulk(job->pool, (job->who + 1) % THREADS, numbers, n));
-        if (!passes) put_back(job, numbers, n);
+        if (round % 3 != 0 || !pass(job, round, numbers, n)) put_back(job, numbers, n);
     }
-    if (is_done(hk_pool_try_receive_bulk(job->pool, job->who, numbers, 1))) {
-        sign(job, numbers, 1);
-        put_back(job, numbers, 1);
+    int64_t code = round % 2 ? hk_pool_try_receive_bulk(job->pool, job->who, numbers, 1)
+                             : hk_pool_try_receive_burst(job->pool, job->who, numbers, LONGEST);
+    if (is_done(code)) {
+        sign(job, numbers, (size_t)code);
+        put_back(job, numbers, (size_t)code);
     }
+    count(job);
 }
 
 static void *work(void *at) {
@@ -60,13 +78,13 @@ static void *work(void *at) {
     return NULL;
 }
 
-/* Takes over what is left for a thread, and puts all back. */
+/* Takes over what is left for a thread, and puts all back. The threads have ended, so nothing refuses the flush that a
+ * free begins with. */
 static void end(struct job *job) {
     uint32_t number;
     while (hk_pool_try_receive_bulk(job->pool, job->who, &number, 1) == 1) {
         IS(hk_pool_try_put_bulk(job->pool, &number, 1), 1);
     }
-    IS(hk_pool_try_flush(job->pool) >= 0, 1);
     hk_pool_free(job->pool);
 }
 
@@ -85,6 +103,7 @@ static void share(uint32_t cache) {
     for (int i = 0; i < THREADS; i++) end(&jobs[i]);
     IS(wrong, 0);
     IS(moved > 0, 1);
+    IS(hk_pool_free_count(pool), NUMBERS);
     uint32_t once = 0;
     static unsigned char met[NUMBERS];
     for (int i = 0; i < NUMBERS; i++) met[i] = 0;

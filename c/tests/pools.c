@@ -3,7 +3,8 @@
 
 #include <string.h>
 
-enum { FEW = 6, MANY = (1 << 20) - 1 };
+/* LONGEST is the longest get that fills the cache, too, and CACHE the size of a large cache. */
+enum { FEW = 6, MANY = (1 << 20) - 1, LARGE = 20000, LONGEST = 512, CACHE = 300 };
 
 static uint32_t got[HK_POOL_MOST + 1];
 static unsigned char met[MANY];
@@ -108,6 +109,89 @@ static void orders(void) {
     hk_pool_free(pool);
 }
 
+/* Whether the first n places have numbers that follow each other from this one on, upwards or downwards, and the places
+ * after them are as they were. */
+static int is_row(const uint32_t *row, size_t n, uint32_t from, int step) {
+    int same = 1;
+    for (size_t i = 0; i < n; i++) same &= row[i] == from + (uint32_t)step * (uint32_t)i;
+    return same && row[n] == UINT32_MAX;
+}
+
+/* What this handle has cached, and what is on the free ring. */
+static void is_left(hk_pool *pool, int64_t cached, int64_t on_ring) {
+    IS(hk_pool_cached(pool), cached), IS(hk_pool_free_count(pool), on_ring);
+}
+
+/* A get of up to 512 numbers fills the cache, too, and a longer one takes no more than the cache lacks. */
+static void fills(size_t n, int64_t more) {
+    hk_pool *pool = NULL;
+    IS(hk_pool_open(&pool, LARGE, CACHE, 0), HK_OK);
+    mark();
+    IS(hk_pool_try_get_bulk(pool, got, n), (int64_t)n), IS(is_row(got, n, 0, 1), 1);
+    is_left(pool, more, LARGE - (int64_t)n - more);
+    hk_pool_free(pool);
+}
+
+/* The longest gets, from the cache and the free ring: the cache's newest first, then the ring's oldest first. */
+static void long_gets(void) {
+    hk_pool *pool = NULL;
+    static uint32_t back[CACHE];
+    IS(hk_pool_open(&pool, LARGE, CACHE, 0), HK_OK);
+    IS(hk_pool_try_get_bulk(pool, got, 1), 1), is_left(pool, CACHE, LARGE - 1 - CACHE);
+    /* The cache has 1 to 300, and 300 is the newest. */
+    mark();
+    IS(hk_pool_try_get_bulk(pool, got, HK_POOL_MOST), HK_POOL_MOST);
+    is_left(pool, 0, LARGE - 1 - HK_POOL_MOST);
+    IS(is_row(got + CACHE, HK_POOL_MOST - CACHE, CACHE + 1, 1), 1);
+    got[CACHE] = UINT32_MAX, IS(is_row(got, CACHE, CACHE, -1), 1);
+    for (uint32_t i = 0; i < CACHE; i++) back[i] = CACHE - i;
+    IS(hk_pool_try_put_bulk(pool, back, CACHE), CACHE), is_left(pool, CACHE, LARGE - 1 - HK_POOL_MOST);
+    /* Now 1 is the newest. A get that the cache has enough for leaves the free ring alone. */
+    mark();
+    IS(hk_pool_try_get_bulk(pool, got, CACHE), CACHE), IS(is_row(got, CACHE, 1, 1), 1);
+    is_left(pool, 0, LARGE - 1 - HK_POOL_MOST);
+    mark();
+    IS(hk_pool_try_get_bulk(pool, got, LONGEST), LONGEST), IS(is_row(got, LONGEST, HK_POOL_MOST + 1, 1), 1);
+    is_left(pool, CACHE, LARGE - 1 - HK_POOL_MOST - LONGEST - CACHE);
+    hk_pool_free(pool);
+}
+
+/* A long get that is refused changes nothing: with one number less it has all. */
+static void long_refusals(void) {
+    hk_pool *pool = NULL;
+    enum { N = LONGEST + CACHE, CACHED = 100 };
+    IS(hk_pool_open(&pool, N, CACHE, 0), HK_OK);
+    IS(hk_pool_try_get_bulk(pool, got, CACHED), CACHED), is_left(pool, CACHE, N - CACHED - CACHE);
+    IS(hk_pool_try_flush(pool), CACHE), IS(hk_pool_try_put_bulk(pool, got, CACHED), CACHED);
+    mark();
+    IS(hk_pool_try_get_bulk(pool, got, N + 1), HK_E_NOROOM);
+    IS(hk_pool_try_get_bulk(pool, got, HK_POOL_MOST), HK_E_NOROOM);
+    is_left(pool, CACHED, N - CACHED), IS(got[0], UINT32_MAX), IS(got[N], UINT32_MAX);
+    get_all(pool, N, N), is_left(pool, 0, 0);
+    hk_pool_free(pool);
+}
+
+/* Puts, sends and receives of as many numbers as a call may have: the order stays. */
+static void long_calls(void) {
+    hk_pool *pool = NULL;
+    static uint32_t all[HK_POOL_MOST + 1];
+    enum { N = HK_POOL_MOST + 1 };
+    IS(hk_pool_open(&pool, N, LONGEST, 1), HK_OK);
+    mark();
+    IS(hk_pool_try_get_bulk(pool, got, HK_POOL_MOST), HK_POOL_MOST), IS(is_row(got, HK_POOL_MOST, 0, 1), 1);
+    IS(hk_pool_try_send_bulk(pool, 0, got, HK_POOL_MOST), HK_POOL_MOST), IS(hk_pool_ring_count(pool, 0), HK_POOL_MOST);
+    memset(all, 0xff, sizeof all);
+    IS(hk_pool_try_receive_bulk(pool, 0, all, HK_POOL_MOST), HK_POOL_MOST), IS(memcmp(all, got, sizeof all), 0);
+    IS(hk_pool_try_send_burst(pool, 0, all, HK_POOL_MOST), HK_POOL_MOST), IS(hk_pool_ring_room(pool, 0), 1);
+    memset(all, 0xff, sizeof all);
+    IS(hk_pool_try_receive_burst(pool, 0, all, HK_POOL_MOST), HK_POOL_MOST), IS(memcmp(all, got, sizeof all), 0);
+    is_left(pool, 0, 1);
+    IS(hk_pool_try_put_bulk(pool, all, HK_POOL_MOST), HK_POOL_MOST), is_left(pool, 0, N);
+    IS(hk_pool_try_put_bulk(pool, all, HK_POOL_MOST), HK_E_NOTYOURS);
+    IS(hk_pool_try_get_bulk(pool, got, 1), 1), IS(got[0], HK_POOL_MOST), is_left(pool, LONGEST, N - 1 - LONGEST);
+    hk_pool_free(pool);
+}
+
 /* A number that the handle doesn't have, that is cached, or that is given twice is refused, and nothing moves. */
 static void strangers(void) {
     hk_pool *pool = NULL;
@@ -120,6 +204,8 @@ static void strangers(void) {
     IS(hk_pool_try_put_bulk(pool, high, 2), HK_E_NOTYOURS);
     IS(hk_pool_try_put_bulk(pool, far, 1), HK_E_NOTYOURS);
     IS(hk_pool_try_send_bulk(pool, 0, twice, 2), HK_E_NOTYOURS);
+    IS(hk_pool_try_send_burst(pool, 0, twice, 2), HK_E_NOTYOURS);
+    IS(hk_pool_try_send_burst(pool, 0, wrong, 2), HK_E_NOTYOURS), IS(hk_pool_ring_count(pool, 0), 0);
     IS(hk_pool_cached(pool), cached);
     IS(hk_pool_owns(pool, got[0]), 1), IS(hk_pool_owns(pool, got[1]), 1);
     IS(hk_pool_owns(pool, FEW), 0), IS(hk_pool_owns(pool, UINT32_MAX), 0);
@@ -169,6 +255,64 @@ static void passed(void) {
     hk_pool_free(second);
 }
 
+/* By burst all numbers are sent, and at most as many are received as are there. */
+static void bursts(void) {
+    hk_pool *first = NULL, *second = NULL;
+    uint32_t taken[FEW + 1];
+    IS(hk_pool_open(&first, FEW, 2, 2), HK_OK), IS(hk_pool_split(first, &second), HK_OK);
+    IS(hk_pool_try_get_bulk(first, got, FEW), FEW);
+    memset(taken, 0xff, sizeof taken);
+    IS(hk_pool_try_receive_burst(second, 1, taken, FEW), HK_E_NOROOM), IS(taken[0], UINT32_MAX);
+    IS(hk_pool_try_send_burst(first, 2, got, 1), HK_E_RING), IS(hk_pool_try_send_burst(first, 1, got, 0), HK_E_COUNT);
+    IS(hk_pool_try_send_burst(first, 1, got, 4), 4), IS(hk_pool_try_send_burst(first, 1, got, 4), HK_E_NOTYOURS);
+    IS(hk_pool_ring_count(second, 1), 4), IS(hk_pool_ring_room(second, 1), 2);
+    IS(hk_pool_ring_count(first, 0), 0), IS(hk_pool_ring_room(first, 0), FEW);
+    IS(hk_pool_try_receive_burst(second, 1, taken, 1), 1), IS(taken[0], got[0]), IS(taken[1], UINT32_MAX);
+    IS(hk_pool_try_receive_burst(second, 0, taken + 1, FEW), HK_E_NOROOM), IS(taken[1], UINT32_MAX);
+    IS(hk_pool_try_receive_bulk(second, 1, taken + 1, FEW), HK_E_NOROOM), IS(taken[1], UINT32_MAX);
+    IS(hk_pool_try_receive_burst(second, 1, taken + 1, FEW), 3), IS(taken[4], UINT32_MAX);
+    IS(memcmp(taken, got, 4 * sizeof *taken), 0);
+    IS(hk_pool_owns(second, taken[3]), 1), IS(hk_pool_owns(first, taken[3]), 0), IS(hk_pool_cached(second), 0);
+    /* A ring takes all numbers of its pool. */
+    IS(hk_pool_try_send_burst(second, 1, taken, 4), 4), IS(hk_pool_try_send_burst(first, 1, got + 4, 2), 2);
+    IS(hk_pool_ring_count(first, 1), FEW), IS(hk_pool_ring_room(first, 1), 0);
+    IS(hk_pool_try_receive_burst(first, 1, taken, FEW + 1), FEW), IS(memcmp(taken, got, FEW * sizeof *taken), 0);
+    hk_pool_free(first), hk_pool_free(second);
+}
+
+/* Each number is counted in one place: in the cache, on the free ring or on a ring that passes it on. */
+static void counts(void) {
+    hk_pool *pool = NULL;
+    IS(hk_pool_open(&pool, FEW, 2, 1), HK_OK), is_left(pool, 0, FEW);
+    IS(hk_pool_ring_count(NULL, 0), HK_E_NULL), IS(hk_pool_ring_room(NULL, 0), HK_E_NULL);
+    IS(hk_pool_free_count(NULL), HK_E_NULL);
+    IS(hk_pool_ring_count(pool, 1), HK_E_RING), IS(hk_pool_ring_room(pool, SIZE_MAX), HK_E_RING);
+    IS(hk_pool_try_get_bulk(pool, got, 2), 2), is_left(pool, 2, 2);
+    IS(hk_pool_try_send_bulk(pool, 0, got, 1), 1), is_left(pool, 2, 2), IS(hk_pool_ring_count(pool, 0), 1);
+    IS(hk_pool_try_put_bulk(pool, got + 1, 1), 1), is_left(pool, 3, 2);
+    IS(hk_pool_try_receive_bulk(pool, 0, got, 1), 1), is_left(pool, 3, 2), IS(hk_pool_ring_count(pool, 0), 0);
+    IS(hk_pool_try_put_bulk(pool, got, 1), 1), is_left(pool, 3, 3);
+    IS(hk_pool_try_flush(pool), 3), is_left(pool, 0, FEW), IS(hk_pool_ring_room(pool, 0), FEW);
+    hk_pool_free(pool);
+}
+
+/* What is cached goes to the free ring when a handle is freed; what was got and not put back is lost to the others. */
+static void freed(void) {
+    hk_pool *first = NULL, *second = NULL, *third = NULL;
+    IS(hk_pool_open(&first, FEW, 4, 0), HK_OK), IS(hk_pool_split(first, &second), HK_OK);
+    IS(hk_pool_try_get_bulk(first, got, 4), 4), IS(hk_pool_try_put_bulk(first, got, 4), 4), is_left(first, 4, 2);
+    IS(hk_pool_try_get_bulk(second, got, FEW), HK_E_NOROOM);
+    hk_pool_free(first);
+    is_left(second, 0, FEW), get_all(second, FEW, FEW);
+    /* The oldest of the cache went first, after those that were on the ring. */
+    for (uint32_t i = 0; i < FEW; i++) IS(got[i], (4 + i) % FEW);
+    IS(hk_pool_split(second, &third), HK_OK), IS(hk_pool_try_put_bulk(second, got, 3), 3);
+    hk_pool_free(second);
+    is_left(third, 0, 3), IS(hk_pool_try_get_bulk(third, got, 4), HK_E_NOROOM);
+    IS(hk_pool_try_get_bulk(third, got, 3), 3), is_left(third, 0, 0);
+    hk_pool_free(third);
+}
+
 /* A handle whose first one was freed, on the last ring. */
 static void others(void) {
     hk_pool *first = NULL, *second = NULL, *third = NULL;
@@ -196,6 +340,10 @@ static void kinds(void) {
     IS(hk_pool_owns((hk_pool *)table, 1), HK_E_KIND);
     IS(hk_pool_try_send_bulk((hk_pool *)table, 0, got, 1), HK_E_KIND);
     IS(hk_pool_try_receive_bulk((hk_pool *)table, 0, got, 1), HK_E_KIND);
+    IS(hk_pool_try_send_burst((hk_pool *)table, 0, got, 1), HK_E_KIND);
+    IS(hk_pool_try_receive_burst((hk_pool *)table, 0, got, 1), HK_E_KIND);
+    IS(hk_pool_ring_count((hk_pool *)table, 0), HK_E_KIND), IS(hk_pool_ring_room((hk_pool *)table, 0), HK_E_KIND);
+    IS(hk_pool_free_count((hk_pool *)table), HK_E_KIND);
     IS(hk_pool_split((hk_pool *)table, &none), HK_E_KIND);
     IS(hk_routes_lookup((hk_routes *)pool, 1), HK_E_KIND);
     IS(hk_reorder_next((hk_reorder *)pool, &word), HK_E_KIND);
@@ -211,12 +359,22 @@ int main(void) {
     sizes(1, 0, 1);
     sizes(FEW, 2, 2);
     sizes(1000, 512, 512);
+    sizes(5000, 0, HK_POOL_MOST);
+    sizes(LARGE, 512, HK_POOL_MOST);
     sizes(1025, 1, 7);
     sizes(MANY, 32, 33);
     refusals();
     orders();
+    fills(LONGEST, CACHE);
+    fills(LONGEST + 1, 0);
+    long_gets();
+    long_refusals();
+    long_calls();
     strangers();
     passed();
+    bursts();
+    counts();
+    freed();
     others();
     kinds();
     return hk_count_up("pools");

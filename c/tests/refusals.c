@@ -8,7 +8,7 @@
 #include <unistd.h>
 
 /* Each set of rings has a ring of HTS sides and a ring of multi sides; an open span has three positions of seven. */
-enum { RINGS = 2, MULTI_RING = 1, SPAN = 3, LEFT = 4, NUMBERS = 8, POOL_RINGS = 1, PORTS = 1, HOPS = 8, HELD = 34 };
+enum { RINGS = 2, MULTI_RING = 1, SPAN = 3, LEFT = 4, NUMBERS = 8, POOL_RINGS = 2, PORTS = 1, HOPS = 8, HELD = 34 };
 
 #define LASTING(put, take, last, reserved) \
     ((hk_ring_plan[2]){{8, 0, HK_HTS, HK_HTS, 0, 0}, {8, 0, put, take, last, reserved}})
@@ -58,7 +58,8 @@ static const hk_frame too_long[2] = {{frame, HELD, HELD}, {frame, HELD, HELD - 1
 
 /* What is seen of all handles. */
 struct seen {
-    int64_t spans[4], rings[4], numbers[NUMBERS + 1], hops[4], drawn[4], found[2], verdict, class;
+    int64_t spans[4], rings[4], numbers[NUMBERS + 1], counts[1 + POOL_RINGS], hops[4], drawn[4], found[2];
+    int64_t verdict, class;
     uint64_t words[HK_MOST], next;
 };
 
@@ -80,7 +81,7 @@ static void open_hands(void) {
     IS(hk_hand_close(closed), HK_OK);
 }
 
-/* The handle of the pool has got two numbers and has three in its cache; one is on the ring of the pool. */
+/* The handle of the pool has got two numbers and has three in its cache; one is on the first ring of the pool. */
 static void open_pool(void) {
     uint32_t got[4];
     IS(hk_pool_open(&pool, NUMBERS, 2, POOL_RINGS), HK_OK);
@@ -130,6 +131,8 @@ static void look(struct seen *seen) {
     }
     for (uint32_t i = 0; i < NUMBERS; i++) seen->numbers[i] = hk_pool_owns(pool, i);
     seen->numbers[NUMBERS] = hk_pool_cached(pool);
+    seen->counts[0] = hk_pool_free_count(pool);
+    for (size_t i = 0; i < POOL_RINGS; i++) seen->counts[1 + i] = hk_pool_ring_count(pool, i);
     for (int i = 0; i < 2; i++) {
         seen->hops[2 * i] = hk_routes_lookup(table, addresses[i]);
         seen->hops[2 * i + 1] = hk_routes_lookup(shared, addresses[i]);
@@ -227,6 +230,7 @@ int main(void) {
     memset(places, 0xff, sizeof places), memset(numbers, 0xff, sizeof numbers);
     memset(&made, 0xff, sizeof made), unmade = made;
     look(&before), IS(before.words[0], 100), IS(before.numbers[own[0]], 1), IS(before.next, 1);
+    IS(before.counts[0], 2), IS(before.counts[1], 1), IS(before.counts[2], 0);
     IS(before.verdict, 0), IS(before.class, HK_TO_GROUP + HK_TO_OWN);
     IS(before.found[1], 7), IS(before.drawn[1], 5), IS(before.drawn[2], 2), IS(before.drawn[3], 1);
     (void)is_left(HK_E_COUNT);

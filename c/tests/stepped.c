@@ -16,10 +16,11 @@ static const uint64_t words[8] = {100, 101, 102, 103, 104, 105, 106, 107};
 static uint64_t out[8];
 static volatile int64_t found;
 
-/* Runs after each instruction. When the first hand's put has reserved its position, the second hand puts. */
+/* Runs after each instruction. When the first hand's put has reserved its position, the second hand puts. A position
+ * that is reserved still counts as room, so a put of more words than the ring holds says how many it could reserve. */
 static void step(int number, siginfo_t *info, void *at) {
     (void)number, (void)info;
-    if (hk_ring_room(hands[1], 0) == ROOM) return;
+    if (hk_ring_try_put_bulk(hands[1], 0, words, ROOM + 1) == HK_E_NOROOM && hk_hand_left(hands[1]) == ROOM) return;
     found = hk_ring_try_put_bulk(hands[1], 0, words + 1, 2);
     ((ucontext_t *)at)->uc_mcontext.gregs[REG_EFL] &= ~(greg_t)TRAP_FLAG;
 }
@@ -43,7 +44,7 @@ static void open_hands(void) {
 
 /* The first hand has finished; the second is freed with its span, though it could be finished now. */
 static void freed_pending(void) {
-    IS(hk_hand_span(hands[1]), 1);
+    IS(hk_hand_span(hands[1]), 1), IS(hk_ring_count(hands[1], 0), 1), IS(hk_ring_room(hands[0], 0), ROOM - 1);
     hk_hand_free(hands[1]);
     IS(hk_ring_try_put_bulk(hands[0], 0, words + 3, 1), HK_E_PENDING);
     IS(hk_ring_finish_put(hands[0], words + 3, 1), HK_E_PENDING), IS(hk_hand_span(hands[0]), 1);

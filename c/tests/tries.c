@@ -127,6 +127,8 @@ ONCE(hkx_pool_cached)
 ONCE(hkx_pool_owns)
 ONCE(hkx_pool_send)
 ONCE(hkx_pool_receive)
+ONCE(hkx_pool_room)
+ONCE(hkx_pool_free_count)
 ONCE(hkx_routes_open)
 ONCE(hkx_routes_share)
 ONCE(hkx_routes_add)
@@ -302,9 +304,15 @@ static void pools(void) {
     BOTH(hk_pool_cached(pool));
     BOTH(hk_pool_owns(pool, 1));
     BOTH(hk_pool_try_send_bulk(pool, RING, numbers, COUNT));
+    BOTH(hk_pool_try_send_burst(pool, RING, numbers, COUNT));
     BOTH(hk_pool_try_receive_bulk(pool, RING, numbers, COUNT));
+    BOTH(hk_pool_try_receive_burst(pool, RING, numbers, COUNT));
+    BOTH(hk_pool_ring_count(pool, RING));
+    BOTH(hk_pool_ring_room(pool, RING));
+    BOTH(hk_pool_free_count(pool));
     IS(second == NULL, 1);
-    told(never, never, never), hk_pool_free(pool), tried(0, 0, 1);
+    /* A flush, which is tried once whatever it answers, and the end. */
+    told(never, never, often(HK_E_AGAIN, 1, HK_OK)), hk_pool_free(pool), tried(0, 0, 2);
 }
 
 static void tables_and_windows(void) {

@@ -103,6 +103,11 @@ static void pools(void) {
     from(1), IS(hk_pool_get_bulk(pool, &number, 1, ends), HK_E_NOROOM), IS(relaxed, 1), IS(number, 7);
     from(0), IS(hk_pool_get_bulk(pool, &number, 1, puts_number), 1), IS(number, 0), IS(relaxed, 1);
     from(0), IS(hk_pool_receive_bulk(pool, 0, &number, 1, sends_number), 1), IS(number, 1), IS(relaxed, 1);
+    from(0), IS(hk_pool_send_burst(pool, 0, &number, 1, ends), 1);
+    IS(hk_pool_send_burst(pool, 0, &number, 1, ends), HK_E_NOTYOURS);
+    IS(hk_pool_receive_burst(sharer, 0, two, 2, ends), 1), IS(two[0], 1), IS(relaxed, 0);
+    from(2), IS(hk_pool_receive_burst(pool, 0, two, 2, ends), HK_E_NOROOM), IS(relaxed, 2);
+    from(0), IS(hk_pool_receive_burst(pool, 0, two, 2, sends_number), 1), IS(two[0], 1), IS(relaxed, 1);
     from(0), IS(hk_pool_send_bulk(pool, 0, &number, 1, ends), 1);
     IS(hk_pool_send_bulk(pool, 0, &number, 1, ends), HK_E_NOTYOURS);
     number = 0, IS(hk_pool_put_bulk(pool, &number, 1, ends), 1), IS(hk_pool_flush(pool, ends), 0), IS(relaxed, 0);

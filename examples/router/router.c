@@ -113,13 +113,9 @@ static void pass(struct thread *t, uint32_t ring, const uint32_t *numbers, uint3
 }
 
 static uint32_t receive(struct thread *t, uint32_t ring, uint32_t *numbers) {
-    uint32_t n = atomic_load(&waiting[ring].n);
-    for (n = n < now.number[BURST] ? n : now.number[BURST]; n; n /= 2) {
-        int64_t code = hk_pool_try_receive_bulk(t->pool, ring, numbers, n);
-        if (code > 0) return atomic_fetch_sub(&waiting[ring].n, n), n;
-        if (code == HK_E_AGAIN) return 0;
-        if (code != HK_E_NOROOM) need(code, "receive");
-    }
+    int64_t code = hk_pool_try_receive_burst(t->pool, ring, numbers, now.number[BURST]);
+    if (code > 0) return atomic_fetch_sub(&waiting[ring].n, (unsigned)code), (uint32_t)code;
+    if (code != HK_E_NOROOM && code != HK_E_AGAIN) need(code, "receive");
     return 0;
 }
 

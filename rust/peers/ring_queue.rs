@@ -109,12 +109,7 @@ impl<T> RingQueue<T> {
     }
 
     pub fn len(&self) -> usize {
-        loop {
-            match self.with(|hand| hand.len()) {
-                Ok(count) => return count,
-                Err(_) => std::hint::spin_loop(),
-            }
-        }
+        self.with(|hand| hand.len())
     }
 
     pub fn is_empty(&self) -> bool {

@@ -68,7 +68,8 @@ errors! {
     Memory = 13, "out of memory";
     /// No such ring, pool, table, port or window can be made.
     Plan = 14, "no such ring, pool, table, port or window can be made";
-    /// The ring has carried as many words as it can count: 2^63 - 1, or 2^52 - 1 with a head/tail-sync side.
+    /// The ring has carried as many words as it can count: 2^63 - 1, or 2^52 - 1 with a head/tail-sync side, or as many
+    /// numbers of a pool: 2^51 - 1.
     Worn = 15, "the positions of the ring are used up";
     /// As many handles were made as there can be, 2^62.
     Parts = 16, "too many handles";

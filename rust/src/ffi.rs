@@ -99,7 +99,12 @@ extern "C" {
     pub fn hk_pool_cached(pool: *const Pool) -> i64;
     pub fn hk_pool_owns(pool: *const Pool, number: u32) -> i64;
     pub fn hk_pool_try_send_bulk(pool: *mut Pool, ring: usize, numbers: *const u32, n: usize) -> i64;
+    pub fn hk_pool_try_send_burst(pool: *mut Pool, ring: usize, numbers: *const u32, n: usize) -> i64;
     pub fn hk_pool_try_receive_bulk(pool: *mut Pool, ring: usize, numbers: *mut u32, n: usize) -> i64;
+    pub fn hk_pool_try_receive_burst(pool: *mut Pool, ring: usize, numbers: *mut u32, n: usize) -> i64;
+    pub fn hk_pool_ring_count(pool: *const Pool, ring: usize) -> i64;
+    pub fn hk_pool_ring_room(pool: *const Pool, ring: usize) -> i64;
+    pub fn hk_pool_free_count(pool: *const Pool) -> i64;
     pub fn hk_routes_open(out: *mut *mut Table, bits: u32, groups: u32) -> i64;
     pub fn hk_routes_share(routes: *mut Table, out: *mut *mut Table) -> i64;
     pub fn hk_routes_add(routes: *mut Table, address: u32, depth: u32, hop: u32) -> i64;

@@ -138,12 +138,12 @@ impl<T: Word> Hand<T> {
         answer(unsafe { ffi::hk_hand_left(self.0.as_ptr()) }).unwrap_or(0)
     }
 
-    pub(crate) fn count(&self) -> Result<usize, Error> {
-        answer(unsafe { ffi::hk_ring_count(self.0.as_ptr(), 0) })
+    pub(crate) fn count(&self) -> usize {
+        answer(unsafe { ffi::hk_ring_count(self.0.as_ptr(), 0) }).unwrap_or(0)
     }
 
-    pub(crate) fn room(&self) -> Result<usize, Error> {
-        answer(unsafe { ffi::hk_ring_room(self.0.as_ptr(), 0) })
+    pub(crate) fn room(&self) -> usize {
+        answer(unsafe { ffi::hk_ring_room(self.0.as_ptr(), 0) }).unwrap_or(0)
     }
 
     pub(crate) fn close(&mut self) -> Result<usize, Error> {

@@ -44,7 +44,7 @@ impl<T: Word> Producer<T> {
     /// assert_eq!(takes.take()?, 0);
     /// assert_eq!(takes.take()?, 1);
     /// drop(takes);
-    /// assert_eq!(consumer.len()?, 8);
+    /// assert_eq!(consumer.len(), 8);
     /// # Ok(())
     /// # }
     /// ```

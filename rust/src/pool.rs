@@ -6,13 +6,15 @@ use core::marker::PhantomData;
 use core::ptr::{null_mut, NonNull};
 
 /// The largest count of numbers in one call on a pool.
-pub const POOL_MOST: usize = 512;
+pub const POOL_MOST: usize = 4096;
 
 /// One thread's handle on a pool of the numbers 0 to `n - 1`, with its own cache in front of the free ring that all
 /// share.
 ///
 /// A number is free, on a ring of the pool, or with one `Pool`; only that one can put it back or send it on. If a
-/// `Pool` is dropped, its numbers are lost to the others: put them back and [`try_flush`](Pool::try_flush) first.
+/// `Pool` is dropped, what it has cached is first put on the free ring, by one [`try_flush`](Pool::try_flush). If that
+/// returns `Again` or `Worn`, these numbers are lost to the others: where other threads use the pool meanwhile, flush
+/// before, until it succeeds. Numbers that weren't put back are lost to the others in any case.
 pub struct Pool(NonNull<ffi::Pool>, PhantomData<*mut u8>);
 
 // A cache may go to another thread with its numbers. It isn't `Sync`: no two calls overlap.
@@ -57,7 +59,8 @@ impl Pool {
         Ok(Pool(NonNull::new(at).ok_or(Error::Null)?, PhantomData))
     }
 
-    /// Fills the slice with numbers, or leaves it as it is.
+    /// Fills the slice with numbers, or leaves it as it is. If the cache has too few, the others come from the free
+    /// ring, and for up to 512 places as many more as the cache's size, if that ring has them.
     ///
     /// # Errors
     ///
@@ -107,6 +110,16 @@ impl Pool {
         answer(unsafe { ffi::hk_pool_try_send_bulk(pool, ring, numbers.as_ptr(), numbers.len()) }).map(drop)
     }
 
+    /// Puts as many of these numbers on a ring of the pool as there is room for, from the front. Returns how many: all
+    /// of them, since a ring has room for all numbers of its pool.
+    ///
+    /// # Errors
+    ///
+    /// Those of `try_send_bulk`.
+    pub fn try_send_burst(&mut self, ring: usize, numbers: &[u32]) -> Result<usize, Error> {
+        answer(unsafe { ffi::hk_pool_try_send_burst(self.0.as_ptr(), ring, numbers.as_ptr(), numbers.len()) })
+    }
+
     /// Fills the slice with numbers of a ring of the pool, the oldest first, or leaves it as it is.
     ///
     /// # Errors
@@ -116,9 +129,59 @@ impl Pool {
         let pool = self.0.as_ptr();
         answer(unsafe { ffi::hk_pool_try_receive_bulk(pool, ring, numbers.as_mut_ptr(), numbers.len()) }).map(drop)
     }
+
+    /// Takes as many numbers of a ring of the pool as are queued and have a place, the oldest first. Returns how many
+    /// are at the front of the slice; its other places are unchanged.
+    ///
+    /// # Errors
+    ///
+    /// `NoRoom` if none is queued, `Ring`, `Again`, `Count`, `Worn`.
+    ///
+    /// ```
+    /// use hokhtura::{Error, Pool};
+    ///
+    /// # fn main() -> Result<(), Error> {
+    /// let mut sender = Pool::new(1000, 32, 1)?;
+    /// let mut receiver = sender.split()?;
+    /// let mut numbers = [0; 8];
+    /// sender.try_get_bulk(&mut numbers[..3])?;
+    /// sender.try_send_bulk(0, &numbers[..3])?;
+    /// assert_eq!(receiver.ring_count(0), Ok(3));
+    /// assert_eq!(receiver.try_receive_burst(0, &mut numbers), Ok(3));
+    /// # Ok(())
+    /// # }
+    /// ```
+    pub fn try_receive_burst(&mut self, ring: usize, numbers: &mut [u32]) -> Result<usize, Error> {
+        answer(unsafe { ffi::hk_pool_try_receive_burst(self.0.as_ptr(), ring, numbers.as_mut_ptr(), numbers.len()) })
+    }
+
+    /// How many numbers are queued on a ring of the pool. Others may send or receive some meanwhile.
+    ///
+    /// # Errors
+    ///
+    /// `Ring`.
+    pub fn ring_count(&self, ring: usize) -> Result<usize, Error> {
+        answer(unsafe { ffi::hk_pool_ring_count(self.0.as_ptr(), ring) })
+    }
+
+    /// How many more numbers a ring of the pool takes. Others may send or receive some meanwhile.
+    ///
+    /// # Errors
+    ///
+    /// `Ring`.
+    pub fn ring_room(&self, ring: usize) -> Result<usize, Error> {
+        answer(unsafe { ffi::hk_pool_ring_room(self.0.as_ptr(), ring) })
+    }
+
+    /// How many numbers are on the free ring. Those in the caches of handles aren't.
+    #[must_use]
+    pub fn free_count(&self) -> usize {
+        answer(unsafe { ffi::hk_pool_free_count(self.0.as_ptr()) }).unwrap_or(0)
+    }
 }
 
 impl Drop for Pool {
+    /// Puts what is cached on the free ring, if one flush does it.
     fn drop(&mut self) {
         unsafe { ffi::hk_pool_free(self.0.as_ptr()) }
     }

@@ -122,22 +122,16 @@ impl<T: Send> Queue<T> {
         self.hand.take_one(&mut at).map(|_| value(at))
     }
 
-    /// How many values are queued. Others may have put or taken some since.
-    ///
-    /// # Errors
-    ///
-    /// `Again`: another thread was in the middle of a call.
-    pub fn len(&self) -> Result<usize, Error> {
+    /// How many values are queued. Others may put or take some meanwhile.
+    #[must_use]
+    pub fn len(&self) -> usize {
         self.hand.count()
     }
 
-    /// Whether no value is queued. Others may have put some since.
-    ///
-    /// # Errors
-    ///
-    /// `Again`: another thread was in the middle of a call.
-    pub fn is_empty(&self) -> Result<bool, Error> {
-        self.len().map(|count| count == 0)
+    /// Whether no value is queued. Others may put some meanwhile.
+    #[must_use]
+    pub fn is_empty(&self) -> bool {
+        self.len() == 0
     }
 
     /// How many values the ring holds.

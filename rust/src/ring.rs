@@ -60,12 +60,10 @@ macro_rules! puts {
             self.hand.finish_put(words)
         }
 
-        /// How many more words there is room for. Others may have put or taken some since.
-        ///
-        /// # Errors
-        ///
-        /// `Open`: a call is pending. `Again`: another thread was in the middle of a call on a head/tail-sync side.
-        pub fn room(&self) -> Result<usize, Error> {
+        /// How many more words there is room for. Others may put or take some meanwhile. Positions that an unfinished
+        /// put has reserved count as room until words are put there.
+        #[must_use]
+        pub fn room(&self) -> usize {
             self.hand.room()
         }
     };
@@ -124,22 +122,17 @@ macro_rules! takes {
 
 macro_rules! both {
     () => {
-        /// How many words are queued. Others may have put or taken some since.
-        ///
-        /// # Errors
-        ///
-        /// `Open`: a call is pending. `Again`: another thread was in the middle of a call on a head/tail-sync side.
-        pub fn len(&self) -> Result<usize, Error> {
+        /// How many words are queued. Others may put or take some meanwhile. The words of an unfinished take count
+        /// until they are taken, and those of an unfinished put don't count yet.
+        #[must_use]
+        pub fn len(&self) -> usize {
             self.hand.count()
         }
 
-        /// Whether no word is queued. Others may have put some since.
-        ///
-        /// # Errors
-        ///
-        /// Those of `len`.
-        pub fn is_empty(&self) -> Result<bool, Error> {
-            self.len().map(|count| count == 0)
+        /// Whether no word is queued. Others may put some meanwhile.
+        #[must_use]
+        pub fn is_empty(&self) -> bool {
+            self.len() == 0
         }
 
         /// How many words the ring holds.

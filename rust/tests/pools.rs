@@ -17,7 +17,7 @@ fn each_number_is_got_once_and_put_once() -> Result<(), Error> {
     let mut numbers = [u32::MAX; 100];
     assert_eq!(pool.try_get_bulk(&mut [0; 101]), Err(Error::NoRoom));
     assert_eq!(pool.try_get_bulk(&mut []), Err(Error::Count));
-    assert_eq!(pool.try_get_bulk(&mut [0; POOL_MOST + 1]), Err(Error::Count));
+    assert_eq!(pool.try_get_bulk(&mut vec![0; POOL_MOST + 1]), Err(Error::Count));
     for part in numbers.chunks_mut(9) {
         pool.try_get_bulk(part)?;
     }
@@ -36,6 +36,52 @@ fn each_number_is_got_once_and_put_once() -> Result<(), Error> {
     numbers.sort_unstable();
     assert!(numbers.iter().copied().eq(0..100));
     Ok(())
+}
+
+#[test]
+fn long_calls_take_from_the_cache_and_then_from_the_free_ring() -> Result<(), Error> {
+    let mut pool = Pool::new(20_000, 300, 0)?;
+    let mut numbers = vec![0; POOL_MOST];
+    pool.try_get_bulk(&mut numbers[..1])?;
+    assert_eq!((pool.cached(), pool.free_count()), (300, 20_000 - 301));
+    pool.try_get_bulk(&mut numbers)?;
+    assert!(numbers.iter().copied().eq((1..=300).rev().chain(301..=4096)));
+    assert_eq!((pool.cached(), pool.free_count()), (0, 20_000 - 4097));
+    pool.try_put_bulk(&numbers)?;
+    assert_eq!((pool.cached(), pool.free_count()), (0, 19_999));
+    Ok(())
+}
+
+#[test]
+fn bursts_move_what_there_is() -> Result<(), Error> {
+    let mut pool = Pool::new(8, 0, 2)?;
+    let mut other = pool.split()?;
+    let mut numbers = [u32::MAX; 8];
+    pool.try_get_bulk(&mut numbers[..5])?;
+    assert_eq!(other.try_receive_burst(1, &mut [0]), Err(Error::NoRoom));
+    assert_eq!(pool.try_send_burst(1, &numbers[..5]), Ok(5));
+    assert_eq!(pool.try_send_burst(1, &numbers[..1]), Err(Error::NotYours));
+    assert_eq!((other.ring_count(1), other.ring_room(1), other.ring_count(0)), (Ok(5), Ok(3), Ok(0)));
+    assert_eq!((other.ring_count(2), other.ring_room(2)), (Err(Error::Ring), Err(Error::Ring)));
+    let mut taken = [u32::MAX; 8];
+    assert_eq!(other.try_receive_burst(1, &mut taken[..2]), Ok(2));
+    assert_eq!(other.try_receive_burst(1, &mut taken[2..]), Ok(3));
+    assert_eq!(taken, numbers);
+    Ok(())
+}
+
+#[test]
+fn what_is_cached_goes_back_with_a_dropped_handle() -> Result<(), Error> {
+    let mut pool = Pool::new(8, 4, 0)?;
+    let mut other = pool.split()?;
+    let mut numbers = [0; 8];
+    other.try_get_bulk(&mut numbers[..6])?;
+    other.try_put_bulk(&numbers[..5])?;
+    assert_eq!((other.cached(), pool.free_count()), (5, 2));
+    drop(other);
+    assert_eq!(pool.free_count(), 7);
+    assert_eq!(pool.try_get_bulk(&mut numbers), Err(Error::NoRoom));
+    pool.try_get_bulk(&mut numbers[..7])
 }
 
 #[test]

@@ -24,12 +24,12 @@ impl Drop for Counted {
 #[test]
 fn values_move_through_and_come_back_with_an_error() -> Result<(), Error> {
     let mut queue = Queue::new(2)?;
-    assert_eq!((queue.capacity(), queue.len(), queue.is_empty()), (2, Ok(0), Ok(true)));
+    assert_eq!((queue.capacity(), queue.len(), queue.is_empty()), (2, 0, true));
     assert_eq!(queue.try_take(), Err(Error::NoRoom));
     assert_eq!(queue.try_put("one".to_string()), Ok(()));
     assert_eq!(queue.try_put_box(Box::new("two".to_string())), Ok(()));
     assert_eq!(queue.try_put("three".to_string()), Err(("three".to_string(), Error::NoRoom)));
-    assert_eq!((queue.len(), queue.is_empty()), (Ok(2), Ok(false)));
+    assert_eq!((queue.len(), queue.is_empty()), (2, false));
     assert_eq!(queue.try_take(), Ok("one".to_string()));
     assert_eq!(queue.try_take_box(), Ok(Box::new("two".to_string())));
     assert_eq!(Queue::<u8>::new(0).err(), Some(Error::Plan));
@@ -110,7 +110,7 @@ fn four_threads_pass_values_and_end() -> Result<(), Error> {
         first.join().expect("the thread ends") + second.join().expect("the thread ends")
     });
     assert!(sum < EACH * (2 * EACH - 1));
-    assert_eq!(queue.len(), Ok(usize::try_from(LEFT).expect("it is small")));
+    assert_eq!(queue.len(), usize::try_from(LEFT).expect("it is small"));
     thread::scope(|scope| {
         scope.spawn(|| drop(queue));
         for handle in handles {

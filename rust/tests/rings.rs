@@ -15,7 +15,7 @@ fn bulk_moves_all_or_none_and_burst_what_there_is() -> Result<(), Error> {
             assert_eq!(ring.left(), 6);
             assert_eq!(ring.try_put_bulk(&[1, 2, 3, 4]), Ok(4));
             assert_eq!(ring.try_put_burst(&[5, 6, 7]), Ok(2));
-            assert_eq!((ring.len(), ring.room()), (Ok(6), Ok(0)));
+            assert_eq!((ring.len(), ring.room()), (6, 0));
             assert_eq!(ring.try_take_bulk(&mut words[..7]), Err(Error::NoRoom));
             assert_eq!(ring.try_take_burst(&mut words), Ok(6));
             assert_eq!(words, [1, 2, 3, 4, 5, 6, 0, 0]);
@@ -110,9 +110,9 @@ fn each_word_crosses_once_and_in_order() -> Result<(), Error> {
 fn both_ends_say_what_the_ring_holds_and_either_closes_it() -> Result<(), Error> {
     let (mut producer, mut consumer) = Ring::<u64>::new(5)?.split()?;
     assert_eq!((producer.capacity(), consumer.capacity()), (5, 5));
-    assert_eq!((producer.is_empty(), consumer.len()), (Ok(true), Ok(0)));
+    assert_eq!((producer.is_empty(), consumer.len()), (true, 0));
     producer.try_put_bulk(&[1, 2, 3])?;
-    assert_eq!((producer.len(), consumer.is_empty(), producer.left()), (Ok(3), Ok(false), 2));
+    assert_eq!((producer.len(), consumer.is_empty(), producer.left()), (3, false, 2));
     let mut taken = consumer.taken();
     assert_eq!((taken.next(), taken.by_ref().count(), taken.next()), (Some(1), 2, None));
     producer.try_put_bulk(&[4])?;
@@ -163,13 +163,26 @@ fn a_held_side_is_given_back_when_it_is_dropped() -> Result<(), Error> {
         assert_eq!((takes.take(), takes.take()), (Ok(0), Ok(1)));
         assert_eq!(puts.put(6), Ok(()));
         drop((puts, takes));
-        assert_eq!((producer.room(), consumer.len()), (Ok(1), Ok(5)));
+        assert_eq!((producer.room(), consumer.len()), (1, 5));
         assert_eq!(consumer.taken().collect::<Vec<_>>(), [2, 3, 4, 5, 6]);
         assert_eq!(consumer.hold(most).take(), Err(Error::NoRoom));
     }
     let (mut producer, mut consumer) = Ring::<u64>::new(6)?.split()?;
     assert_eq!(producer.hold(1).put(1), Err(Error::Mode));
     assert_eq!(consumer.hold(1).take(), Err(Error::Mode));
+    Ok(())
+}
+
+#[test]
+fn a_ring_is_counted_while_its_sides_are_held() -> Result<(), Error> {
+    let (mut producer, mut consumer) = Ring::with_modes(6, Mode::Hts, Mode::Hts)?.split()?;
+    let other = producer.try_clone()?;
+    let mut puts = producer.hold(4);
+    puts.put(1u64)?;
+    puts.put(2)?;
+    assert_eq!((other.len(), other.room(), other.is_empty()), (2, 4, false));
+    let mut takes = consumer.hold(2);
+    assert_eq!((other.len(), takes.take(), other.len(), other.room()), (2, Ok(1), 1, 5));
     Ok(())
 }
 

@@ -156,19 +156,29 @@ static void refusals(void) {
     CHECK(!rte_ring_lookup("r") && rte_errno == ENOENT);
 }
 
-/* Counts of a thread that has a peek open, and an element of another size. */
+static void *counts(void *at) { return (void *)(uintptr_t)rte_ring_count(at); }
+
+/* What another thread counts. */
+static unsigned count_elsewhere(struct rte_ring *r) {
+    pthread_t thread;
+    void *count = NULL;
+    CHECK(pthread_create(&thread, NULL, counts, r) == 0 && pthread_join(thread, &count) == 0);
+    return (unsigned)(uintptr_t)count;
+}
+
+/* Counts of a thread that has a peek open and of one beside it, and an element of another size. */
 static void beside_a_peek(void) {
     void *objects[4] = {NULL, NULL, NULL, NULL};
     uint64_t small = 0; /* aligned as a word, so that only its size is another one */
     struct rte_ring *r = rte_ring_create("r", 8, SOCKET_ID_ANY, RING_F_SP_ENQ | RING_F_SC_DEQ);
     CHECK(r && rte_ring_enqueue_bulk(r, objects, 4, NULL) == 4);
     CHECK(rte_ring_dequeue_bulk_start(r, objects, 3, NULL) == 3);
-    CHECK(rte_ring_count(r) == 4 && rte_ring_free_count(r) == 3);
+    CHECK(rte_ring_count(r) == 4 && rte_ring_free_count(r) == 3 && count_elsewhere(r) == 4);
     CHECK(rte_ring_dequeue(r, objects) == -ENOENT);
     rte_ring_dequeue_finish(r, 1);
     CHECK(rte_ring_count(r) == 3);
     CHECK(rte_ring_enqueue_burst_start(r, 8, NULL) == 4);
-    CHECK(rte_ring_count(r) == 3 && rte_ring_free_count(r) == 4);
+    CHECK(rte_ring_count(r) == 3 && rte_ring_free_count(r) == 4 && count_elsewhere(r) == 3);
     rte_ring_enqueue_finish(r, objects, 2);
     CHECK(rte_ring_count(r) == 5);
     CHECK(rte_ring_enqueue_elem(r, &small, 4) == -ENOBUFS);

@@ -24,11 +24,11 @@ none_some : {X : Type 0} {x : X} → None ≡ Some x → ⊥
 none_some e = cc
 
 -- all numbers fit into a ring of this capacity
-pub fits_all : (plan : RingPlan) (n : ℕ) {e : Extent} → plan.geometry ≡ e → IsExtent e → e.capacity ≡ n → 1024 < range_of e → Fits plan n 1024
+pub fits_all : (plan : RingPlan) (n : ℕ) {e : Extent} → plan.geometry ≡ e → IsExtent e → e.capacity ≡ n → 4096 < range_of e → Fits plan n 4096
 fits_all plan n is extent all counts = record {
   extent = subst IsExtent (sym is) extent;
   free_rings = λ free. omega (arith, all, ap (λ (x : Extent). x.capacity) is);
-  counts = λ side hts. subst (λ (x : Extent). 1024 < range_of x) (sym is) counts;
+  counts = λ side hts. subst (λ (x : Extent). 4096 < range_of x) (sym is) counts;
 }
 
 copied : (n ring : ℕ) (other plan : RingPlan) → slice_get (replicate n other) ring ≡ Some plan → plan ≡ other
@@ -60,15 +60,15 @@ module _ (first other : RingPlan) where
     first = λ plan at. subst (λ (p : RingPlan). p.free ≡ true) (front_plan n plan at) free;
   }
 
-  pub pool_stands : (n numbers : ℕ) → 0 < n → n ≤ 64 → numbers ≤ 1048575 → Fits first numbers 1024 → Fits other numbers 1024
-      → WordsMayStand (slice_set (replicate n other) 0 first) numbers 1024
+  pub pool_stands : (n numbers : ℕ) → 0 < n → n ≤ 64 → numbers ≤ 1048575 → Fits first numbers 4096 → Fits other numbers 4096
+      → WordsMayStand (slice_set (replicate n other) 0 first) numbers 4096
   pool_stands n numbers some few low front behind = record {
     some_ring = omega (arith, some, long_plans n);
     few_rings = omega (arith, few, long_plans n);
     few_buffers = low;
     some_item = omega arith;
     few_items = omega arith;
-    free_rings = each_plan (λ p. Fits p numbers 1024) front behind n;
+    free_rings = each_plan (λ p. Fits p numbers 4096) front behind n;
   }
 
 -- a span more of the numbers

@@ -13,6 +13,7 @@ pub mod Members
 pub mod Spans
 pub mod Calls
 pub mod Finishes
+pub mod Counts
 pub mod RingCalls
 pub mod MemberCalls
 pub mod Holding

@@ -1,14 +1,18 @@
 -- What each call of C's does to a hand and its rings: `m` is the hand before the call, `u` after it
-use Rattle.std.specs.Prelude.{◌≡◌, ℕ, ◌-◌, ◌^◌, List, Ok, min}
+use Rattle.std.specs.Prelude.{◌≡◌, ℕ, ◌-◌, ◌^◌, ◌<◌, ◌≤◌, ◌⊎◌, List, length, Ok, Err, min}
 use Rattle.geom.specs.declared.plan.How.{How}
 use Rattle.geom.specs.declared.plan.Side.{Side}
 use Rattle.geom.specs.declared.plan.Side.TheVariants.{Put, Take}
+use Rattle.fabric.specs.Hands.{rings_of}
 use Rattle.fabric.specs.declared.hand.in_place.OpenSpan.{OpenSpan}
 use Rattle.fabric.specs.declared.hand.in_place.OpenSpan.TheVariants as open_span
 use Rattle.capi.specs.Calls.{PeeksPut, PeeksTake, Puts, Takes}
 use Rattle.capi.specs.Codes.{Outcome}
 use Rattle.capi.specs.Finishes.{FinishesPut, FinishesTake}
-use Rattle.capi.specs.RingCalls.{Looks, OnHts, OnPutting, OnRings, OnTaking, SameMember, member_view}
+use Rattle.capi.specs.Counts.{Looks}
+use Rattle.capi.specs.RingCalls.{OnHts, OnPutting, OnRings, OnTaking, SameButLoads, SameMember, member_view}
+use Rattle.capi.specs.Spans.{tags}
+use Rattle.capi.specs.declared.rings.fault.Fault.TheVariants as fault
 use Rattle.capi.specs.declared.rings.member.Member.{Member}
 use Rattle.capi.specs.declared.rings.word64.Word64.{Word64}
 
@@ -37,9 +41,12 @@ abbrev pub EndsTake : ℕ → Member → Member → Outcome → Type 0
 EndsTake n m u outcome = OnTaking m outcome (SameMember m u) (λ span v. (u.port.fabric ≡ m.port.fabric)
     × FinishesTake m.port.fabric.value span v n (member_view u) outcome)
 
+-- a look at a ring, with a span open or without
 abbrev pub LooksAt : ℕ → Side → Member → Member → Outcome → Type 0
-LooksAt ring side m u outcome = OnRings ring m outcome (SameMember m u) (λ v. (u.port.fabric ≡ m.port.fabric)
-    × Looks m.port.fabric.value ring side v (member_view u) outcome)
+LooksAt ring side m u outcome =
+    ((length (rings_of m.port.fabric.value) ≤ ring) × (outcome ≡ Err fault.Ring) × SameMember m u)
+    ⊎ ((ring < length (rings_of m.port.fabric.value)) × SameButLoads m u
+    × Looks tags m.port.fabric.value ring side (member_view m) (member_view u) outcome)
 
 -- 0 with no open span, 1 with one of a put, 2 with one of a take, 3 while it holds a take side
 abbrev pub span_kind : OpenSpan → ℕ

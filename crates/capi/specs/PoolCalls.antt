@@ -1,5 +1,6 @@
 -- What the calls on a pool of numbers do to a cache
-use Rattle.std.specs.Prelude.{◌≡◌, ℕ, ◌+◌, ◌-◌, ◌<◌, ◌≤◌, ◌++◌, ◌⊎◌, List, [], length, Option, Ok, Err}
+use Rattle.std.specs.Prelude.{◌≡◌, ℕ, ◌+◌, ◌-◌, ◌<◌, ◌≤◌, ◌++◌, ◌⊎◌, List, [], drop, length, Option, Ok, Err}
+use Rattle.geom.specs.declared.plan.How.{How}
 use Rattle.ringcore_laws.specs.Sound.{holds}
 use Rattle.burst.specs.declared.tagged.Tagged.{Ghosts}
 use Rattle.fabric_laws.specs.declared.view.View.{View}
@@ -9,13 +10,14 @@ use Rattle.fabric.specs.declared.hand.StartFault.TheVariants.{Busy, Contended, N
 use Rattle.fabric.specs.Settles.{AreNotOwnBuffers, AreOwnBuffers}
 use Rattle.ringapi.specs.declared.answers.Moved.{Moved}
 use Rattle.ringapi.specs.declared.answers.Refusal.{Refusal}
+use Rattle.ringapi.specs.Views.{by_bulk}
 use Rattle.pool.specs.declared.local.Local.{Local}
 use Rattle.pool.specs.declared.store.Store.{Ghosts as StoreGhosts}
 use Rattle.pool_laws.specs.Caches.{cached_after_get, taken_by_get, threshold}
 use Rattle.pool.specs.Locals.{SameCache, SameRing, cache_of, cache_size, view_of}
 use Rattle.capi.specs.Codes.{Outcome}
 use Rattle.capi.specs.PoolMembers.{NumberRings, numbers_of}
-use Rattle.capi.specs.Tries.{IsSame, Received, Sent, refusal_fault}
+use Rattle.capi.specs.Tries.{IsPartOf, IsSame, Received, Sent, refusal_fault}
 use Rattle.capi.specs.Spans.{start_fault}
 use Rattle.capi.specs.declared.rings.fault.Fault.{Fault}
 use Rattle.capi.specs.declared.rings.fault.Fault.TheVariants as fault
@@ -31,7 +33,7 @@ abbrev pub IsGoodCount : ℕ → Type 0
 IsGoodCount n = (0 < n) × (n ≤ MOST_NUMBERS)
 
 module _ {G : Ghosts Number} {H : StoredGhosts (Option Number) Number} {C : Type 0} {K : StoreGhosts C Number}
-    (l : Local Number 1024 (Option Number) C G H K) where
+    (l : Local Number 4096 (Option Number) C G H K) where
   -- what a get of n numbers asks of the free ring: those that the cache lacks and one cache more, or these alone
   abbrev pub IsAskedFor : ℕ → ℕ → Type 0
   IsAskedFor n asked = (asked ≡ n - length (cache_of l) + cache_size l) ⊎ (asked ≡ n - length (cache_of l))
@@ -56,12 +58,12 @@ module _ {G : Ghosts Number} {H : StoredGhosts (Option Number) Number} {C : Type
   PassesCache items = threshold (cache_size l) < length (cache_of l ++ items)
 
 module _ {G : Ghosts Number} {H : StoredGhosts (Option Number) Number} {C : Type 0} {K : StoreGhosts C Number} (f : NumberRings)
-    (l m : Local Number 1024 (Option Number) C G H K) where
+    (l m : Local Number 4096 (Option Number) C G H K) where
   -- where the numbers of a get come from: the cache has n, or it has too few, and the free ring gave these
   abbrev pub Draws : ℕ → List Number → Type 0
   Draws n taken = ((n ≤ length (cache_of l)) × (taken ≡ []) × (view_of m ≡ view_of l))
       ⊎ ((length (cache_of l) < n) × (asked : ℕ) × IsAskedFor l n asked × (moved : Moved)
-      × Received f 0 asked l m (Ok moved) taken)
+      × Received f by_bulk 0 asked l m (Ok moved) taken)
 
   -- n numbers were got: those of the cache, the newest first, and then the first that the free ring gave; the rest of
   -- those is cached. All that was got, and what is cached, is the handle's own, each number once
@@ -77,7 +79,7 @@ module _ {G : Ghosts Number} {H : StoredGhosts (Option Number) Number} {C : Type
   pub record HasDrawn (n asked : ℕ) (got : List Number) : Type 0 where
     pub taken : List Number
     pub moved : Moved
-    pub reply : Received f 0 asked l m (Ok moved) taken
+    pub reply : Received f by_bulk 0 asked l m (Ok moved) taken
     pub given : got ≡ taken_by_get n (cache_of l) taken
     pub cached : cache_of m ≡ cached_after_get n (cache_of l) taken
     pub own : AreOwnBuffers numbers_of (view_of m) (got ++ cache_of m)
@@ -87,7 +89,7 @@ module _ {G : Ghosts Number} {H : StoredGhosts (Option Number) Number} {C : Type
   abbrev pub RefusesGet : ℕ → Fault → Type 0
   RefusesGet n why = IsBadCount n why
       ⊎ ((length (cache_of l) < n) × (asked : ℕ) × (reason : StartFault) × IsLastAsked l n asked reason
-      × (why ≡ start_fault reason) × Received f 0 asked l m (Err reason) [])
+      × (why ≡ start_fault reason) × Received f by_bulk 0 asked l m (Err reason) [])
 
   -- a get: it fills the array, or nothing is changed
   abbrev pub Gets : List Number → List Number → Outcome → Type 0
@@ -107,14 +109,14 @@ module _ {G : Ghosts Number} {H : StoredGhosts (Option Number) Number} {C : Type
     pub cache : SameCache l m
     pub ring : SameRing l m
     pub moved : Moved
-    pub sent : Sent f 0 (cache_of l) items l m (Ok moved)
+    pub sent : Sent f by_bulk 0 (cache_of l) items l m (Ok moved)
 
   -- why nothing was put: the count, numbers that aren't the handle's, or what the free ring answered
   abbrev pub RefusesPut : List Number → Fault → Type 0
   RefusesPut items why = IsBadCount (length items) why
       ⊎ (((why ≡ fault.NotYours) × AreNotOwnBuffers numbers_of (view_of l) (cache_of l ++ items))
       ⊎ (MayPut l items × PassesCache l items × (reason : Refusal) × (why ≡ refusal_fault reason)
-      × Sent f 0 (cache_of l) items l m (Err reason)))
+      × Sent f by_bulk 0 (cache_of l) items l m (Err reason)))
 
   -- a put: the numbers are cached, or on the free ring, or nothing is changed
   abbrev pub Puts : List Number → Outcome → Type 0
@@ -124,24 +126,44 @@ module _ {G : Ghosts Number} {H : StoredGhosts (Option Number) Number} {C : Type
   -- all that was cached is on the free ring, the oldest first, or the cache is as it was
   abbrev pub Flushes : Outcome → Type 0
   Flushes (Ok count) = (count ≡ length (cache_of l)) × (cache_of m ≡ []) × SameRing l m
-      × (((cache_of l ≡ []) × (view_of m ≡ view_of l)) ⊎ ((moved : Moved) × Sent f 0 [] (cache_of l) l m (Ok moved)))
+      × (((cache_of l ≡ []) × (view_of m ≡ view_of l)) ⊎ ((moved : Moved) × Sent f by_bulk 0 [] (cache_of l) l m (Ok moved)))
   Flushes (Err why) = IsSame l m
-      × (reason : Refusal) × (why ≡ refusal_fault reason) × Sent f 0 [] (cache_of l) l m (Err reason)
+      × (reason : Refusal) × (why ≡ refusal_fault reason) × Sent f by_bulk 0 [] (cache_of l) l m (Err reason)
 
-  -- the numbers are on a ring, or nothing is changed
-  abbrev pub PassesOn : ℕ → List Number → Outcome → Type 0
-  PassesOn ring items (Ok count) = (count ≡ length items) × IsGoodCount count × SameRing l m × SameCache l m
-      × (moved : Moved) × Sent f ring (cache_of l) items l m (Ok moved)
-  PassesOn ring items (Err why) = IsSame l m × (IsBadCount (length items) why
-      ⊎ ((reason : Refusal) × (why ≡ refusal_fault reason) × Sent f ring (cache_of l) items l m (Err reason)))
+module _ {G : Ghosts Number} {H : StoredGhosts (Option Number) Number} {C : Type 0} {K : StoreGhosts C Number} (f : NumberRings)
+    (how : How) (ring : ℕ) (l m : Local Number 4096 (Option Number) C G H K) where
+  -- the first of some numbers are on a ring: by bulk all of them
+  pub record HasSent (items : List Number) (count : ℕ) : Type 0 where
+    pub good : IsGoodCount (length items)
+    pub part : IsPartOf how (length items) count
+    pub same : SameRing l m × SameCache l m
+    pub moved : Moved
+    pub moves : count ≡ moved.count
+    pub sent : Sent f how ring (cache_of l) items l m (Ok moved)
 
-  -- numbers of a ring fill the array, and are the handle's own, or nothing is changed
-  abbrev pub TakesOver : ℕ → List Number → List Number → Outcome → Type 0
-  TakesOver ring before after (Ok count) = (count ≡ length before) × IsGoodCount count × SameRing l m × SameCache l m
-      × AreOwnBuffers numbers_of (view_of m) (after ++ cache_of m)
-      × (moved : Moved) × Received f ring count l m (Ok moved) after
-  TakesOver ring before after (Err why) = (after ≡ before) × IsSame l m × (IsBadCount (length before) why
-      ⊎ ((reason : StartFault) × (why ≡ start_fault reason) × Received f ring (length before) l m (Err reason) []))
+  -- numbers of a ring are at the front of an array, by bulk in all its places, and are the handle's own
+  pub record HasReceived (before after : List Number) (count : ℕ) : Type 0 where
+    pub good : IsGoodCount (length before)
+    pub part : IsPartOf how (length before) count
+    pub same : SameRing l m × SameCache l m
+    pub shown : List Number
+    pub front : after ≡ shown ++ drop (length shown) before
+    pub shows : count ≡ length shown
+    pub own : AreOwnBuffers numbers_of (view_of m) (shown ++ cache_of m)
+    pub moved : Moved
+    pub reply : Received f how ring (length before) l m (Ok moved) shown
+
+  -- numbers go to a ring, or nothing is changed
+  abbrev pub PassesOn : List Number → Outcome → Type 0
+  PassesOn items (Ok count) = HasSent items count
+  PassesOn items (Err why) = IsSame l m × (IsBadCount (length items) why
+      ⊎ ((reason : Refusal) × (why ≡ refusal_fault reason) × Sent f how ring (cache_of l) items l m (Err reason)))
+
+  -- numbers come from a ring, or nothing is changed
+  abbrev pub TakesOver : List Number → List Number → Outcome → Type 0
+  TakesOver before after (Ok count) = HasReceived before after count
+  TakesOver before after (Err why) = (after ≡ before) × IsSame l m × (IsBadCount (length before) why
+      ⊎ ((reason : StartFault) × (why ≡ start_fault reason) × Received f how ring (length before) l m (Err reason) []))
 
 -- 1 if the handle has a number, cached or not, and 0 if it hasn't
 abbrev pub TellsOwner : View Number → ℕ → Outcome → Type 0

@@ -14,7 +14,7 @@ use Rattle.capi.specs.declared.pools.member.Number.{Number}
 
 -- rings of numbers
 abbrev pub NumberRings : Type 0
-NumberRings = Fabric Number 1024 (Option Number)
+NumberRings = Fabric Number 4096 (Option Number)
 
 -- a number is a buffer
 abbrev pub numbers_of : Number → List ℕ
@@ -35,5 +35,5 @@ pub record ArePoolRings (plans : List RingPlan) : Type 0 where
 
 module _ {G : Ghosts Number} {H : StoredGhosts (Option Number) Number} where
   -- the cache's hand comes from these rings
-  abbrev pub SuitsCache : {C : Type 0} {K : StoreGhosts C Number} → NumberRings → Local Number 1024 (Option Number) C G H K → Type 0
+  abbrev pub SuitsCache : {C : Type 0} {K : StoreGhosts C Number} → NumberRings → Local Number 4096 (Option Number) C G H K → Type 0
   SuitsCache f l = (k : _) → hand_of l ≡ Some k → IsCacheHandOf f k

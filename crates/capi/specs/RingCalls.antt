@@ -1,5 +1,5 @@
 -- What calls on a hand of C's do to it
-use Rattle.std.specs.Prelude.{◌≡◌, ℕ, ◌<◌, ◌≤◌, ◌⊎◌, Bool, true, false, length, IsSome, Ok, Err, min, ◌^◌, ◌-◌}
+use Rattle.std.specs.Prelude.{◌≡◌, ℕ, ◌<◌, ◌≤◌, ◌⊎◌, Bool, true, false, length, IsSome, Err}
 use Rattle.geom.specs.declared.plan.Mode.TheVariants.{Multi}
 use Rattle.geom.specs.declared.plan.Side.{Side}
 use Rattle.geom.specs.declared.plan.Side.TheVariants.{Put, Take}
@@ -7,8 +7,6 @@ use Rattle.geom.specs.Plan.{mode_of}
 use Rattle.ringcore_laws.specs.declared.protocol.Span.{Span}
 use Rattle.fabric.specs.Held.{span_at}
 use Rattle.fabric.specs.InPlace.{placed_view}
-use Rattle.fabric.specs.Starts.{FindsRoom}
-use Rattle.fabric.specs.Views.{IsKept}
 use Rattle.fabric_laws.specs.declared.view.View.{View}
 use Rattle.fabric.specs.Hands.{OnRing, rings_of}
 use Rattle.fabric.specs.declared.hand.in_place.OpenSpan.{OpenSpan}
@@ -16,8 +14,6 @@ use Rattle.fabric.specs.declared.hand.in_place.OpenSpan.TheVariants as open_span
 use Rattle.fabric.specs.declared.hand.in_place.OpenSpan.TheVariants.{Idle}
 use Rattle.ringapi.specs.Spares.{IsSameBut, IsUnused}
 use Rattle.capi.specs.Codes.{Outcome}
-use Rattle.capi.specs.Members.{Rings}
-use Rattle.capi.specs.Spans.{tags}
 use Rattle.capi.specs.Spare.{RefusesSpare}
 use Rattle.capi.specs.declared.rings.fault.Fault.{Fault}
 use Rattle.capi.specs.declared.rings.fault.Fault.TheVariants as fault
@@ -86,12 +82,12 @@ abbrev pub room_side : Bool → Side
 room_side true = Take
 room_side false = Put
 
--- a look at a side of a ring
-abbrev pub Looks : Rings → ℕ → Side → View Word64 → View Word64 → Outcome → Type 0
-Looks f ring side v w (Ok count) = IsKept v w × (room : ℕ) × (count ≡ min room (2 ^ 32 - 1))
-    × OnRing f ring (λ plan. FindsRoom tags ring side plan v w (Ok room))
-Looks f ring side v w (Err why) = (why ≡ fault.Again) × IsKept v w
-    × (word : ℕ) × OnRing f ring (λ plan. FindsRoom tags ring side plan v w (Err word))
+-- the member is as it was, but for its loads, which are counted
+pub record SameButLoads (m u : Member) : Type 0 where
+  pub fabric : u.port.fabric ≡ m.port.fabric
+  pub span : u.port.hand.span ≡ m.port.hand.span
+  pub shown : u.shown.value ≡ m.shown.value
+  pub left : u.left ≡ m.left
 
 -- another thread has a hand now: the first keeps what it has done, the second has done nothing
 pub record Splits (m u other : Member) : Type 0 where

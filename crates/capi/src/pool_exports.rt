@@ -2,14 +2,18 @@
 ghost use Rattle.std.specs.Prelude.{◌≡◌, IfErr};
 ghost use Rattle.capi.specs.Codes.{Answers};
 ghost use Rattle.capi.specs.PoolHandles.{AtPool};
-ghost use Rattle.capi.specs.Same.{FlushesCache, GetsNumbers, PutsNumbers, ReceivesNumbers, SendsNumbers};
-ghost use Rattle.capi.specs.Same.{TellsCached, TellsOwned};
+ghost use Rattle.capi.specs.Calls.{how_of};
+ghost use Rattle.capi.specs.RingCalls.{room_side};
+ghost use Rattle.capi.specs.Same.{CountsFree, CountsNumbers, FlushesCache, GetsNumbers, PutsNumbers};
+ghost use Rattle.capi.specs.Same.{ReceivesNumbers, SendsNumbers, TellsCached, TellsOwned};
 
 use crate::handle::Handle;
 use crate::keeping::{borrow, with_object};
 use crate::object::Object;
-use crate::pools::{Number, flush_numbers, get_into, pass_on, put_numbers, take_over};
-use crate::rings::{Fault, answer};
+use crate::pools::{
+    Number, count_free, count_on, flush_numbers, get_into, pass_on, put_numbers, take_over,
+};
+use crate::rings::{Fault, answer, how, side_of};
 use std::alloc::Global;
 
 /// Fills an array with numbers of the pool.
@@ -39,10 +43,16 @@ pub extern "C" fn hkx_pool_flush(alloc: Global, h: &mut Handle) -> i64
 
 /// Passes numbers on by a ring of the pool.
 #[unsafe(no_mangle)]
-pub extern "C" fn hkx_pool_send(alloc: Global, h: &mut Handle, ring: usize, items: &[Number]) -> i64
-    ensures { Answers result (AtPool h.old.value h.new.value (SendsNumbers ring items.now)) }
+pub extern "C" fn hkx_pool_send(
+    alloc: Global,
+    h: &mut Handle,
+    ring: usize,
+    items: &[Number],
+    bulk: bool,
+) -> i64
+    ensures { Answers result (AtPool h.old.value h.new.value (SendsNumbers ring (how_of bulk) items.now)) }
 {
-    with_object!(alloc, h, Pool(pool) => pass_on(pool, ring, items))
+    with_object!(alloc, h, Pool(pool) => pass_on(pool, ring, items, how(bulk)))
 }
 
 /// Takes numbers over from a ring of the pool.
@@ -52,12 +62,29 @@ pub extern "C" fn hkx_pool_receive(
     h: &mut Handle,
     ring: usize,
     into: &mut [Number],
+    bulk: bool,
 ) -> i64
     ensures { Answers result
-        (λ outcome. AtPool h.old.value h.new.value (ReceivesNumbers ring into.old into.new) outcome
+        (λ outcome. AtPool h.old.value h.new.value (ReceivesNumbers ring (how_of bulk) into.old into.new) outcome
         × IfErr outcome (λ _. into.new ≡ into.old)) }
 {
-    with_object!(alloc, h, Pool(pool) => take_over(pool, ring, into))
+    with_object!(alloc, h, Pool(pool) => take_over(pool, ring, into, how(bulk)))
+}
+
+/// How many numbers are queued on a ring of the pool, or how many more there is room for.
+#[unsafe(no_mangle)]
+pub extern "C" fn hkx_pool_room(alloc: Global, h: &mut Handle, ring: usize, queued: bool) -> i64
+    ensures { Answers result (AtPool h.old.value h.new.value (CountsNumbers ring (room_side queued))) }
+{
+    with_object!(alloc, h, Pool(pool) => count_on(pool, ring, side_of(queued)))
+}
+
+/// How many numbers are on the free ring.
+#[unsafe(no_mangle)]
+pub extern "C" fn hkx_pool_free_count(alloc: Global, h: &mut Handle) -> i64
+    ensures { Answers result (AtPool h.old.value h.new.value CountsFree) }
+{
+    with_object!(alloc, h, Pool(pool) => Ok(count_free(pool)))
 }
 
 /// How many numbers the handle's cache has.

@@ -1,7 +1,9 @@
 //! Pools of numbers as C calls them: a cache with its rings in one value, and the calls on it.
 //!
 //! `member` is a thread's way to a pool, `opening` makes the first one and `splits` the others. `gets` and `puts` go
-//! through the cache, `passing` to the rings that pass numbers on; `tries` makes their tries on a ring.
+//! through the cache, `passing` to the rings that pass numbers on, and `counting` counts what is on them. `tries` makes
+//! their tries on a ring.
+mod counting;
 mod gets;
 mod member;
 mod opening;
@@ -10,6 +12,7 @@ mod puts;
 mod splits;
 mod tries;
 
+pub(crate) use counting::{count_free, count_on};
 pub(crate) use gets::get_into;
 pub(crate) use member::{Number, PoolMember};
 pub(crate) use opening::open_pool;

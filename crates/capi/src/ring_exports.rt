@@ -44,7 +44,7 @@ pub extern "C" fn hkx_ring_take(
     with_object!(alloc, h, Hand(member) => take_words(member, ring, words, how(bulk)))
 }
 
-/// How many words are queued on a ring, or how many more there is room for.
+/// How many words are queued on a ring, or how many more there is room for, with a span open or without.
 #[unsafe(no_mangle)]
 pub extern "C" fn hkx_ring_room(alloc: Global, h: &mut Handle, ring: usize, queued: bool) -> i64
     ensures { Answers result (AtHand h.old.value h.new.value (LooksAt ring (room_side queued))) }

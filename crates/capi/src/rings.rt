@@ -29,7 +29,7 @@ pub(crate) use fault::{Fault, answer};
 pub(crate) use holding::{advance_put, advance_take, hold_take, release_take};
 pub(crate) use making::open;
 pub(crate) use member::{MOST, Member};
-pub(crate) use member_calls::{clamped, look, side_of};
+pub(crate) use member_calls::{clamped, look, queued_or_room, side_of};
 pub(crate) use opening::Asked;
 pub(crate) use span_calls::{finish_put_of, finish_take_of, peek_put_of, peek_take_of};
 pub(crate) use splitting::{spare_fault, split};

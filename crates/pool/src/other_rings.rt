@@ -1,14 +1,16 @@
-//! Puts and takes on any ring of the fabric by a hand that sets the buffers of a cache aside, for any kind of list: the
-//! cache isn't changed.
+//! Puts, takes and counts on any ring of the fabric by a hand that sets the buffers of a cache aside, for any kind of
+//! list: the cache isn't changed.
 ghost use Rattle.std.specs.Prelude.{◌≡◌, ◌<◌, ◌≤◌, [], ℕ, Some, length};
 ghost use Rattle.ringcore_laws.specs.Moves.{Owns};
+ghost use Rattle.fabric_laws.specs.Changes.{loaded};
+ghost use Rattle.fabric.specs.Counts.{CountsQueued};
 ghost use Rattle.fabric.specs.Hands.{OnRing, rings_of};
 ghost use Rattle.fabric.specs.CacheHands.{IsCacheHandOf, Keeps, view_of_cache_hand};
 ghost use Rattle.fabric.specs.Settles.{AreOwnBuffers};
 ghost use Rattle.pool.specs.Asides.{set_aside_of};
 ghost use Rattle.ringapi.specs.Views.{by_burst};
 ghost use Rattle.pool_laws.specs.Beside.{IsPutBeside, IsTakenBeside, PutOwns, Receives, Sends, TakeOwns, unsent_of};
-ghost use Rattle.pool.specs.Locals.{IsLocalOf, SameCache, SameRing, cache_of, hand_of};
+ghost use Rattle.pool.specs.Locals.{IsLocalOf, SameCache, SameRing, cache_of, hand_of, view_of};
 ghost use Rattle.pool.specs.Slices.{KeepsRoom, left_by};
 
 use crate::local::Local;
@@ -113,6 +115,29 @@ fn receive_beside<T: Tagged, const N: usize, S: Stored<T>, I: TakeItems<T>, C: S
     take_answered(take_into(rt, f, hand, ring, n, How::Burst, into), cache)
 }
 
+/// How many items are queued on a ring.
+fn count_beside<T: Tagged, const N: usize, S: Stored<T>, C: Store<T>>(
+    f: &Fabric<T, N, S>,
+    cache_hand: CacheHand<T, S>,
+    ring: usize,
+    cache: &C,
+) -> (CacheHand<T, S>, u64)
+    requires cache_hand { IsCacheHandOf f.now cache_hand }
+    requires ring { ring < length (rings_of f.now) }
+    requires kept { Keeps T.numbers cache_hand (set_aside_of C.aside (C.items cache.now)) }
+    requires own { AreOwnBuffers T.numbers (view_of_cache_hand cache_hand) (C.items cache.now) }
+    ensures cache_hand { IsCacheHandOf f.now result.0
+        × Keeps T.numbers result.0 (set_aside_of C.aside (C.items cache.now)) }
+    ensures owned { Owns T.numbers (view_of_cache_hand result.0).party (C.items cache.now) }
+    ensures view { view_of_cache_hand result.0 ≡ loaded (loaded (view_of_cache_hand cache_hand)) }
+    ensures found { OnRing f.now ring
+        (λ plan. CountsQueued T.numbers ring plan (view_of_cache_hand cache_hand) result.1) }
+{
+    let hand = whole_hand(cache_hand, cache);
+    let (hand, count) = f.count(hand, ring);
+    (keep_back(hand, cache), count)
+}
+
 impl<T: Tagged, const N: usize, S: Stored<T>, C: Store<T> + Drop> Local<T, N, S, C> {
     /// Puts as many items of a list as there is room for on a ring of the fabric, as `send_from` and `send_from_slice`
     /// say.
@@ -163,5 +188,20 @@ impl<T: Tagged, const N: usize, S: Stored<T>, C: Store<T> + Drop> Local<T, N, S,
         let (cache_hand, answer) = receive_beside(rt, f, cache_hand, ring, n, &self.cache, into);
         self.hand = Some(cache_hand);
         answer
+    }
+
+    /// How many items are queued on a ring of the fabric. Two loads, which aren't counted among the steps. No memory.
+    pub fn count(&mut self, f: &Fabric<T, N, S>, ring: usize) -> u64
+        requires local { IsLocalOf f.now self.old }
+        requires ring { ring < length (rings_of f.now) }
+        ensures local { IsLocalOf f.now self.new }
+        ensures same { SameRing self.old self.new × SameCache self.old self.new }
+        ensures view { view_of self.new ≡ loaded (loaded (view_of self.old)) }
+        ensures found { OnRing f.now ring (λ plan. CountsQueued T.numbers ring plan (view_of self.old) result) }
+    {
+        let cache_hand = take_hand(&mut self.hand);
+        let (cache_hand, count) = count_beside(f, cache_hand, ring, &self.cache);
+        self.hand = Some(cache_hand);
+        count
     }
 }

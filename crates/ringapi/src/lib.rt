@@ -7,6 +7,7 @@
 #![tactic(auto)]
 
 mod answers;
+mod keyed_lock;
 mod lent;
 mod pauses;
 mod peek;
@@ -22,6 +23,7 @@ mod unfinished;
 mod values;
 
 pub use answers::{Moved, PutAnswer, Refusal, TakeAnswer};
+pub use keyed_lock::{Keeps, KeyedLock, Taken, Ticket};
 pub use lent::{
     put_bulk_from, put_burst_from, put_own_bulk_from, put_own_burst_from, take_bulk_into,
     take_burst_into, try_put_bulk_from, try_put_burst_from, try_take_bulk_into,
@@ -31,11 +33,11 @@ pub use peek::{PeekPut, PeekTake, PeekTakeLent, peek_put, peek_take, peek_take_i
 pub use peek_slices::peek_take_slice;
 pub use port::Port;
 pub use port_fault::PortFault;
-pub use put::put_own;
+pub use put::{put_own, try_put_own};
 pub use slices::{
     put_bulk_slice, put_burst_slice, put_own_bulk_slice, put_own_burst_slice, take_bulk_slice,
     take_burst_slice, try_put_bulk_slice, try_put_burst_slice, try_take_bulk_slice,
-    try_take_burst_slice,
+    try_take_burst_slice, try_take_slice,
 };
 pub use spares::{SpareFault, Spares};
 pub use take::take_into;

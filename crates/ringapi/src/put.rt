@@ -41,8 +41,13 @@ fn settle<'f, T: Tagged, const N: usize, S: Stored<T>, I: PutItems<T>>(
     }
 }
 
-/// Tries once to reserve a span, and to settle it with the first items of a list.
-fn attempt<'f, T: Tagged, const N: usize, S: Stored<T>, I: PutItems<T>>(
+/// Tries once to put all items of a list that the hand may put, or as many of its first ones as there is room for.
+/// Nothing is tested before the start. Requires: the hand may put them. `PutItems::after` says what is left in the
+/// list.
+///
+/// Errors, in the order of the tests: `BadCount` if the list is empty or has more than `N` items; `Busy`; `NoRoom`;
+/// `Worn`; `Contended`. `Open` on a multi side alone. No memory, no waiting; at most four steps on words.
+pub fn try_put_own<'f, T: Tagged, const N: usize, S: Stored<T>, I: PutItems<T>>(
     f: &'f Fabric<T, N, S>,
     hand: Hand<T, S>,
     ring: usize,
@@ -83,7 +88,7 @@ pub(crate) fn try_put<'f, T: Tagged, const N: usize, S: Stored<T>, I: PutItems<T
     if !hand.may_put(f, ring, list) {
         return PutAnswer::Refused(hand, Refusal::NotYours);
     }
-    attempt(f, hand, ring, how, list)
+    try_put_own(f, hand, ring, how, list)
 }
 
 /// The next try of a put that isn't finished.
@@ -108,7 +113,7 @@ fn again<'f, T: Tagged, const N: usize, S: Stored<T>, I: PutItems<T>>(
 {
     match answer {
         PutAnswer::Done(_, _) => unreachable!(),
-        PutAnswer::Refused(hand, _) => attempt(f, hand, ring, how, list),
+        PutAnswer::Refused(hand, _) => try_put_own(f, hand, ring, how, list),
         PutAnswer::Open(span, _) => settle(span, list),
     }
 }
@@ -135,7 +140,7 @@ pub fn put_own<'f, T: Tagged, const N: usize, S: Stored<T>, I: PutItems<T>, R: W
     ensures list { I.items list.new ≡ rest_by I.after result (I.items list.old) }
 {
     let mut pauses = Pauses::new();
-    let mut answer = attempt(f, hand, ring, how, list);
+    let mut answer = try_put_own(f, hand, ring, how, list);
     for _ in rt.forever() {
         if !answer.should_retry() {
             return answer;

@@ -135,8 +135,9 @@ pub fn put_own_burst_slice<'f, T: Word, const N: usize, S: Stored<T>, R: Wait>(
     put_own(rt, f, hand, ring, How::Burst, &mut Words { words: items })
 }
 
-/// A whole take to the front of a slice, of as many words as it has places, tried once.
-fn try_take_front<'f, T: Word, const N: usize, S: Stored<T>>(
+/// Tries once to take as many words as a slice has places, or at most so many, as `try_take_bulk_slice` and
+/// `try_take_burst_slice` say.
+pub fn try_take_slice<'f, T: Word, const N: usize, S: Stored<T>>(
     f: &'f Fabric<T, N, S>,
     hand: Hand<T, S>,
     ring: usize,
@@ -195,7 +196,7 @@ pub fn try_take_bulk_slice<'f, T: Word, const N: usize, S: Stored<T>>(
     ensures { (shown : List T) × (into.new ≡ shown ++ drop (length shown) into.old)
         × TriesTake T.numbers by_bulk (length into.old) f.now ring hand result shown }
 {
-    try_take_front(f, hand, ring, How::Bulk, into)
+    try_take_slice(f, hand, ring, How::Bulk, into)
 }
 
 /// Tries once to take at most as many words as a slice has places, as many as are queued. They are at the front of the
@@ -216,7 +217,7 @@ pub fn try_take_burst_slice<'f, T: Word, const N: usize, S: Stored<T>>(
     ensures { (shown : List T) × (into.new ≡ shown ++ drop (length shown) into.old)
         × TriesTake T.numbers by_burst (length into.old) f.now ring hand result shown }
 {
-    try_take_front(f, hand, ring, How::Burst, into)
+    try_take_slice(f, hand, ring, How::Burst, into)
 }
 
 /// Takes as many words as a slice has places, or none, and tries again after `Busy`, `Contended` and a settle that

@@ -3,9 +3,9 @@ ghost use Rattle.std.specs.Prelude.{◌≡◌, IfErr, IfOk, IfSome};
 ghost use Rattle.fabric.specs.Hands.{IsHandOf, view};
 ghost use Rattle.ringapi.specs.Spares.{AreSpare, IsSameBut, IsSpareOf};
 
+use crate::keyed_lock::{Keeps, KeyedLock, Taken};
 use burst::Tagged;
 use fabric::{Fabric, Hand, SplitFault, Stored};
-use keyed_lock::{Keeps, KeyedLock, Taken};
 use std::alloc::{AllocError, Global};
 
 /// The most hands that are kept: each has at most half the parts of the one before it.

@@ -1,7 +1,8 @@
-//! Gets of numbers: from the cache, and if it has too few, with one request to the free ring.
+//! Gets of numbers: from the cache, and if it has too few, with one request to the free ring or two.
 ghost use Rattle.std.specs.Prelude.{◌≡◌, ◌+◌, ◌-◌, ◌<◌, ◌≤◌, ◌++◌, [], length, Err, IfErr, IfOk};
 ghost use Rattle.fabric.specs.Hands.{rings_of};
 ghost use Rattle.fabric.specs.Settles.{AreOwnBuffers};
+ghost use Rattle.ringapi.specs.Views.{by_bulk};
 ghost use Rattle.pool_laws.specs.Caches.{cached_after_get, taken_by_get};
 ghost use Rattle.pool.specs.Locals.{HasSameHand, IsLocalOf, SameRing, cache_of, cache_size, view_of};
 ghost use Rattle.capi.specs.PoolCalls.{Gets, HasDrawn};
@@ -9,10 +10,13 @@ ghost use Rattle.capi.specs.PoolMembers.{ArePoolRings, numbers_of};
 ghost use Rattle.capi.specs.Same.{GetsNumbers};
 ghost use Rattle.capi.specs.Tries.{IsSame, Received};
 
-use crate::pools::member::{MOST_ASKED, MOST_NUMBERS, Number, PoolCache, PoolMember, PoolRings};
+use crate::pools::member::{
+    MOST_ASKED, MOST_FILLING, MOST_NUMBERS, Number, PoolCache, PoolMember, PoolRings,
+};
 use crate::pools::tries::{Tries, receive};
 use crate::rings::{Fault, fault_of};
 use fabric::StartFault;
+use geom::How;
 
 /// Deals what the cache has and what the free ring gave: the array is filled, and the rest is cached.
 fn deal(local: &mut PoolCache, taken: &[Number], into: &mut [Number])
@@ -56,16 +60,38 @@ fn draw(
     ensures local { IsLocalOf f.now local.new }
     ensures got { IfOk result (λ _. HasDrawn f.now local.old local.new (length into.old) asked into.new) }
     ensures back { IfErr result (λ _. (into.new ≡ into.old) × IsSame local.old local.new) }
-    ensures refused { IfErr result (λ why. Received f.now 0 asked local.old local.new (Err why) []) }
+    ensures refused { IfErr result (λ why. Received f.now by_bulk 0 asked local.old local.new (Err why) []) }
 {
     let mut places = [Number { value: 0 }; MOST_ASKED];
     let taken = &mut places[..asked];
-    match receive(f, local, 0, taken, &mut Tries::new()) {
+    match receive(f, local, 0, How::Bulk, taken, &mut Tries::new()) {
         Ok(_) => {
             deal(local, taken, into);
             Ok(())
         }
         Err(why) => Err(why),
+    }
+}
+
+/// Gets numbers if the cache has too few: those that it lacks come from the free ring straight into the array.
+#[inline(never)]
+fn get_missing(f: &PoolRings, local: &mut PoolCache, into: &mut [Number]) -> Result<u32, Fault>
+    requires local { IsLocalOf f.now local.old }
+    requires rings { ArePoolRings (rings_of f.now) }
+    requires there { 0 < length (rings_of f.now) }
+    requires short { length (cache_of local.old) < length into.old }
+    requires few { length into.old ≤ MOST_NUMBERS }
+    ensures local { IsLocalOf f.now local.new }
+    ensures exact { Gets f.now local.old local.new into.old into.new result }
+{
+    let n = into.len();
+    let (front, rest) = into.split_at_mut(local.len());
+    match receive(f, local, 0, How::Bulk, rest, &mut Tries::new()) {
+        Ok(_) => match local.get_cached_into_slice(front) {
+            Ok(()) => Ok(n as u32),
+            Err(_) => unreachable!(),
+        },
+        Err(why) => Err(fault_of(why)),
     }
 }
 
@@ -76,7 +102,7 @@ fn get_more(f: &PoolRings, local: &mut PoolCache, into: &mut [Number]) -> Result
     requires rings { ArePoolRings (rings_of f.now) }
     requires there { 0 < length (rings_of f.now) }
     requires short { length (cache_of local.old) < length into.old }
-    requires few { length into.old ≤ MOST_NUMBERS }
+    requires few { length into.old ≤ MOST_FILLING }
     ensures local { IsLocalOf f.now local.new }
     ensures exact { Gets f.now local.old local.new into.old into.new result }
 {
@@ -88,10 +114,7 @@ fn get_more(f: &PoolRings, local: &mut PoolCache, into: &mut [Number]) -> Result
         Err(StartFault::NoRoom(_)) => (),
         Err(why) => return Err(fault_of(why)),
     }
-    match draw(f, local, missing, into) {
-        Ok(()) => Ok(n as u32),
-        Err(why) => Err(fault_of(why)),
-    }
+    get_missing(f, local, into)
 }
 
 /// Fills an array with numbers, or leaves it as it is.
@@ -108,6 +131,9 @@ fn get_numbers(f: &PoolRings, local: &mut PoolCache, into: &mut [Number]) -> Res
         return Err(Fault::Count);
     }
     if local.len() < n {
+        if n > MOST_FILLING {
+            return get_missing(f, local, into);
+        }
         return get_more(f, local, into);
     }
     match local.get_cached_into_slice(into) {

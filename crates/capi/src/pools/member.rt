@@ -11,10 +11,13 @@ use pool::LocalWords;
 use ringapi::Spares;
 use std::sync::Arc;
 
-/// The most numbers of one call.
-pub(crate) const MOST_NUMBERS: usize = 512;
+/// The most numbers of one call, and of one request to a ring.
+pub(crate) const MOST_NUMBERS: usize = 4096;
 
-/// The most numbers of one request to a ring: a get asks for those of a call and a whole cache.
+/// The most numbers of a get that fills the cache, too. A longer one asks only for those that it lacks.
+pub(crate) const MOST_FILLING: usize = 512;
+
+/// The most numbers that such a get asks for: those of the call and a whole cache.
 pub(crate) const MOST_ASKED: usize = 1024;
 
 /// The largest size of a cache.
@@ -27,16 +30,16 @@ pub(crate) const MAX_POOL: u32 = (1 << 20) - 1;
 pub(crate) const MAX_RINGS: u32 = 63;
 
 /// The rings of a pool.
-pub(crate) type PoolRings = Fabric<Number, 1024, Slot<Number>>;
+pub(crate) type PoolRings = Fabric<Number, 4096, Slot<Number>>;
 
 /// A hand on them.
 pub(crate) type PoolHand = Hand<Number, Slot<Number>>;
 
 /// The hands of threads that come later: none of them has a number.
-pub(crate) type PoolSpares = Spares<Number, 1024, Slot<Number>>;
+pub(crate) type PoolSpares = Spares<Number, 4096, Slot<Number>>;
 
 /// A cache in front of the free ring.
-pub(crate) type PoolCache = LocalWords<Number, 1024, Slot<Number>>;
+pub(crate) type PoolCache = LocalWords<Number, 4096, Slot<Number>>;
 
 /// A number of a pool. The thread that has it owns what it stands for.
 #[repr(C)]

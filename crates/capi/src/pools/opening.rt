@@ -18,21 +18,21 @@ use std::alloc::Global;
 use std::sync::Arc;
 
 /// The most numbers of one put on the free ring.
-const BULK: usize = 1024;
+const BULK: usize = 4096;
 
 /// The most puts that a pool is filled by: of 2^20 - 1 numbers.
-const BULKS: usize = 1024;
+const BULKS: usize = 256;
 
-/// How many bits of a word are for the count of reserved positions: a request moves at most 1,024 numbers.
-const COUNT_BITS: u32 = 12;
+/// How many bits of a word are for the count of reserved positions: a request moves at most 4,096 numbers.
+const COUNT_BITS: u32 = 13;
 
-/// The size of each ring: it takes all numbers. Its positions go as far as its words have room for, 2^52 - 1.
+/// The size of each ring: it takes all numbers. Its positions go as far as its words have room for, 2^51 - 1.
 fn extent(n: u32) -> Geometry
     requires some { 0 < n }
     requires few { n ≤ MAX_POOL }
     ensures capacity { result.capacity ≡ n }
     ensures extent { IsExtent result }
-    ensures counts { 1024 < range_of result }
+    ensures counts { 4096 < range_of result }
 {
     let Ok(geometry) = Geometry::exact(u64::from(n)) else {
         unreachable!();
@@ -48,7 +48,7 @@ fn plans(alloc: Global, n: u32, rings: usize) -> Result<Vec<RingPlan>, Fault>
     requires some { 0 < n }
     requires few { n ≤ MAX_POOL }
     requires rings { rings ≤ MAX_RINGS }
-    ensures made { IfOk result (λ made. ArePoolRings made.items × WordsMayStand made.items n 1024) }
+    ensures made { IfOk result (λ made. ArePoolRings made.items × WordsMayStand made.items n 4096) }
     ensures many { IfOk result (λ made. length made.items ≡ rings + 1) }
     ensures refused { IfErr result (λ why. why ≡ fault.Memory) }
 {

@@ -4,10 +4,12 @@ ghost use Rattle.capi.specs.Same.{ReceivesNumbers, SendsNumbers};
 use crate::pools::member::{MOST_NUMBERS, Number, PoolMember};
 use crate::pools::tries::{Tries, receive, refused, send};
 use crate::rings::{Fault, fault_of};
+use geom::How;
 
-/// Puts numbers on a ring, from which another handle takes them over. Errors: `Ring`; `Count`; those of the last try.
-pub fn pass_on(pool: &mut PoolMember, ring: usize, items: &[Number]) -> Result<u32, Fault>
-    ensures { SendsNumbers ring items.now pool.old pool.new result }
+/// Puts numbers on a ring, from which another handle takes them over: by bulk all, by burst as many of the first ones
+/// as there is room for. Errors: `Ring`; `Count`; those of the last try.
+pub fn pass_on(pool: &mut PoolMember, ring: usize, items: &[Number], how: How) -> Result<u32, Fault>
+    ensures { SendsNumbers ring how items.now pool.old pool.new result }
 {
     if ring >= pool.rings {
         return Err(Fault::Ring);
@@ -18,15 +20,22 @@ pub fn pass_on(pool: &mut PoolMember, ring: usize, items: &[Number]) -> Result<u
     }
     // Ring 0 is the free ring.
     let to = ring + 1;
-    match send(&pool.fabric, &mut pool.local, to, items, &mut Tries::new()) {
-        Ok(_) => Ok(n as u32),
+    let tries = &mut Tries::new();
+    match send(&pool.fabric, &mut pool.local, to, how, items, tries) {
+        Ok(moved) => Ok(moved.count as u32),
         Err(why) => Err(refused(why)),
     }
 }
 
-/// Fills an array with numbers of a ring, or leaves it as it is. Errors: `Ring`; `Count`; those of the last try.
-pub fn take_over(pool: &mut PoolMember, ring: usize, into: &mut [Number]) -> Result<u32, Fault>
-    ensures { ReceivesNumbers ring into.old into.new pool.old pool.new result }
+/// Takes numbers of a ring to the front of an array, or leaves it as it is: by bulk the array is filled, by burst with
+/// as many as are queued. Errors: `Ring`; `Count`; those of the last try.
+pub fn take_over(
+    pool: &mut PoolMember,
+    ring: usize,
+    into: &mut [Number],
+    how: How,
+) -> Result<u32, Fault>
+    ensures { ReceivesNumbers ring how into.old into.new pool.old pool.new result }
 {
     if ring >= pool.rings {
         return Err(Fault::Ring);
@@ -36,8 +45,9 @@ pub fn take_over(pool: &mut PoolMember, ring: usize, into: &mut [Number]) -> Res
         return Err(Fault::Count);
     }
     let from = ring + 1;
-    match receive(&pool.fabric, &mut pool.local, from, into, &mut Tries::new()) {
-        Ok(_) => Ok(n as u32),
+    let tries = &mut Tries::new();
+    match receive(&pool.fabric, &mut pool.local, from, how, into, tries) {
+        Ok(moved) => Ok(moved.count as u32),
         Err(why) => Err(fault_of(why)),
     }
 }

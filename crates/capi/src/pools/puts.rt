@@ -8,6 +8,7 @@ ghost use Rattle.capi.specs.PoolMembers.{ArePoolRings};
 use crate::pools::member::{MOST_ASKED, MOST_NUMBERS, Number, PoolCache, PoolRings};
 use crate::pools::tries::{Tries, refused, send};
 use crate::rings::Fault;
+use geom::How;
 use pool_laws::PoolFault;
 
 /// Puts numbers back that the handle has.
@@ -25,7 +26,7 @@ pub fn put_numbers(f: &PoolRings, local: &mut PoolCache, items: &[Number]) -> Re
     }
     match local.put_cached_from_slice(items) {
         Ok(()) => Ok(n as u32),
-        Err(PoolFault::CacheFull) => match send(f, local, 0, items, &mut Tries::new()) {
+        Err(PoolFault::CacheFull) => match send(f, local, 0, How::Bulk, items, &mut Tries::new()) {
             Ok(_) => Ok(n as u32),
             Err(why) => Err(refused(why)),
         },
@@ -52,7 +53,7 @@ pub fn flush_numbers(f: &PoolRings, local: &mut PoolCache) -> Result<u32, Fault>
         Err(_) => unreachable!(),
     }
     cached.reverse();
-    match send(f, local, 0, cached, &mut Tries::new()) {
+    match send(f, local, 0, How::Bulk, cached, &mut Tries::new()) {
         Ok(_) => Ok(n as u32),
         Err(why) => {
             match local.put_cached_from_slice(cached) {

@@ -1,4 +1,4 @@
-//! Bulk puts and takes of numbers on rings with head/tail-sync sides, tried a limited number of times.
+//! Puts and takes of numbers on rings with head/tail-sync sides, tried a limited number of times.
 ghost use Rattle.std.specs.Prelude.{◌≡◌, ◌<◌, ◌+◌, [], length, Err, IfErr, IfOk};
 ghost use Rattle.fabric.specs.Hands.{OnRing, rings_of};
 ghost use Rattle.fabric.specs.Views.{IsKept};
@@ -6,11 +6,12 @@ ghost use Rattle.ringapi.specs.Faults.{IsTransientRefusal};
 ghost use Rattle.ringapi.specs.Views.{IsTransient};
 ghost use Rattle.pool_laws.specs.Beside.{IsPutByHts, IsTakenByHts};
 ghost use Rattle.pool.specs.Locals.{IsLocalOf, SameCache, SameRing, cache_of, view_of};
-ghost use Rattle.capi.specs.Tries.{Filled, Received, Sent, refusal_fault};
+ghost use Rattle.capi.specs.Tries.{Filled, IsPartOf, Received, Sent, refusal_fault};
 
 use crate::pools::member::{Number, PoolCache, PoolRings};
 use crate::rings::{Fault, fault_of};
 use fabric::StartFault;
+use geom::How;
 use ringapi::{Moved, Refusal, is_transient};
 
 /// How often a call tries a ring at most if other threads come first.
@@ -43,12 +44,13 @@ pub(crate) fn refused(why: Refusal) -> Fault
     }
 }
 
-/// One try to put all numbers on a ring.
+/// One try to put numbers on a ring.
 #[inline]
 fn try_send(
     f: &PoolRings,
     local: &mut PoolCache,
     ring: usize,
+    how: How,
     items: &[Number],
     tries: &mut Tries,
 ) -> Result<Moved, Refusal>
@@ -59,22 +61,24 @@ fn try_send(
     ensures tries { tries.new.left + 1 ≡ tries.old.left }
     ensures local { IsLocalOf f.now local.new }
     ensures same { SameRing local.old local.new × SameCache local.old local.new }
-    ensures sent { Sent f.now ring (cache_of local.old) items.now local.old local.new result }
+    ensures sent { Sent f.now how ring (cache_of local.old) items.now local.old local.new result }
+    ensures part { IfOk result (λ moved. IsPartOf how (length items.now) moved.count) }
     ensures kept { IfErr result (λ _. IsKept (view_of local.old) (view_of local.new)) }
 {
     tries.left -= 1;
-    match local.try_send_bulk_from_slice(f, ring, items) {
+    match local.try_send_from_slice(f, ring, how, items) {
         Ok(moved) => Ok(moved),
         Err(why) => Err(why),
     }
 }
 
-/// Puts all numbers on a ring, or none.
+/// Puts numbers on a ring, or none.
 #[tactic(auto, using(crate::proofs::Attempts::sent_again))]
 pub(crate) fn send(
     f: &PoolRings,
     local: &mut PoolCache,
     ring: usize,
+    how: How,
     items: &[Number],
     tries: &mut Tries,
 ) -> Result<Moved, Refusal>
@@ -85,11 +89,12 @@ pub(crate) fn send(
     ensures tried { IfErr result (λ why. IsTransientRefusal why → tries.new.left ≡ 0) }
     ensures local { IsLocalOf f.now local.new }
     ensures same { SameRing local.old local.new × SameCache local.old local.new }
-    ensures sent { Sent f.now ring (cache_of local.old) items.now local.old local.new result }
+    ensures sent { Sent f.now how ring (cache_of local.old) items.now local.old local.new result }
+    ensures part { IfOk result (λ moved. IsPartOf how (length items.now) moved.count) }
     ensures kept { IfErr result (λ _. IsKept (view_of local.old) (view_of local.new)) }
 {
     while tries.left > 1 {
-        match try_send(f, local, ring, items, tries) {
+        match try_send(f, local, ring, how, items, tries) {
             Ok(moved) => return Ok(moved),
             Err(why) => {
                 if !why.is_transient() {
@@ -99,15 +104,16 @@ pub(crate) fn send(
             }
         }
     }
-    try_send(f, local, ring, items, tries)
+    try_send(f, local, ring, how, items, tries)
 }
 
-/// One try to fill an array from a ring.
+/// One try to take numbers from a ring to the front of an array.
 #[inline]
 fn try_receive(
     f: &PoolRings,
     local: &mut PoolCache,
     ring: usize,
+    how: How,
     into: &mut [Number],
     tries: &mut Tries,
 ) -> Result<Moved, StartFault>
@@ -118,24 +124,25 @@ fn try_receive(
     ensures tries { tries.new.left + 1 ≡ tries.old.left }
     ensures local { IsLocalOf f.now local.new }
     ensures same { SameRing local.old local.new × SameCache local.old local.new }
-    ensures filled { IfOk result (λ moved. Filled f.now ring (length into.old) into.new local.old local.new moved) }
-    ensures refused { IfErr result (λ why. Received f.now ring (length into.old) local.old local.new (Err why) []) }
+    ensures filled { IfOk result (Filled f.now how ring into.old into.new local.old local.new) }
+    ensures refused { IfErr result (λ why. Received f.now how ring (length into.old) local.old local.new (Err why) []) }
     ensures kept { IfErr result (λ _. IsKept (view_of local.old) (view_of local.new)) }
     ensures back { IfErr result (λ _. into.new ≡ into.old) }
 {
     tries.left -= 1;
-    match local.try_receive_bulk_into_slice(f, ring, into) {
+    match local.try_receive_into_slice(f, ring, how, into) {
         Ok(moved) => Ok(moved),
         Err(why) => Err(why),
     }
 }
 
-/// Fills an array from a ring, or leaves it as it is.
+/// Takes numbers from a ring to the front of an array, or leaves it as it is.
 #[tactic(auto, using(crate::proofs::Attempts::received_again))]
 pub(crate) fn receive(
     f: &PoolRings,
     local: &mut PoolCache,
     ring: usize,
+    how: How,
     into: &mut [Number],
     tries: &mut Tries,
 ) -> Result<Moved, StartFault>
@@ -146,13 +153,13 @@ pub(crate) fn receive(
     ensures tried { IfErr result (λ why. IsTransient why → tries.new.left ≡ 0) }
     ensures local { IsLocalOf f.now local.new }
     ensures same { SameRing local.old local.new × SameCache local.old local.new }
-    ensures filled { IfOk result (λ moved. Filled f.now ring (length into.old) into.new local.old local.new moved) }
-    ensures refused { IfErr result (λ why. Received f.now ring (length into.old) local.old local.new (Err why) []) }
+    ensures filled { IfOk result (Filled f.now how ring into.old into.new local.old local.new) }
+    ensures refused { IfErr result (λ why. Received f.now how ring (length into.old) local.old local.new (Err why) []) }
     ensures kept { IfErr result (λ _. IsKept (view_of local.old) (view_of local.new)) }
     ensures back { IfErr result (λ _. into.new ≡ into.old) }
 {
     while tries.left > 1 {
-        match try_receive(f, local, ring, into, tries) {
+        match try_receive(f, local, ring, how, into, tries) {
             Ok(moved) => return Ok(moved),
             Err(why) => {
                 if !is_transient(why) {
@@ -162,5 +169,5 @@ pub(crate) fn receive(
             }
         }
     }
-    try_receive(f, local, ring, into, tries)
+    try_receive(f, local, ring, how, into, tries)
 }

@@ -9,7 +9,7 @@ ghost use Rattle.fabric.specs.Hands.{OnRing, rings_of};
 ghost use Rattle.fabric.specs.Held.{span_at};
 ghost use Rattle.fabric.specs.InPlace.{IsPlacedOf, placed_view};
 ghost use Rattle.fabric.specs.Settles.{HoldsLess, HoldsMore, IsCount, RefusesSettle};
-ghost use Rattle.fabric.specs.Starts.{FindsRoom, MayAsk, RefusesCount, RefusesStart, Starts};
+ghost use Rattle.fabric.specs.Starts.{MayAsk, RefusesCount, RefusesStart, Starts};
 ghost use Rattle.fabric.specs.Truths.{IsTrueRefusal, IsTrueTooEarly};
 ghost use Rattle.fabric.specs.Views.{IsKept, IsWornAt};
 ghost use Rattle.fabric.specs.declared.hand.in_place.OpenSpan.TheVariants as open_span;
@@ -24,25 +24,6 @@ use crate::items::{Items, PutItems};
 use crate::stored::Stored;
 use burst::{Tagged, Word};
 use geom::{How, Side};
-
-impl<T: Tagged, const N: usize, S: Stored<T>> HandInPlace<T, N, S> {
-    /// How many positions of a put side are free, or how many items of a take side are queued. Two steps on words;
-    /// nothing is reserved, and others may have reserved or settled since. Requires: the hand has no open span.
-    ///
-    /// Errors: the word found, if a span of a head/tail-sync side is open. One step then.
-    pub fn room(&mut self, fabric: &Fabric<T, N, S>, ring: usize, side: Side) -> Result<u64, u64>
-        requires of { IsPlacedOf fabric.now self.old }
-        requires idle { self.old.span ≡ open_span.Idle }
-        requires ring { ring < length (rings_of fabric.now) }
-        ensures of { IsPlacedOf fabric.now self.new }
-        ensures idle { self.new.span ≡ open_span.Idle }
-        ensures kept { IsKept (placed_view self.old) (placed_view self.new) }
-        ensures found { OnRing fabric.now ring
-            (λ plan. FindsRoom T.numbers ring side plan (placed_view self.old) (placed_view self.new) result) }
-    {
-        fabric.ring(ring).room(&mut self.share.seat, side)
-    }
-}
 
 impl<T: Tagged, const N: usize, S: Stored<T>> HandInPlace<T, N, S> {
     /// Tries once to reserve a span of positions for a put: by bulk `n` of them, by burst at most `n`. At most three

@@ -59,18 +59,18 @@ struct Case {
     pieces: &'static [usize],
 }
 
-/// What a ring takes: 40 bytes of its own, and 64 words of 8 bytes. A slot has 24 bytes, and a ring a power of two of
+/// What a ring takes: 48 bytes of its own, and 64 words of 8 bytes. A slot has 24 bytes, and a ring a power of two of
 /// them. The hand's flags reuse the piece of the first ones.
 const SMALL: Case = Case {
     buffers: 3,
-    pieces: &[3, 2 * 40, 2 * 512, 2 * 4 * 24, 2 * 512, 2 * 4 * 24],
+    pieces: &[3, 2 * 48, 2 * 512, 2 * 4 * 24, 2 * 512, 2 * 4 * 24],
 };
 
 /// As many flags as the rings take bytes of their own, so that these reuse the piece of the first flags, and the hand's
 /// flags need one of their own.
 const EVEN: Case = Case {
-    buffers: 80,
-    pieces: &[80, 2 * 512, 80, 2 * 128 * 24, 2 * 512, 2 * 128 * 24],
+    buffers: 96,
+    pieces: &[96, 2 * 512, 96, 2 * 128 * 24, 2 * 512, 2 * 128 * 24],
 };
 
 /// Memory of these sizes, the last first.

@@ -1,4 +1,6 @@
 use Rattle.std.proofs.Common.{IfErr, List, ◌∙◌, ◌≡◌, rules, subst, sym}
+use Rattle.geom.specs.declared.plan.How.{How}
+use Rattle.capi.specs.Calls.{how_of}
 use Rattle.capi.specs.Codes.{Outcome}
 use Rattle.capi.specs.PoolHandles.{AtPool, pool_in}
 use Rattle.capi.specs.Same.{ReceivesNumbers}
@@ -17,17 +19,17 @@ returns c =
     let outcome = c.match-borrow.outcome in
     let before = c.args.into.now in
     let after = c.match-borrow.into in
-    let does : PoolMember → PoolMember → Outcome → Type 0 = ReceivesNumbers c.args.ring before after in
+    let does : PoolMember → PoolMember → Outcome → Type 0 = ReceivesNumbers c.args.ring (how_of c.args.bulk) before after in
     let done : AtPool h g does outcome × IfErr outcome (λ _. after ≡ before) =
     elim c.match-borrow.branch [
       | in-Some w ↦ elim w.match-deref_mut.branch [
         | in-Some-Pool w' ↦
             let p = w'.in-Some-Pool.pool in
             let q = w'.take_over-outcome.new.pool in
-            let moved : does p q outcome = subst (λ (z : List Number × Outcome). ReceivesNumbers c.args.ring before z.0 p q z.1)
-            (λ i. (sym (w.into-is ∙ w'.into-is) i, sym (w.outcome-is ∙ w'.outcome-is) i)) w'.take_over-outcome.ensures in (
+            let moved : does p q outcome = subst (λ (z : How × (List Number × Outcome)). ReceivesNumbers c.args.ring z.0 before z.1.0 p q z.1.1)
+            (λ i. (w'.how.ensures i, (sym (w.into-is ∙ w'.into-is) i, sym (w.outcome-is ∙ w'.outcome-is) i))) w'.take_over-outcome.ensures in (
               at_one pool_in does h g outcome (object.Pool p) (object.Pool q) p q (search rules) (search rules) (search rules) (search rules) moved,
-              received_none c.args.ring before after p q outcome moved,
+              received_none c.args.ring (how_of c.args.bulk) before after p q outcome moved,
             )
         | in-Some-deref_mut w' ↦ (
           at_other pool_in does h g outcome w'.in-Some-deref_mut.field-0 (search rules) (search rules) (search rules) (search rules),

@@ -5,8 +5,8 @@ use Rattle.ringapi.proofs.Again.{open_first, put_again, refused_yours, settle_mo
 use Rattle.ringapi.proofs.Putting.{plan_of}
 use Rattle.ringapi.proofs.put.again.Goals as goal
 
-pub attempt-requires : goal.attempt-requires
-attempt-requires g c =
+pub try_put_own-requires : goal.try_put_own-requires
+try_put_own-requires g c =
     let tags = g.T.Tagged.numbers in
     let items = g.I.Items.items c.args.list.now in
     let is = c.in-Refused.is in (
@@ -45,10 +45,10 @@ returns-in-Refused-clause-exact g c plan there v told =
     let tags = g.T.Tagged.numbers in
     let items = g.I.Items.items c.args.list.now in
     let is = c.in-Refused.is in
-    put_again g.row.N tags c.args.how c.args.ring plan v items c.in-Refused.hand c.in-Refused.field-1 items (left_of c.attempt.result items) c.attempt.result
+    put_again g.row.N tags c.args.how c.args.ring plan v items c.in-Refused.hand c.in-Refused.field-1 items (left_of c.try_put_own.result items) c.try_put_own.result
     (subst IsUnfinishedPut is c.requires.unfinished)
     (subst (λ a. PutHasTold tags c.args.how c.args.ring plan v items a (left_of a items)) is told)
-    (c.attempt.ensures.exact plan there)
+    (c.try_put_own.ensures.exact plan there)
 
 pub returns-in-Open-clause-exact : goal.returns-in-Open-clause-exact
 returns-in-Open-clause-exact g c plan there v told =

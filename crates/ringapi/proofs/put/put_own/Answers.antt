@@ -8,10 +8,10 @@ use Rattle.ringapi.proofs.put.put_own.Goals as goal
 pub loop-init : goal.loop-init
 loop-init g c = record {
   iterator = (tt, tt);
-  made = c.attempt-answer.ensures.made;
-  told = λ plan there. ([], [], c.attempt-answer.ensures.exact plan there);
-  list = c.attempt-answer.ensures.list;
-  so = c.attempt-answer.ensures.true_refusal;
+  made = c.try_put_own-answer.ensures.made;
+  told = λ plan there. ([], [], c.try_put_own-answer.ensures.exact plan there);
+  list = c.try_put_own-answer.ensures.list;
+  so = c.try_put_own-answer.ensures.true_refusal;
 }
 
 pub returns-then-not-should_retry-clause-put : goal.returns-then-not-should_retry-clause-put

@@ -17,12 +17,12 @@ pub returns-clause-put : goal.returns-clause-put
 returns-clause-put g c =
     let w = ring_at (rings_of c.args.f.now) c.args.ring c.requires.ring in
     record {
-      made = c.attempt.ensures.made;
-      exact = λ plan there. subst (λ v. PutTells g.T.Tagged.numbers c.args.how c.args.ring plan v (g.I.Items.items c.args.list.now) [] [] c.attempt.result (left_of c.attempt.result (g.I.Items.items c.args.list.now)))
-          c.may_put.ensures.kept.1 (c.attempt.ensures.exact plan there);
-      settled = subst (λ v. PutSettles c.args.ring v (g.I.Items.items c.args.list.now) c.attempt.result) c.may_put.ensures.kept.1
+      made = c.try_put_own.ensures.made;
+      exact = λ plan there. subst (λ v. PutTells g.T.Tagged.numbers c.args.how c.args.ring plan v (g.I.Items.items c.args.list.now) [] [] c.try_put_own.result (left_of c.try_put_own.result (g.I.Items.items c.args.list.now)))
+          c.may_put.ensures.kept.1 (c.try_put_own.ensures.exact plan there);
+      settled = subst (λ v. PutSettles c.args.ring v (g.I.Items.items c.args.list.now) c.try_put_own.result) c.may_put.ensures.kept.1
           (tells_settles g.T.Tagged.numbers c.args.how c.args.ring w.0 (view c.may_put.new.self) (g.I.Items.items c.args.list.now) [] [] c.args.f.now
-          c.attempt.result (left_of c.attempt.result (g.I.Items.items c.args.list.now))
-          w.1 c.attempt.ensures.made (c.attempt.ensures.exact w.0 w.1));
-      true_refusal = c.attempt.ensures.true_refusal;
+          c.try_put_own.result (left_of c.try_put_own.result (g.I.Items.items c.args.list.now))
+          w.1 c.try_put_own.ensures.made (c.try_put_own.ensures.exact w.0 w.1));
+      true_refusal = c.try_put_own.ensures.true_refusal;
     }

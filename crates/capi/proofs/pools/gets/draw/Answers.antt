@@ -6,5 +6,5 @@ pub returns-in-Ok-clause-got : goal.returns-in-Ok-clause-got
 returns-in-Ok-clause-got c =
     let reply = c.in-Ok.ensures in
     let dealt = c.deal.ensures in
-    drawn c.args.f.now c.args.local.now c.receive.new.local c.deal.new.local (length c.args.into.now) _ c.args.asked c.in-Ok.field-0
-    c.receive.new.into c.deal.new.into (search rules) reply.filled reply.same dealt.same dealt.given dealt.cached dealt.own
+    drawn c.args.f.now c.args.local.now c.receive.new.local c.deal.new.local (length c.args.into.now) c.args.asked c.in-Ok.field-0
+    _ c.receive.new.into c.deal.new.into (search rules) reply.filled reply.same dealt.same dealt.given dealt.cached dealt.own

@@ -14,7 +14,7 @@ returns-clause-made c =
     let is = c.same_mode.ensures in
     let was = c.same_mode-other.ensures in
     let all : c.in-Ok.made.items ≡ replicate many other = c.in-Ok.ensures.items_if_clones_equal (λ y same. same) in
-    subst (λ xs. ArePoolRings (slice_set xs 0 first) × WordsMayStand (slice_set xs 0 first) n 1024) (sym all) (
+    subst (λ xs. ArePoolRings (slice_set xs 0 first) × WordsMayStand (slice_set xs 0 first) n 4096) (sym all) (
       pool_rings first other many (ap (λ p. p.free) is) (ap (λ p. p.put) is, ap (λ p. p.take) is)
           (ap (λ p. p.put) was, ap (λ p. p.take) was),
       pool_stands first other many n (omega arith) (omega (arith, c.requires.rings)) c.requires.few

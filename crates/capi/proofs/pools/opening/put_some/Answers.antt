@@ -16,7 +16,7 @@ returns-in-Done-clause-put c =
     let v = view c.args.hand in
     let reply = c.in-Done.ensures in
     let tells = reply.exact known.0 known.1 in
-    let all = bulk_all numbers_of 1024 (length xs) 0 Put known.0 v (view c.in-Done.hand) [] m.count m.left [] (take m.count xs) [] tells.2 in (
+    let all = bulk_all numbers_of 4096 (length xs) 0 Put known.0 v (view c.in-Done.hand) [] m.count m.left [] (take m.count xs) [] tells.2 in (
       reply.settled.0,
       reply.settled.1 ∙ ap (λ l. settlement 0 Put reply.settled.0 l ∷ v.party.settled) (all_first m.count xs all),
     )

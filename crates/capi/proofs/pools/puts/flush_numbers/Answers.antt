@@ -1,5 +1,6 @@
 use Rattle.std.proofs.Common.{◌≡◌, ◌++◌, ◌∙◌, Ok, Err, [], inr, rules, subst}
 use Rattle.pool.specs.Locals.{cache_of, view_of}
+use Rattle.ringapi.specs.Views.{by_bulk}
 use Rattle.capi.specs.Tries.{Sent}
 use Rattle.capi.proofs.Deals.{none_left, turned_back}
 use Rattle.capi.proofs.Attempts.{same_view, sent_later, sent_same, then_kept, view_kept}
@@ -23,8 +24,8 @@ returns-in-Ok-send-clause-exact c =
       (put.same.0.0 ∙ got.same.0.0, put.same.0.1 ∙ got.same.0.1),
       inr (
         moved,
-        subst (λ xs. Sent f 0 [] xs l m (Ok moved)) all
-            (sent_later f 0 l k m [] items (Ok moved) (view_kept (view_of l) (view_of k) (same_view l k got.same.1)) none put.sent),
+        subst (λ xs. Sent f by_bulk 0 [] xs l m (Ok moved)) all
+            (sent_later f by_bulk 0 l k m [] items (Ok moved) (view_kept (view_of l) (view_of k) (same_view l k got.same.1)) none put.sent),
       ),
     )
 
@@ -54,6 +55,6 @@ returns-in-Ok-put_cached_from_slice-clause-exact c =
       },
       why,
       c.refused.ensures,
-      sent_same f 0 l u m [] (cache_of l) (Err why) last
-          (subst (λ xs. Sent f 0 [] xs l u (Err why)) all (sent_later f 0 l k u [] items (Err why) first none put.sent)),
+      sent_same f by_bulk 0 l u m [] (cache_of l) (Err why) last
+          (subst (λ xs. Sent f by_bulk 0 [] xs l u (Err why)) all (sent_later f by_bulk 0 l k u [] items (Err why) first none put.sent)),
     )

@@ -1,6 +1,7 @@
 use Rattle.std.proofs.Common.{◌∙◌, Ok, Err, inr, refl, rules, subst, sym}
 use Rattle.pool_laws.specs.Calls.{PutsCached}
 use Rattle.pool.specs.Locals.{cache_of, cache_size, view_of}
+use Rattle.ringapi.specs.Views.{by_bulk}
 use Rattle.capi.specs.PoolMembers.{numbers_of}
 use Rattle.capi.specs.PoolCalls.{RefusesPut}
 use Rattle.capi.proofs.Attempts.{same_view, sent_later, then_kept, view_kept}
@@ -26,7 +27,7 @@ returns-in-Ok-send-clause-exact c =
         cache = put.same.1 ∙ reply.3;
         ring = (put.same.0.0 ∙ full.same.0.0, put.same.0.1 ∙ full.same.0.1);
         moved = moved;
-        sent = sent_later f 0 l k m (cache_of l) items (Ok moved) (view_kept (view_of l) (view_of k) (same_view l k full.same.1)) reply.3 put.sent;
+        sent = sent_later f by_bulk 0 l k m (cache_of l) items (Ok moved) (view_kept (view_of l) (view_of k) (same_view l k full.same.1)) reply.3 put.sent;
       }),
     )
 
@@ -49,5 +50,5 @@ returns-in-Err-send-clause-exact c =
         kept = then_kept (view_of l) (view_of k) (view_of m) first put.kept;
       },
       subst (λ e. RefusesPut f l m items e) (sym c.refused.ensures)
-          (inr (inr (reply.0, reply.1, why, refl, sent_later f 0 l k m (cache_of l) items (Err why) first reply.3 put.sent))),
+          (inr (inr (reply.0, reply.1, why, refl, sent_later f by_bulk 0 l k m (cache_of l) items (Err why) first reply.3 put.sent))),
     )

@@ -1,0 +1,19 @@
+use Rattle.std.proofs.Common.{◌≡◌, ◌<◌, Ok, inr, length, refl, rules, subst}
+use Rattle.fabric.specs.Hands.{rings_of}
+use Rattle.fabric.specs.InPlace.{placed_view}
+use Rattle.capi.specs.Counts.{Looks}
+use Rattle.capi.specs.Members.{Rings}
+use Rattle.capi.specs.Spans.{tags}
+use Rattle.capi.proofs.rings.member_calls.look.Goals as goal
+
+pub returns : goal.returns
+returns c =
+    let m = c.args.member.now in
+    let there : c.args.ring < length (rings_of m.port.fabric.value) = search rules in
+    let same : c.deref.result.now ≡ m.port.fabric.value = search rules in
+    inr (
+      there,
+      record { fabric = refl; span = c.look_at.ensures.span; shown = refl; left = refl },
+      subst (λ (f : Rings). Looks tags f c.args.ring c.args.side (placed_view m.port.hand) (placed_view c.look_at.new.hand) (Ok c.look_at.result)) same
+          c.look_at.ensures.found,
+    )
