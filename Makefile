@@ -60,13 +60,14 @@ compare:
 
 # The merge gate: the tests, built without proofs; every proof from nothing, the must-fail edits and the programs; then
 # that there is what refuses each wrong body of the table; the C library over what was proved, and its tests from C, C++
-# and Rust; and, with the program that was proved there, the cases of tests/transcripts, runs over large captures, runs
-# that are refused memory, and the commands of the documents.
+# and Rust; the packages; and, with the program that was proved there, the cases of tests/transcripts, runs over large
+# captures, runs that are refused memory, and the commands of the documents.
 test:
 	tools/try-tests
 	tools/build-capi rt ci
 	tools/try-bodies
 	ARCHIVE=$(CURDIR)/out/libcapi.a tools/try-capi
+	PKTKIT=$(CURDIR)/crates/pktkit/out/pktkit ARCHIVE=$(CURDIR)/out/libcapi.a tools/try-dist
 	PKTKIT=$(CURDIR)/crates/pktkit/out/pktkit tools/try-transcripts
 	PKTKIT=$(CURDIR)/crates/pktkit/out/pktkit tools/try-runs
 	PKTKIT=$(CURDIR)/crates/pktkit/out/pktkit tools/try-memory

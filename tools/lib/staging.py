@@ -33,6 +33,11 @@ def logic():
         return re.search(r"proved with Rattle's logic (\w+)\.", file.read())[1]
 
 
+def is_version(printed):
+    """Whether what `pktkit --version` printed names the version of the C library."""
+    return printed.partition("\n")[0] == f"pktkit {VERSION}"
+
+
 def commit():
     """The commit, and whether the files are those of it."""
     return said_by("git", "rev-parse", "HEAD") + (" with changes" if said_by("git", "status", "--porcelain") else "")
@@ -48,7 +53,7 @@ def check():
         if not os.path.exists(file):
             raise Missing(f"there is no {os.path.relpath(file, TOP)}: make {target} proves it and builds it")
     printed = said_by(PROGRAM, "--version")
-    if logic() not in printed or not printed.startswith(VERSION):
+    if logic() not in printed or not is_version(printed):
         raise Missing(f"{os.path.relpath(PROGRAM, TOP)} is another version, or was proved by another logic")
 
 
