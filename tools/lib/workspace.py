@@ -47,7 +47,7 @@ def refresh(source, target, with_results):
     """Copies a crate again. The results of a check in out/ are copied, too, if they are wanted and the copy has none of
     its own."""
     os.makedirs(target, exist_ok=True)
-    for part in ["src", "specs", "proofs"]:
+    for part in ["src", "specs", "proofs", "c"]:
         shutil.rmtree(os.path.join(target, part), ignore_errors=True)
         if os.path.isdir(os.path.join(source, part)):
             shutil.copytree(os.path.join(source, part), os.path.join(target, part))

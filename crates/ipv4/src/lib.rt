@@ -6,7 +6,7 @@
 //! `specs/Forwarding.antt`: a table of drops, and the frame as it leaves. `verdict`, `forward` and, for a frame in one
 //! slice, `forward_frame` return its result, so they always agree.
 //!
-//! A caller, proved in memory_tests (`told_and_done`): the two verdicts are the same.
+//! A caller, proved in callers (`told_and_done`): the two verdicts are the same.
 //!
 //! ```text
 //! let told = verdict(table, ports, chain, wire);

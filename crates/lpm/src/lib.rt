@@ -2,7 +2,7 @@
 //! below it, so that a lookup is one or two loads, and one or two more in a sparse table. Contracts see a table as the
 //! finite map of its members, from prefixes to next hops.
 //!
-//! A caller, proved in memory_tests (`sole_route`): the only route of a table is the longest match for the address it
+//! A caller, proved in callers (`sole_route`): the only route of a table is the longest match for the address it
 //! was added with, so `found` is `Some(hop)`.
 //!
 //! ```text

@@ -1,7 +1,7 @@
 //! Packet buffers (DPDK Programmer's Guide, "Mbuf Library"): segments with headroom and tailroom, packets as chains of
 //! them, and shares of packets whose segments are returned with their last mention.
 //!
-//! A caller, proved in memory_tests:
+//! A caller, proved in callers:
 //!
 //! ```text
 //! fn with_header(packet: &mut Chain, header: &[u8]) -> Result<(), ChainFault>

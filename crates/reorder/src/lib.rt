@@ -5,7 +5,7 @@
 //! Contracts see a window as a finite map from numbers to items and the number whose turn is next. Only this crate
 //! knows that number n is at place `n mod size`.
 //!
-//! A caller, proved in memory_tests (`in_turn`): two items that arrive out of order leave in order, and neither
+//! A caller, proved in callers (`in_turn`): two items that arrive out of order leave in order, and neither
 //! `unwrap` can fail.
 //!
 //! ```text

@@ -13,7 +13,7 @@ empty-requires g c =
     let l = c.args.self.now in
     let k = c.take_hand-cache_hand.result in
     let h = c.whole_hand-hand.result in
-    let was : l.hand ≡ Some k = search rules in (
+    let was : l.hand ≡ Some k = c.take_hand-cache_hand.ensures in (
       search rules,
       (
         search rules,
@@ -33,7 +33,7 @@ invariant_of-self g c =
     let f = c.args.f.now in
     let l = c.args.self.now in
     let k = c.take_hand-cache_hand.result in
-    let was : l.hand ≡ Some k = search rules in
+    let was : l.hand ≡ Some k = c.take_hand-cache_hand.ensures in
     let back = c.keep_back in
     record {
       here = refl;
@@ -55,7 +55,7 @@ keep_back-requires-in-Err g c =
     let l = c.args.self.now in
     let k = c.take_hand-cache_hand.result in
     let h = c.whole_hand-hand.result in
-    let was : l.hand ≡ Some k = search rules in
+    let was : l.hand ≡ Some k = c.take_hand-cache_hand.ensures in
     record {
       own = same_own tags (view h) (view c.in-Err.hand) l.cache c.empty.new.cache c.in-Err.ensures.party c.in-Err.ensures.same.1
           (hand_own tags l.hand k h l.cache was c.whole_hand-hand.ensures l.own l.single);
@@ -67,7 +67,7 @@ invariant_of-self-in-Err g c =
     let f = c.args.f.now in
     let l = c.args.self.now in
     let k = c.take_hand-cache_hand.result in
-    let was : l.hand ≡ Some k = search rules in
+    let was : l.hand ≡ Some k = c.take_hand-cache_hand.ensures in
     let back = c.keep_back-in-Err in
     record {
       here = refl;
@@ -88,7 +88,7 @@ returns-in-Ok-clause-exact g c plan there =
     let tags = g.T.Tagged.numbers in
     let l = c.args.self.now in
     let k = c.take_hand-cache_hand.result in
-    let was : l.hand ≡ Some k = search rules in (
+    let was : l.hand ≡ Some k = c.take_hand-cache_hand.ensures in (
       c.in-Ok.hand,
       subst (λ v. Flushes tags g.row.N l.ring plan v l.cache (Ok c.in-Ok.hand) c.empty.new.cache)
           (view_at tags l.hand k c.whole_hand-hand.result was c.whole_hand-hand.ensures)
@@ -101,7 +101,7 @@ returns-in-Err-clause-exact g c plan there =
     let tags = g.T.Tagged.numbers in
     let l = c.args.self.now in
     let k = c.take_hand-cache_hand.result in
-    let was : l.hand ≡ Some k = search rules in (
+    let was : l.hand ≡ Some k = c.take_hand-cache_hand.ensures in (
       refl,
       c.in-Err.hand,
       subst (λ v. Flushes tags g.row.N l.ring plan v l.cache (Err c.in-Err.hand) c.empty.new.cache)

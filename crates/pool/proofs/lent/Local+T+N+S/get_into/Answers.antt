@@ -12,13 +12,13 @@ fetch-requires g c =
     let l = c.args.self.now in
     let k = c.take_hand-cache_hand.result in
     let h = c.whole_hand-hand.result in
-    let was : l.hand ≡ Some k = search rules in (
+    let was : l.hand ≡ Some k = c.take_hand-cache_hand.ensures in (
       search rules,
       (
         search rules,
         (
           hand_from f h k c.whole_hand-hand.ensures (mine_of f l.hand k was c.requires.local),
-          (free_of f l.hand k l.ring was c.requires.local l.free, (search rules, (search rules, c.requires.empty))),
+          (free_of f l.hand k l.ring was c.requires.local l.free, (subst (λ x. x < c.args.n) c.len.ensures.value c.if-n-len.false, (search rules, c.requires.empty))),
         ),
       ),
     )
@@ -29,7 +29,7 @@ keep_back-requires g c =
     let l = c.args.self.now in
     let k = c.take_hand-cache_hand.result in
     let h = c.whole_hand-hand.result in
-    let was : l.hand ≡ Some k = search rules in
+    let was : l.hand ≡ Some k = c.take_hand-cache_hand.ensures in
     record {
       own = later_own tags (view c.in-Ok.hand) c.fetch.new.into c.fetch.new.cache
           (c.in-Ok.ensures.own (hand_own tags l.hand k h l.cache was c.whole_hand-hand.ensures l.own l.single));
@@ -41,7 +41,7 @@ keep_back-requires-in-Err g c =
     let l = c.args.self.now in
     let k = c.take_hand-cache_hand.result in
     let h = c.whole_hand-hand.result in
-    let was : l.hand ≡ Some k = search rules in
+    let was : l.hand ≡ Some k = c.take_hand-cache_hand.ensures in
     record {
       own = same_own tags (view h) (view c.in-Err.hand) l.cache c.fetch.new.cache c.in-Err.ensures.party c.in-Err.ensures.same.1
           (hand_own tags l.hand k h l.cache was c.whole_hand-hand.ensures l.own l.single);
@@ -53,7 +53,7 @@ invariant_of-self g c =
     let f = c.args.f.now in
     let l = c.args.self.now in
     let k = c.take_hand-cache_hand.result in
-    let was : l.hand ≡ Some k = search rules in
+    let was : l.hand ≡ Some k = c.take_hand-cache_hand.ensures in
     let back = c.keep_back in
     record {
       here = refl;
@@ -76,7 +76,7 @@ invariant_of-self-in-Err g c =
     let f = c.args.f.now in
     let l = c.args.self.now in
     let k = c.take_hand-cache_hand.result in
-    let was : l.hand ≡ Some k = search rules in
+    let was : l.hand ≡ Some k = c.take_hand-cache_hand.ensures in
     let back = c.keep_back-in-Err in
     record {
       here = refl;
@@ -97,8 +97,8 @@ returns-in-Ok-clause-exact g c plan there =
     let tags = g.T.Tagged.numbers in
     let l = c.args.self.now in
     let k = c.take_hand-cache_hand.result in
-    let was : l.hand ≡ Some k = search rules in
-    let short : length l.cache < c.args.n = search rules in
+    let was : l.hand ≡ Some k = c.take_hand-cache_hand.ensures in
+    let short : length l.cache < c.args.n = subst (λ x. x < c.args.n) c.len.ensures.value c.if-n-len.false in
     inr (
       short,
       Ok c.in-Ok.hand,
@@ -112,7 +112,7 @@ returns-in-Ok-clause-own g c =
     let tags = g.T.Tagged.numbers in
     let l = c.args.self.now in
     let k = c.take_hand-cache_hand.result in
-    let was : l.hand ≡ Some k = search rules in
+    let was : l.hand ≡ Some k = c.take_hand-cache_hand.ensures in
     same_own tags (view c.in-Ok.hand) c.keep_back.result.seat.me.0 _ _ (ap (λ s. s.me.0.party) c.keep_back.ensures.seat) refl
     (c.in-Ok.ensures.own (hand_own tags l.hand k c.whole_hand-hand.result l.cache was c.whole_hand-hand.ensures l.own l.single))
 
@@ -121,8 +121,8 @@ returns-in-Err-clause-exact g c plan there =
     let tags = g.T.Tagged.numbers in
     let l = c.args.self.now in
     let k = c.take_hand-cache_hand.result in
-    let was : l.hand ≡ Some k = search rules in
-    let short : length l.cache < c.args.n = search rules in
+    let was : l.hand ≡ Some k = c.take_hand-cache_hand.ensures in
+    let short : length l.cache < c.args.n = subst (λ x. x < c.args.n) c.len.ensures.value c.if-n-len.false in
     inr (
       short,
       Err (c.in-Err.hand, c.in-Err.fault),

@@ -15,7 +15,7 @@ empty-requires g c =
     let l = c.args.self.now in
     let k = c.take_hand-cache_hand.result in
     let h = c.whole_hand-hand.result in
-    let was : l.hand ≡ Some k = search rules in (
+    let was : l.hand ≡ Some k = c.take_hand-cache_hand.ensures in (
       search rules,
       (
         hand_from f h k c.whole_hand-hand.ensures (mine_of f l.hand k was c.requires.local),
@@ -32,7 +32,7 @@ invariant_of-self g c =
     let f = c.args.f.now in
     let l = c.args.self.now in
     let k = c.take_hand-cache_hand.result in
-    let was : l.hand ≡ Some k = search rules in
+    let was : l.hand ≡ Some k = c.take_hand-cache_hand.ensures in
     let back = c.keep_back in
     record {
       here = refl;
@@ -54,7 +54,7 @@ keep_back-requires-in-Err g c =
     let l = c.args.self.now in
     let k = c.take_hand-cache_hand.result in
     let h = c.whole_hand-hand.result in
-    let was : l.hand ≡ Some k = search rules in
+    let was : l.hand ≡ Some k = c.take_hand-cache_hand.ensures in
     record {
       own = same_own tags (view h) (view c.in-Err.hand) (words_in l.cache) (words_in c.empty.new.cache) c.in-Err.ensures.party c.in-Err.ensures.same.1
           (hand_own tags l.hand k h (words_in l.cache) was c.whole_hand-hand.ensures l.own l.single);
@@ -66,7 +66,7 @@ invariant_of-self-in-Err g c =
     let f = c.args.f.now in
     let l = c.args.self.now in
     let k = c.take_hand-cache_hand.result in
-    let was : l.hand ≡ Some k = search rules in
+    let was : l.hand ≡ Some k = c.take_hand-cache_hand.ensures in
     let back = c.keep_back-in-Err in
     record {
       here = refl;
@@ -87,7 +87,7 @@ returns-in-Ok-clause-exact g c plan there =
     let tags = g.T.Tagged.numbers in
     let l = c.args.self.now in
     let k = c.take_hand-cache_hand.result in
-    let was : l.hand ≡ Some k = search rules in (
+    let was : l.hand ≡ Some k = c.take_hand-cache_hand.ensures in (
       c.in-Ok.hand,
       subst (λ v. Flushes tags g.row.N l.ring plan v (words_in l.cache) (Ok c.in-Ok.hand) (words_in c.empty.new.cache))
           (view_at tags l.hand k c.whole_hand-hand.result was c.whole_hand-hand.ensures)
@@ -100,7 +100,7 @@ returns-in-Err-clause-exact g c plan there =
     let tags = g.T.Tagged.numbers in
     let l = c.args.self.now in
     let k = c.take_hand-cache_hand.result in
-    let was : l.hand ≡ Some k = search rules in (
+    let was : l.hand ≡ Some k = c.take_hand-cache_hand.ensures in (
       refl,
       c.in-Err.hand,
       subst (λ v. Flushes tags g.row.N l.ring plan v (words_in l.cache) (Err c.in-Err.hand) (words_in c.empty.new.cache))

@@ -16,7 +16,7 @@ fetch-requires g c =
     let l = c.args.self.now in
     let k = c.take_hand-cache_hand.result in
     let h = c.whole_hand-hand.result in
-    let was : l.hand ≡ Some k = search rules in (
+    let was : l.hand ≡ Some k = c.take_hand-cache_hand.ensures in (
       search rules,
       (
         hand_from f h k c.whole_hand-hand.ensures (mine_of f l.hand k was c.requires.local),
@@ -39,7 +39,7 @@ keep_back-requires g c =
     let l = c.args.self.now in
     let k = c.take_hand-cache_hand.result in
     let h = c.whole_hand-hand.result in
-    let was : l.hand ≡ Some k = search rules in
+    let was : l.hand ≡ Some k = c.take_hand-cache_hand.ensures in
     record {
       own = later_own tags (view c.in-Ok.hand) c.fetch.new.into (words_in c.fetch.new.cache)
           c.in-Ok.ensures.own;
@@ -51,7 +51,7 @@ keep_back-requires-in-Err g c =
     let l = c.args.self.now in
     let k = c.take_hand-cache_hand.result in
     let h = c.whole_hand-hand.result in
-    let was : l.hand ≡ Some k = search rules in
+    let was : l.hand ≡ Some k = c.take_hand-cache_hand.ensures in
     record {
       own = same_own tags (view h) (view c.in-Err.hand) (words_in l.cache) (words_in c.fetch.new.cache) c.in-Err.ensures.party c.in-Err.ensures.same.1
           (hand_own tags l.hand k h (words_in l.cache) was c.whole_hand-hand.ensures l.own l.single);
@@ -63,7 +63,7 @@ invariant_of-self g c =
     let f = c.args.f.now in
     let l = c.args.self.now in
     let k = c.take_hand-cache_hand.result in
-    let was : l.hand ≡ Some k = search rules in
+    let was : l.hand ≡ Some k = c.take_hand-cache_hand.ensures in
     let back = c.keep_back in
     record {
       here = refl;
@@ -86,7 +86,7 @@ invariant_of-self-in-Err g c =
     let f = c.args.f.now in
     let l = c.args.self.now in
     let k = c.take_hand-cache_hand.result in
-    let was : l.hand ≡ Some k = search rules in
+    let was : l.hand ≡ Some k = c.take_hand-cache_hand.ensures in
     let back = c.keep_back-in-Err in
     record {
       here = refl;
@@ -107,7 +107,7 @@ returns-in-Ok-clause-exact g c plan there =
     let tags = g.T.Tagged.numbers in
     let l = c.args.self.now in
     let k = c.take_hand-cache_hand.result in
-    let was : l.hand ≡ Some k = search rules in
+    let was : l.hand ≡ Some k = c.take_hand-cache_hand.ensures in
     let short : length (words_in l.cache) < (length c.args.into.now) = search rules in
     inr (
       short,
@@ -122,7 +122,7 @@ returns-in-Ok-clause-own g c =
     let tags = g.T.Tagged.numbers in
     let l = c.args.self.now in
     let k = c.take_hand-cache_hand.result in
-    let was : l.hand ≡ Some k = search rules in
+    let was : l.hand ≡ Some k = c.take_hand-cache_hand.ensures in
     same_own tags (view c.in-Ok.hand) c.keep_back.result.seat.me.0 _ _ (ap (λ s. s.me.0.party) c.keep_back.ensures.seat) refl
     c.in-Ok.ensures.own
 
@@ -131,7 +131,7 @@ returns-in-Err-clause-exact g c plan there =
     let tags = g.T.Tagged.numbers in
     let l = c.args.self.now in
     let k = c.take_hand-cache_hand.result in
-    let was : l.hand ≡ Some k = search rules in
+    let was : l.hand ≡ Some k = c.take_hand-cache_hand.ensures in
     let short : length (words_in l.cache) < (length c.args.into.now) = search rules in
     inr (
       short,

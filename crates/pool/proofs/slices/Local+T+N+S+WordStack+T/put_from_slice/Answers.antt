@@ -1,4 +1,4 @@
-use Rattle.std.proofs.Common.{◌≡◌, ◌/◌, ◌*◌, ◌≤◌, ◌++◌, true, inl, length, drop, refl, rules, sym, ap, ◌∙◌, subst, arith}
+use Rattle.std.proofs.Common.{◌≡◌, ◌/◌, ◌*◌, ◌≤◌, ◌++◌, true, inl, length, drop, refl, sym, ap, ◌∙◌, subst, arith}
 use Rattle.std.proofs.lemmas.List.{length-append}
 use Rattle.fabric.specs.Settles.{AreOwnBuffers}
 use Rattle.pool_laws.specs.Hands.{view_in}
@@ -11,7 +11,7 @@ pub returns-then-may-clause-exact : goal.returns-then-may-clause-exact
 returns-then-may-clause-exact g c plan there =
     let tags = g.T.Tagged.numbers in
     let l = c.args.self.now in
-    let may : c.admit-may.result ≡ true = search rules in
+    let may : c.admit-may.result ≡ true = c.if-may.true in
     let moved = (c.admit-may.ensures.moved may).0 in
     let all = (words_in l.cache) ++ c.args.items.now in
     let few : length all ≤ 3 * l.size / 2 = omega (arith, c.if-len-items.false, c.len.ensures.value, length-append (words_in l.cache) c.args.items.now) in (

@@ -19,7 +19,7 @@ pub returns-then-not-may-clause-exact : goal.returns-then-not-may-clause-exact
 returns-then-not-may-clause-exact g c plan there =
     let tags = g.T.Tagged.numbers in
     let l = c.args.self.now in
-    let none : c.admit-may.result ≡ false = search rules in
+    let none : c.admit-may.result ≡ false = c.if-not-may.true in
     let back = (c.admit-may.ensures.back none).0 in (
       subst (λ o. AreNotOwnBuffers tags (view_in o) ((words_in l.cache) ++ c.args.items.now)) (sym c.in-Some.is) (c.admit-may.ensures.other none),
       refl,
@@ -31,7 +31,7 @@ pub returns-then-len-self-clause-exact : goal.returns-then-len-self-clause-exact
 returns-then-len-self-clause-exact g c plan there =
     let tags = g.T.Tagged.numbers in
     let l = c.args.self.now in
-    let may : c.admit-may.result ≡ true = search rules in
+    let may : c.admit-may.result ≡ true = c.if-not-may.false in
     let moved = (c.admit-may.ensures.moved may).0 in
     let all = (words_in l.cache) ++ c.args.items.now in
     let few : length all ≤ 3 * l.size / 2 = omega (arith, c.if-len-self.true, c.len.ensures.value, ap length moved) in (
@@ -46,9 +46,9 @@ shed-requires g c =
     let tags = g.T.Tagged.numbers in
     let f = c.args.f.now in
     let l = c.args.self.now in
-    let may : c.admit-may.result ≡ true = search rules in
+    let may : c.admit-may.result ≡ true = c.if-not-may.false in
     let moved = (c.admit-may.ensures.moved may).0 in
-    let taken : Some c.admit-may.new.cache_hand ≡ Some c.take_hand-cache_hand.result = search rules in
+    let taken : Some c.admit-may.new.cache_hand ≡ Some c.take_hand-cache_hand.result = c.take_hand-cache_hand.ensures in
     let mine = same_mine f c.in-Some.cache_hand c.admit-may.new.cache_hand c.admit-may.ensures.same (mine_of f l.hand c.in-Some.cache_hand c.in-Some.is c.requires.local) in
     let long = length-append (words_in l.cache) c.args.items.now in (
       search rules,
@@ -126,9 +126,9 @@ pub returns-in-Ok-clause-exact : goal.returns-in-Ok-clause-exact
 returns-in-Ok-clause-exact g c plan there =
     let tags = g.T.Tagged.numbers in
     let l = c.args.self.now in
-    let may : c.admit-may.result ≡ true = search rules in
+    let may : c.admit-may.result ≡ true = c.if-not-may.false in
     let moved = (c.admit-may.ensures.moved may).0 in
-    let taken : Some c.admit-may.new.cache_hand ≡ Some c.take_hand-cache_hand.result = search rules in
+    let taken : Some c.admit-may.new.cache_hand ≡ Some c.take_hand-cache_hand.result = c.take_hand-cache_hand.ensures in
     let all = (words_in l.cache) ++ c.args.items.now in
     let told = c.in-Ok.ensures.exact plan there in
     let many : 3 * l.size / 2 < length all = omega (arith, c.if-len-self.false, c.len.ensures.value, ap length moved) in
@@ -154,9 +154,9 @@ pub returns-in-Err-clause-exact : goal.returns-in-Err-clause-exact
 returns-in-Err-clause-exact g c plan there =
     let tags = g.T.Tagged.numbers in
     let l = c.args.self.now in
-    let may : c.admit-may.result ≡ true = search rules in
+    let may : c.admit-may.result ≡ true = c.if-not-may.false in
     let moved = (c.admit-may.ensures.moved may).0 in
-    let taken : Some c.admit-may.new.cache_hand ≡ Some c.take_hand-cache_hand.result = search rules in
+    let taken : Some c.admit-may.new.cache_hand ≡ Some c.take_hand-cache_hand.result = c.take_hand-cache_hand.ensures in
     let all = (words_in l.cache) ++ c.args.items.now in
     let told = c.in-Err.ensures.exact plan there in
     let many : 3 * l.size / 2 < length all = omega (arith, c.if-len-self.false, c.len.ensures.value, ap length moved) in

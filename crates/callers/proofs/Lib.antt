@@ -1,0 +1,3 @@
+pub mod Joined
+mod SentItems
+pub mod Sole

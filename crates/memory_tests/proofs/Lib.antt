@@ -1,2 +1,0 @@
-pub mod Sole
-pub mod Joined
