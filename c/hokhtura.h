@@ -5,7 +5,8 @@
  * thread at a time: no two calls on one handle overlap. Different handles may be used at the same time, without a lock.
  * Threads reach what they share, a set of rings, a pool, a table of routes or a forwarding table, through a handle for
  * each thread: `hk_hand_split`, `hk_pool_split`, `hk_routes_share`, `hk_fib_share`. To pass a handle to another thread,
- * order the two threads' calls on it by the start or the end of a thread, a lock, or a sequentially consistent atomic.
+ * let the first thread's calls on it happen before the second's, as C11 has it: by the start or the end of a thread, a
+ * lock, or a store with release order and a load with acquire order.
  * A call with a const handle changes nothing that other calls on it return. It is a call on that handle all the same:
  * two threads may not make it at the same time.
  *

@@ -1,6 +1,9 @@
 /* DPDK's forwarder of pcap files, by the rules of forward.h: the pcap driver reads and writes, rte_lpm has the routes.
  *
- *   workers.yardstick EAL.. --vdev net_pcap0,rx_pcap=IN,tx_pcap=OUT.0 --vdev net_pcap1,rx_pcap=EMPTY,tx_pcap=OUT.1 -- ROUTES WORKERS
+ *   workers.yardstick EAL.. --vdev net_pcap0,rx_pcap=IN,tx_pcap=OUT.0 --vdev net_pcap1,rx_pcap=EMPTY,tx_pcap=OUT.1 --
+ *     ROUTES WORKERS [small]
+ *
+ * Its sizes are those that are usual with DPDK, or with `small` about those of `pktkit run`.
  *
  * With 0 workers one lcore does all. Else the main lcore reads and numbers packets, so many lcores take bursts from a ring in
  * head/tail sync and judge them, and one more puts them in order by rte_reorder and sends them: it needs WORKERS + 2. Prints
@@ -24,10 +27,15 @@ static inline uint32_t lookup(const void *table, uint32_t address)
 #include "forward.h"
 
 #define LIST 32
-#define BUFFERS 16383
-#define WINDOW 8192
-/* Fewer than the window has places, and than the pool has buffers less those in caches. */
-#define MAX_UNDER_WAY 4096
+
+struct sizes {
+	unsigned buffers, cache, ring, window;
+	/* Fewer than the window has places, and than the pool has buffers less those in caches. */
+	unsigned max_under_way;
+};
+
+static const struct sizes usual = { 16383, 256, 1024, 8192, 4096 }, small = { 1023, 64, 256, 1024, 512 };
+static const struct sizes *sizes = &usual;
 
 static struct rte_lpm *routes;
 static struct rte_ring *to_judge, *to_send;
@@ -129,11 +137,11 @@ static void start_sink(struct rte_reorder_buffer *window)
 /* The first packet is put into the window here, since the first that comes fixes where it begins. */
 static void by_workers(void)
 {
-	struct rte_reorder_buffer *window = rte_reorder_create("window", SOCKET_ID_ANY, WINDOW);
+	struct rte_reorder_buffer *window = rte_reorder_create("window", SOCKET_ID_ANY, sizes->window);
 	struct rte_mbuf *list[LIST];
 	unsigned count;
-	to_judge = rte_ring_create("in", 1024, SOCKET_ID_ANY, RING_F_MP_HTS_ENQ | RING_F_MC_HTS_DEQ);
-	to_send = rte_ring_create("out", 1024, SOCKET_ID_ANY, 0);
+	to_judge = rte_ring_create("in", sizes->ring, SOCKET_ID_ANY, RING_F_MP_HTS_ENQ | RING_F_MC_HTS_DEQ);
+	to_send = rte_ring_create("out", sizes->ring, SOCKET_ID_ANY, 0);
 	if (!window || !to_judge || !to_send || rte_lcore_count() < workers + 2) fail("setup");
 	start_workers();
 	while ((count = rte_eth_rx_burst(0, 0, list, LIST)) != 0) {
@@ -147,7 +155,7 @@ static void by_workers(void)
 		}
 		while (count > first && !rte_ring_enqueue_bulk(to_judge, (void **)(list + first), count - first, NULL)) rte_pause();
 		/* The driver answers an empty list at the end and where no buffer is left, and loses the record then. */
-		while (records - sent_so_far > MAX_UNDER_WAY) rte_pause();
+		while (records - sent_so_far > sizes->max_under_way) rte_pause();
 	}
 	read_in_all = records;
 	rte_smp_wmb();
@@ -157,7 +165,7 @@ static void by_workers(void)
 
 static void open_ports(void)
 {
-	struct rte_mempool *pool = rte_pktmbuf_pool_create("pool", BUFFERS, 256, 0, RTE_MBUF_DEFAULT_BUF_SIZE, SOCKET_ID_ANY);
+	struct rte_mempool *pool = rte_pktmbuf_pool_create("pool", sizes->buffers, sizes->cache, 0, RTE_MBUF_DEFAULT_BUF_SIZE, SOCKET_ID_ANY);
 	if (!pool) fail("pool");
 	for (unsigned port = 0; port < PORTS; port++) {
 		struct rte_eth_conf conf = { 0 };
@@ -183,6 +191,7 @@ int main(int argc, char **argv)
 	int used = rte_eal_init(argc, argv);
 	if (used < 0 || argc - used < 3) return 2;
 	workers = atoi(argv[used + 2]);
+	if (argc - used > 3) sizes = &small;
 	add_routes(atoi(argv[used + 1]));
 	open_ports();
 	opened = now_ns();

@@ -1,9 +1,9 @@
-//! Why a call did nothing.
+//! Why a call did nothing, or isn't done yet.
 use core::fmt;
 
 macro_rules! errors {
     ($($(#[$doc:meta])* $name:ident = $number:literal, $text:literal;)*) => {
-        /// Why a call moved or changed nothing.
+        /// Why a call moved or changed nothing; but [`Error::Pending`] of a ring says that the call isn't done yet.
         #[derive(Clone, Copy, Debug, PartialEq, Eq, Hash)]
         #[non_exhaustive]
         pub enum Error {
@@ -46,7 +46,9 @@ errors! {
     NoRoom = 1, "too little room, or too few words";
     /// Other threads came first each time that the call tried: call again.
     Again = 2, "other threads came first: call again";
-    /// The positions are reserved, and an earlier call of another thread isn't finished yet: finish.
+    /// Of a ring: the positions are reserved, and an earlier call of another thread isn't finished yet. Finish the call
+    /// before the handle is dropped: otherwise its positions stay reserved, and that side is blocked. Of a `Fib`: nothing
+    /// was changed.
     Pending = 3, "reserved, and to be finished";
     /// There is an open span: finish it first.
     Open = 4, "there is an open span";

@@ -32,8 +32,8 @@ impl Word for Number {
     }
 }
 
-/// Gets three buffers into a list and puts them back from it, and then puts all that is cached on the free ring. Returns
-/// whether each call did so.
+/// Gets three buffers into a list and puts them back from it, and then puts all that is cached on the free ring.
+/// Returns whether each call did so.
 pub fn get_and_put<R: Wait>(
     rt: &R,
     f: &Fabric<Number, MAX_ITEMS>,
