@@ -1,9 +1,10 @@
-/* Rings and routes through the C library, by the names that yardsticks/calls.c and yardsticks/lpm.c print.
+/* Rings, pools and routes through the C library, by the names that the yardsticks calls.c, pool.c and lpm.c print.
  *
  *   capi alone                        one thread puts words and takes them again: ns an item
  *   capi alone NAME TURNS             only these turns, to count their instructions; multi-one, hts-one: a word by
  *                                     value; held-1: word by word, by ends that hold their sides, 64 puts and 64 takes in
  *                                     turn
+ *   capi pools                        one thread gets numbers of a pool through its cache and puts them again: ns a number
  *   capi lookups                      lookups with 1,000 routes, one by one and in bursts of 32, in a table and by a reader
  *   capi publishes                    100 changes of 1,000 routes and their publish, beside three readers: us
  *   capi memory twice|whole           what 60,000 routes take in a forwarding table, which has two copies, and in a table
@@ -30,6 +31,8 @@
 #define ADDRESSES (1u << 20)
 #define BURST 32
 #define HELD 64 /* as LAP of yardsticks/calls.c */
+#define NUMBERS 8191 /* as BUFFERS of yardsticks/pool.c, and its CACHE */
+#define CACHE 32
 
 static hk_hand *ring_of(int hts)
 {
@@ -119,6 +122,31 @@ static void alone(const char *only, unsigned long count)
 			}
 			hk_hand_free(hand);
 		}
+}
+
+static __attribute__((noinline)) void pool_turns(hk_pool *pool, size_t n, unsigned long count)
+{
+	uint32_t numbers[BURST];
+	for (unsigned long i = 0; i < count; i++)
+		if (hk_pool_try_get_bulk(pool, numbers, n) != (int64_t)n || hk_pool_try_put_bulk(pool, numbers, n) != (int64_t)n)
+			exit(1);
+}
+
+static void pools(void)
+{
+	static const size_t sizes[] = { 1, BURST };
+	hk_pool *pool;
+	if (hk_pool_open(&pool, NUMBERS, CACHE, 0) < 0) exit(1);
+	for (unsigned s = 0; s < sizeof sizes / sizeof *sizes; s++) {
+		size_t n = sizes[s];
+		char name[32];
+		double ns;
+		snprintf(name, sizeof name, "get-put-%zu", n);
+		pool_turns(pool, n, WARM);
+		TIMED(ns, CHUNK * n, pool_turns(pool, n, CHUNK););
+		report(name, ns, "ns/buffer");
+	}
+	hk_pool_free(pool);
 }
 
 static __attribute__((noinline)) uint64_t look_up(hk_routes *table, const uint32_t *list, unsigned length)
@@ -496,6 +524,7 @@ int main(int argc, char **argv)
 {
 	if (argc == 2 && !strcmp(argv[1], "alone")) alone(NULL, 0);
 	else if (argc == 4 && !strcmp(argv[1], "alone")) alone(argv[2], strtoul(argv[3], NULL, 10));
+	else if (argc == 2 && !strcmp(argv[1], "pools")) pools();
 	else if (argc == 2 && !strcmp(argv[1], "lookups")) lookups(), reads();
 	else if (argc == 2 && !strcmp(argv[1], "publishes")) publishes();
 	else if (argc == 3 && !strcmp(argv[1], "memory")) memory(!strcmp(argv[2], "twice"));
