@@ -4,6 +4,7 @@
 #include <stdbool.h>
 #include <stddef.h>
 #include <stdint.h>
+#include <stdlib.h>
 
 // __sanitizer::SetRssLimitExceeded: while it is set, each request is refused.
 void set_refused(bool refused) __asm__("_ZN11__sanitizer19SetRssLimitExceededEb");
@@ -27,6 +28,9 @@ void refuse_memory_after(uint64_t count) {
     static bool installed;
     if (!installed)
         installed = __sanitizer_install_malloc_and_free_hooks(served, freed) != 0;
+    // Without the count nothing but the first request would be refused, and most tests would still pass.
+    if (!installed)
+        abort();
     left = (int64_t)count;
     set_refused(count == 0);
 }
