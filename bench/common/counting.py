@@ -34,9 +34,9 @@ def try_to(count, *arguments):
         print(f"instructions aren't counted, or not all of them: {why}")
 
 
-def show_count(found, what, here, beside, there, part):
+def show_count(found, what, here, against, there, part):
     """Prints instructions that were counted, and adds the row."""
-    kept = found.add(what, here, "instructions", beside, there, part, rounds=1)
+    kept = found.add(what, here, "instructions", against, there, part, rounds=1)
     bound = found.bound(what)
     verdict = "" if bound is None else f"  {'within' if kept else 'ABOVE'} {bound:g}"
     shown = f"{there:>10.4g} {here / there:>7.2f}" if there else f"{'':>10} {'':>7}"

@@ -51,6 +51,6 @@ def together(ours, theirs, rounds, results=None, pinned=False):
                 print(f"{f'{mode}, {pairs} and {pairs}, {n}':<24} {here:>8.4g} {there:>9.4g} {here / there:>7.2f}",
                       flush=True)
                 if results:
-                    title, beside = MODES[mode]
-                    results.add(f"{PARTIES[pairs]}, {n} {'word' if n == 1 else 'words'} a call, {title}", here, "Mitem/s", beside, there,
+                    title, against = MODES[mode]
+                    results.add(f"{PARTIES[pairs]}, {n} {'word' if n == 1 else 'words'} a call, {title}", here, "Mitem/s", against, there,
                                 f"between threads, {title}")

@@ -1,6 +1,5 @@
 /* The rules of a run: what becomes of a frame, and how it is rewritten, for all programs that forward the captures of
- * run.c. An including file defines `static inline uint32_t lookup(const void *table, uint32_t address)` before: the route's
- * index and 1, or 0. */
+ * run.c. `examine` makes all tests but that of the route, which the including file looks up. */
 #pragma once
 #include "captures.h"
 
@@ -47,8 +46,8 @@ static const char *const names[VERDICTS] = {
 	"tagged", "short", "not-ipv4", "bad-header", "bad-length", "bad-checksum", "expired", "no-route",
 };
 
-static inline unsigned judge(const uint8_t *frame, uint32_t captured, uint32_t wire, const void *table,
-	unsigned *at, uint32_t *hop)
+/* A verdict; SENT says that the route has to be looked up. Then it gives where the packet begins, and its destination. */
+static inline unsigned examine(const uint8_t *frame, uint32_t captured, uint32_t wire, unsigned *at, uint32_t *destination)
 {
 	if (captured < 14) return SHORT;
 	*at = word(frame + 12) == 0x8100 ? 18 : 14;
@@ -62,14 +61,20 @@ static inline unsigned judge(const uint8_t *frame, uint32_t captured, uint32_t w
 	if (total < header || total > wire - *at) return BAD_LENGTH;
 	if (sum_of(packet, header) != 0xffff) return BAD_CHECKSUM;
 	if (packet[8] < 2) return EXPIRED;
-	*hop = lookup(table, word(packet + 16) << 16 | word(packet + 18));
-	return *hop ? SENT : NO_ROUTE;
+	*destination = word(packet + 16) << 16 | word(packet + 18);
+	return SENT;
 }
 
-static inline void rewrite(uint8_t *frame, unsigned at, uint32_t hop)
+/* Rewrites a frame for this route. The time to live is the high byte of its 16 bits: one less there, and the checksum
+ * is 0x100 more, with the carry at its low end (RFC 1624). */
+static inline void rewrite(uint8_t *frame, unsigned at, uint32_t route)
 {
-	address_of_route(hop - 1, frame);
-	address_of_port((hop - 1) % PORTS, frame + 6);
-	frame[at + 8]--;
-	write_checksum(frame + at, (frame[at] & 15) * 4);
+	uint8_t *packet = frame + at;
+	uint32_t sum = word(packet + 10) + 0x100;
+	address_of_route(route, frame);
+	address_of_port(route % PORTS, frame + 6);
+	packet[8]--;
+	sum += sum >= 0xffff;
+	packet[10] = sum >> 8;
+	packet[11] = sum;
 }

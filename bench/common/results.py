@@ -40,7 +40,7 @@ class Row(NamedTuple):
     what: str  # in words, of its own in its area
     part: str  # the group of rows in the plot and in the summary
     here: str
-    beside: str  # what it is compared with
+    against: str  # what it is compared with
     yardstick: str  # the figure of that
     unit: str  # of both figures
     ratio: str  # here / yardstick
@@ -185,11 +185,11 @@ class Results:
         self.kept = True
         self.common = (commit(), machine(), datetime.date.today().isoformat())
 
-    def add(self, what, here, unit, beside=NONE, yardstick=None, part=NONE, rounds=None, compared=True):
-        """Adds a row: `yardstick` is the figure of `beside`, None if there is none, and the row has their ratio if the
+    def add(self, what, here, unit, against=NONE, yardstick=None, part=NONE, rounds=None, compared=True):
+        """Adds a row: `yardstick` is the figure of `against`, None if there is none, and the row has their ratio if the
         two are compared. Returns whether it is within its bound, as a row without one is."""
         ratio = here / yardstick if yardstick and compared else None
-        self.rows.append(Row(what, part, in_digits(here), beside, in_digits(yardstick) if yardstick else NONE, unit,
+        self.rows.append(Row(what, part, in_digits(here), against, in_digits(yardstick) if yardstick else NONE, unit,
                              f"{ratio:.3f}" if ratio is not None else NONE, str(rounds or self.rounds), *self.common))
         bound = self.bounds.get(what)
         kept = bound is None or within(here if ratio is None else ratio, unit, bound.bound)

@@ -55,9 +55,9 @@ static struct table make_table(unsigned count)
 	return table;
 }
 
-static inline uint32_t lookup(const void *routes, uint32_t address)
+/* The route's index and 1, or 0. */
+static inline uint32_t lookup(const struct table *table, uint32_t address)
 {
-	const struct table *table = routes;
 	uint32_t entry = table->first[address >> 8];
 	return entry & GROUP ? table->groups[256 * (entry & ~GROUP) + (address & 255)] : entry;
 }
@@ -194,7 +194,7 @@ static void forward(unsigned count, const char *from, const char *prefix)
 	open_all(from, prefix);
 	while (fill(16)) {
 		uint8_t *record = in.bytes + in.at;
-		uint32_t captured = field(record + 8), wire = field(record + 12), hop = 0;
+		uint32_t captured = field(record + 8), wire = field(record + 12), to, hop = 0;
 		unsigned at = 0;
 		if (captured > MOST) fail("captured");
 		if (!fill(16 + captured)) break;
@@ -206,11 +206,12 @@ static void forward(unsigned count, const char *from, const char *prefix)
 			continue;
 		}
 		if (wire < captured) put(record + 12, wire = captured);
-		unsigned verdict = judge(record + 16, captured, wire, &table, &at, &hop);
+		unsigned verdict = examine(record + 16, captured, wire, &at, &to);
+		if (verdict == SENT && !(hop = lookup(&table, to))) verdict = NO_ROUTE;
 		verdicts[verdict]++;
 		if (verdict != SENT) continue;
 		struct port *port = &ports[(hop - 1) % PORTS];
-		rewrite(record + 16, at, hop);
+		rewrite(record + 16, at, hop - 1);
 		tagged += at == 18;
 		port->records++;
 		append(port, record, 16 + captured);

@@ -18,12 +18,6 @@
 #include <rte_reorder.h>
 #include <rte_ring.h>
 
-static inline uint32_t lookup(const void *table, uint32_t address)
-{
-	uint32_t hop;
-	return rte_lpm_lookup((struct rte_lpm *)(uintptr_t)table, address, &hop) ? 0 : hop + 1;
-}
-
 #include "forward.h"
 
 #define LIST 32
@@ -44,14 +38,39 @@ static volatile uint64_t read_in_all, sent_so_far;
 static unsigned workers;
 static uint64_t records, tagged, of_port[PORTS], verdicts[VERDICTS];
 
-/* The verdict, and the port behind it, travel in a field that is free. */
-static inline void judge_one(struct rte_mbuf *packet)
+/* Whether a packet has to be looked up, and then its address. Its verdict, whether it has a tag, and its port travel in a
+ * field that is free. */
+static inline int judge(struct rte_mbuf *packet, uint32_t *to)
 {
-	uint8_t *frame = rte_pktmbuf_mtod(packet, uint8_t *);
-	uint32_t length = rte_pktmbuf_data_len(packet), hop = 0;
-	unsigned at = 0, verdict = judge(frame, length, rte_pktmbuf_pkt_len(packet), routes, &at, &hop);
-	if (verdict == SENT) rewrite(frame, at, hop);
-	packet->hash.usr = verdict << 8 | (at == 18) << 7 | (verdict == SENT ? (hop - 1) % PORTS : 0);
+	unsigned at = 0, verdict = examine(rte_pktmbuf_mtod(packet, uint8_t *), rte_pktmbuf_data_len(packet),
+		rte_pktmbuf_pkt_len(packet), &at, to);
+	packet->hash.usr = verdict << 8 | (at == 18) << 7;
+	return verdict == SENT;
+}
+
+static inline void route(struct rte_mbuf *packet, uint32_t found)
+{
+	uint32_t index = found & 0xffffff, at = packet->hash.usr >> 7 & 1 ? 18 : 14;
+	if (!(found & RTE_LPM_LOOKUP_SUCCESS)) {
+		packet->hash.usr = NO_ROUTE << 8;
+		return;
+	}
+	rewrite(rte_pktmbuf_mtod(packet, uint8_t *), at, index);
+	packet->hash.usr |= index % PORTS;
+}
+
+/* Judges and rewrites a list of at most LIST packets, with all their lookups in one call. */
+static void judge_all(struct rte_mbuf **list, unsigned count)
+{
+	struct rte_mbuf *good[LIST];
+	uint32_t to[LIST], found[LIST];
+	unsigned many = 0;
+	for (unsigned i = 0; i < count; i++) {
+		good[many] = list[i];
+		many += judge(list[i], &to[many]);
+	}
+	if (many) rte_lpm_lookup_bulk(routes, to, found, many);
+	for (unsigned i = 0; i < many; i++) route(good[i], found[i]);
 }
 
 static void send_all(struct rte_mbuf **list, unsigned count)
@@ -88,7 +107,7 @@ static int work(void *unused)
 			rte_pause();
 			continue;
 		}
-		for (unsigned i = 0; i < count; i++) judge_one(list[i]);
+		judge_all(list, count);
 		while (!rte_ring_enqueue_bulk(to_send, (void **)list, count, NULL)) rte_pause();
 	}
 }
@@ -115,7 +134,7 @@ static void by_one(void)
 	unsigned count;
 	while ((count = rte_eth_rx_burst(0, 0, list, LIST)) != 0) {
 		records += count;
-		for (unsigned i = 0; i < count; i++) judge_one(list[i]);
+		judge_all(list, count);
 		send_all(list, count);
 	}
 }
@@ -149,7 +168,7 @@ static void by_workers(void)
 		for (unsigned i = 0; i < count; i++) *rte_reorder_seqn(list[i]) = records + i;
 		records += count;
 		if (first) {
-			judge_one(list[0]);
+			judge_all(list, 1);
 			if (rte_reorder_insert(window, list[0])) fail("reorder");
 			start_sink(window);
 		}
