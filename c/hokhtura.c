@@ -90,10 +90,14 @@ extern int64_t hkx_reorder_skip(struct hk_cell *h, uint64_t number);
 /* An array of no words has an address, too. */
 static uint64_t no_words[1];
 
-/* Checks the array of a call on n words: 0 if the call may go on, else the code to return. */
-static inline int64_t refused(const void *words, size_t n) {
-    if (n > HK_MOST) return HK_E_COUNT;
+/* Checks the array of a call on n words, of at most so many: 0 if the call may go on, else the code to return. */
+static inline int64_t refused_above(size_t most, const void *words, size_t n) {
+    if (n > most) return HK_E_COUNT;
     return words || n == 0 ? HK_OK : HK_E_NULL;
+}
+
+static inline int64_t refused(const void *words, size_t n) {
+    return refused_above(HK_MOST, words, n);
 }
 
 /* ---- Rings ---- */
@@ -180,7 +184,7 @@ static RARELY int64_t take_again(struct take_call *call, bool bulk, int64_t code
 }
 
 static inline int64_t put(hk_hand *hand, size_t ring, const uint64_t *words, size_t n, bool bulk) {
-    int64_t code = refused(words, n);
+    int64_t code = refused_above(HK_MOST_ON_MULTI, words, n);
     if (code < 0) return code;
     if (!words) words = no_words;
     struct put_call call = {{hand}, ring, words, n};
@@ -199,7 +203,7 @@ int64_t hk_ring_try_put_burst(hk_hand *hand, size_t ring, const uint64_t *words,
 }
 
 static inline int64_t take(hk_hand *hand, size_t ring, uint64_t *words, size_t n, bool bulk) {
-    int64_t code = refused(words, n);
+    int64_t code = refused_above(HK_MOST_ON_MULTI, words, n);
     if (code < 0) return code;
     if (!words) words = no_words;
     struct take_call call = {{hand}, ring, words, n};
@@ -272,7 +276,7 @@ int64_t hk_ring_peek_take_burst(hk_hand *hand, size_t ring, uint64_t *words, siz
 }
 
 int64_t hk_ring_finish_put(hk_hand *hand, const uint64_t *words, size_t n) {
-    int64_t code = refused(words, n);
+    int64_t code = refused_above(HK_MOST_ON_MULTI, words, n);
     if (code < 0) return code;
     give_words(words, n);
     struct hk_cell cell = {hand};

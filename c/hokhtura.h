@@ -60,8 +60,10 @@ extern "C" {
 #define HK_RESTRICT
 #endif
 
-/* The largest number of words in one call. */
+/* The largest number of words in one call on an HK_HTS side, and in a drain. */
 #define HK_MOST 4095
+/* The largest number of words in one put or take on an HK_MULTI side: as many as any ring holds. */
+#define HK_MOST_ON_MULTI 1048575
 /* The largest number of rings in one set. */
 #define HK_MOST_RINGS 64
 /* The largest count of numbers in one call on a pool. */
@@ -160,15 +162,17 @@ HK_API HK_CHECKED int64_t hk_hand_split(hk_hand *hand, hk_hand **out);
  * if it is head/tail-sync, and if it is multi HK_E_PENDING, or HK_E_NOROOM once no position is left. */
 HK_API void hk_hand_free(hk_hand *hand);
 
-/* Puts n words on a ring, 1 to HK_MOST: by bulk all of them or none, by burst as many as there is room for. Returns how
- * many were put: the first words of the array, in order, next to each other on the ring.
+/* Puts n words on a ring, 1 to HK_MOST, or to HK_MOST_ON_MULTI on a multi side: by bulk all of them or none, by burst as
+ * many as there is room for. Returns how many were put: the first words of the array, in order, next to each other on
+ * the ring.
  * HK_E_NULL, HK_E_KIND, HK_E_RING, HK_E_OPEN, HK_E_COUNT, HK_E_NOROOM, HK_E_WORN, HK_E_AGAIN: nothing was put.
  * HK_E_PENDING, only on a multi side: the positions are the hand's, the words are not put yet. Call
  * hk_ring_finish_put with the same words until it returns a count. */
 HK_API HK_CHECKED int64_t hk_ring_try_put_bulk(hk_hand *hand, size_t ring, const uint64_t *words, size_t n);
 HK_API HK_CHECKED int64_t hk_ring_try_put_burst(hk_hand *hand, size_t ring, const uint64_t *words, size_t n);
-/* Takes n words from a ring, 1 to HK_MOST, the oldest first: by bulk all n or none, by burst at most n. Returns how
- * many are at the front of the array; its other places are unchanged. Codes as above.
+/* Takes n words from a ring, 1 to HK_MOST, or to HK_MOST_ON_MULTI on a multi side, the oldest first: by bulk all n or
+ * none, by burst at most n. Returns how many are at the front of the array; its other places are unchanged. Codes as
+ * above.
  * HK_E_PENDING, only on a multi side: the words are at the front of the array, and still on the ring. Call
  * hk_ring_finish_take with the same n until it returns a count. */
 HK_API HK_CHECKED int64_t hk_ring_try_take_bulk(hk_hand *hand, size_t ring, uint64_t *words, size_t n);

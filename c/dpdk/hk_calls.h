@@ -1,7 +1,7 @@
 /* Puts and takes as DPDK's calls make them: each goes on until it is done or there is too little room or too few words,
  * and so it may wait for a call of another thread that isn't finished yet.
  *
- * One call of the library moves HK_MOST words at most. Longer ones are made of pieces here, and nowhere else. */
+ * One call on a head/tail-sync side moves HK_MOST words at most, so longer ones are made of pieces here. */
 #ifndef HK_CALLS_H
 #define HK_CALLS_H 1
 
@@ -28,7 +28,7 @@ static __rte_noinline int64_t hk_take_on(hk_hand *hand, uint64_t *words, size_t 
     return hk_finish_take_after(hand, n, code, NULL);
 }
 
-/* Puts n words, 1 to HK_MOST, on ring 0. Returns how many; HK_E_NOROOM, HK_E_WORN; HK_E_OPEN: the hand has a peek. */
+/* Puts n words, as many as the side's calls move, on ring 0. Returns how many; HK_E_NOROOM, HK_E_WORN; HK_E_OPEN: the hand has a peek. */
 static __rte_always_inline int64_t hk_put(hk_hand *hand, const uint64_t *words, size_t n, int bulk) {
     int64_t code = bulk ? hk_ring_try_put_bulk(hand, 0, words, n) : hk_ring_try_put_burst(hand, 0, words, n);
     return likely(code >= 0) ? code : hk_put_on(hand, words, n, bulk, code);

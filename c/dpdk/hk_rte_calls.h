@@ -19,9 +19,10 @@ static __rte_always_inline unsigned int hkr_elements(int64_t count) {
 
 /* ---- Calls whose elements aren't words, long calls, and calls of a thread without a hand ------------------------- */
 
-/* How many elements are in one piece of a call: fewer if they are copied to words. */
-static inline size_t hkr_piece(const struct rte_ring *r, const void *table) {
-    return r->elements || hkr_is_words(r, table) ? HK_MOST : HKR_PIECE;
+/* How many elements are in one piece of a call on a side: fewer if they are copied to words. A multi side moves all. */
+static inline size_t hkr_piece(const struct rte_ring *r, enum rte_ring_sync_type sync, const void *table) {
+    if (!r->elements && !hkr_is_words(r, table)) return HKR_PIECE;
+    return hkr_mode(r, sync) == HK_MULTI ? HK_MOST_ON_MULTI : HK_MOST;
 }
 
 static inline int64_t hkr_put_piece(struct rte_ring *r, hk_hand *hand, const void *table, size_t n, int bulk) {
@@ -44,7 +45,7 @@ static inline int64_t hkr_take_piece(struct rte_ring *r, hk_hand *hand, void *ta
 /* Enqueues in pieces. Elements of other threads may come between two pieces, or use room that they had reserved already
  * when it was looked at: a bulk, which may not stop in the middle, then waits for room. */
 static inline unsigned int hkr_put_pieces(struct rte_ring *r, hk_hand *hand, const void *table, size_t n, int bulk) {
-    size_t most = hkr_piece(r, table), done = 0;
+    size_t most = hkr_piece(r, r->prod_sync, table), done = 0;
     while (done < n) {
         size_t next = RTE_MIN(n - done, most);
         int64_t count = hkr_put_piece(r, hand, (const char *)table + done * r->esize, next, bulk);
@@ -57,7 +58,7 @@ static inline unsigned int hkr_put_pieces(struct rte_ring *r, hk_hand *hand, con
 }
 
 static inline unsigned int hkr_take_pieces(struct rte_ring *r, hk_hand *hand, void *table, size_t n, int bulk) {
-    size_t most = hkr_piece(r, table), done = 0;
+    size_t most = hkr_piece(r, r->cons_sync, table), done = 0;
     while (done < n) {
         size_t next = RTE_MIN(n - done, most);
         int64_t count = hkr_take_piece(r, hand, (char *)table + done * r->esize, next, bulk);
@@ -74,7 +75,7 @@ static inline unsigned int hkr_take_pieces(struct rte_ring *r, hk_hand *hand, vo
 static __rte_noinline unsigned int hkr_put_otherwise(struct rte_ring *r, const void *table, unsigned int esize,
                                                      unsigned int n, int bulk, unsigned int *left) {
     hk_hand *mine = hk_hands_mine(&r->put->hands), *hand = mine ? mine : hk_hands_borrow(&r->put->hands);
-    int is_long = bulk && n > hkr_piece(r, table), looks = is_long || n == 0;
+    int is_long = bulk && n > hkr_piece(r, r->prod_sync, table), looks = is_long || n == 0;
     unsigned int done = 0;
     int64_t room = 0;
     if (esize == r->esize) {
@@ -94,7 +95,7 @@ static __rte_noinline unsigned int hkr_put_otherwise(struct rte_ring *r, const v
 static __rte_noinline unsigned int hkr_take_otherwise(struct rte_ring *r, void *table, unsigned int esize,
                                                       unsigned int n, int bulk, unsigned int *left) {
     hk_hand *mine = hk_hands_mine(&r->take->hands), *hand = mine ? mine : hk_hands_borrow(&r->take->hands);
-    int is_long = bulk && n > hkr_piece(r, table), looks = is_long || n == 0;
+    int is_long = bulk && n > hkr_piece(r, r->cons_sync, table), looks = is_long || n == 0;
     unsigned int done = 0;
     int64_t queued = 0;
     if (esize == r->esize) {

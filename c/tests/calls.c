@@ -33,20 +33,22 @@ static void plans(uint32_t put, uint32_t take) {
     hk_hand_free(NULL);
 }
 
-static void refusals(hk_hand *hand) {
+static void refusals(hk_hand *hand, uint32_t put, uint32_t take) {
     IS(hk_ring_try_put_bulk(NULL, 0, words, 1), HK_E_NULL);
     IS(hk_ring_try_put_bulk(hand, 0, NULL, 1), HK_E_NULL);
     IS(hk_ring_try_put_bulk(hand, 2, words, 1), HK_E_RING);
     IS(hk_ring_try_put_bulk(hand, SIZE_MAX, words, 1), HK_E_RING);
     IS(hk_ring_try_put_bulk(hand, 0, words, 0), HK_E_COUNT);
     IS(hk_ring_try_put_bulk(hand, 0, NULL, 0), HK_E_COUNT);
-    IS(hk_ring_try_put_bulk(hand, 0, words, HK_MOST + 1), HK_E_COUNT);
+    IS(hk_ring_try_put_bulk(hand, 0, words, HK_MOST + 1), put == HK_HTS ? HK_E_COUNT : HK_E_NOROOM);
+    IS(hk_ring_try_put_bulk(hand, 0, words, HK_MOST_ON_MULTI + 1), HK_E_COUNT);
     IS(hk_ring_try_put_bulk(hand, 0, words, SIZE_MAX), HK_E_COUNT);
     IS(hk_ring_try_take_bulk(NULL, 0, out, 1), HK_E_NULL);
     IS(hk_ring_try_take_bulk(hand, 0, NULL, 1), HK_E_NULL);
     IS(hk_ring_try_take_bulk(hand, 2, out, 1), HK_E_RING);
     IS(hk_ring_try_take_bulk(hand, 0, out, 0), HK_E_COUNT);
-    IS(hk_ring_try_take_burst(hand, 0, out, HK_MOST + 1), HK_E_COUNT);
+    IS(hk_ring_try_take_burst(hand, 0, out, HK_MOST + 1), take == HK_HTS ? HK_E_COUNT : HK_E_NOROOM);
+    IS(hk_ring_try_take_burst(hand, 0, out, HK_MOST_ON_MULTI + 1), HK_E_COUNT);
     IS(hk_ring_finish_put(hand, words, 1), HK_E_NOTOPEN);
     IS(hk_ring_finish_take(hand, 1), HK_E_NOTOPEN);
     IS(hk_hand_drain(hand, 0, out, 1), HK_E_KIND);
@@ -169,7 +171,7 @@ static void rings(uint32_t put, uint32_t take) {
     hk_ring_plan two[2] = {{6, 1, put, take, 0, 0}, {8, 0, put, take, 0, 0}};
     plans(put, take);
     IS(hk_hand_open(&hand, two, 2), HK_OK);
-    refusals(hand);
+    refusals(hand, put, take);
     puts_and_takes(hand);
     peeks_of_puts(hand, put);
     peeks_of_takes(hand, take);
@@ -177,7 +179,31 @@ static void rings(uint32_t put, uint32_t take) {
     hk_hand_free(hand);
 }
 
-/* The longest call, around the end of the ring; words of every bit. */
+/* On multi sides a call moves up to what the ring holds; on a head/tail-sync side HK_MOST words. */
+static void calls_of_a_ring(void) {
+    enum { HOLDS = 3 * HK_MOST };
+    static uint64_t in[HOLDS + 1], got[HOLDS + 1];
+    hk_hand *hand = NULL;
+    hk_ring_plan plans[2] = {{HOLDS, 1, HK_MULTI, HK_MULTI, 0, 0}, {HOLDS, 1, HK_HTS, HK_MULTI, 0, 0}};
+    for (uint64_t i = 0; i <= HOLDS; i++) in[i] = i * 0x9e3779b97f4a7c15u;
+    IS(hk_hand_open(&hand, plans, 2), HK_OK);
+    for (int turn = 0; turn < 3; turn++) {
+        memset(got, 0xff, sizeof got);
+        IS(hk_ring_try_put_bulk(hand, 0, in, HOLDS + 1), HK_E_NOROOM), IS(hk_hand_left(hand), HOLDS);
+        IS(hk_ring_try_put_bulk(hand, 0, in, HOLDS - 7), HOLDS - 7);
+        IS(hk_ring_try_put_burst(hand, 0, in + HOLDS - 7, 8), 7), IS(hk_ring_room(hand, 0), 0);
+        IS(hk_ring_try_take_bulk(hand, 0, got, HOLDS + 1), HK_E_NOROOM), IS(got[0], -1);
+        IS(hk_ring_try_take_burst(hand, 0, got, HOLDS + 1), HOLDS);
+        IS(memcmp(got, in, HOLDS * sizeof *in), 0), IS(got[HOLDS], -1);
+        IS(hk_ring_try_put_bulk(hand, 0, in, 5), 5), IS(hk_ring_try_take_bulk(hand, 0, got, 5), 5);
+    }
+    IS(hk_ring_try_put_burst(hand, 1, in, HK_MOST + 1), HK_E_COUNT);
+    for (int turn = 0; turn < 3; turn++) IS(hk_ring_try_put_bulk(hand, 1, in + turn * HK_MOST, HK_MOST), HK_MOST);
+    IS(hk_ring_try_take_bulk(hand, 1, got, HOLDS), HOLDS), IS(memcmp(got, in, HOLDS * sizeof *in), 0);
+    hk_hand_free(hand);
+}
+
+/* The longest call of a head/tail-sync side, around the end of the ring; words of every bit. */
 static void long_calls(void) {
     hk_hand *hand = NULL;
     hk_ring_plan plan = {6000, 1, HK_MULTI, HK_MULTI, 0, 0};
@@ -330,6 +356,7 @@ int main(void) {
     for (uint32_t pair = 0; pair < 4; pair++) rings(pair & 1, pair >> 1);
     freed_while_putting();
     freed_while_taking();
+    calls_of_a_ring();
     long_calls();
     routes();
     reorder();

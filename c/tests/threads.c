@@ -1,5 +1,6 @@
 /* Two threads put 10,000,000 words on a ring and two take them, each word once and those of one sender in their order,
- * in each pair of modes. An argument is another number of words for each sender. */
+ * in each pair of modes; on multi sides also by calls that are longer than those of a head/tail-sync side. An argument
+ * is another number of words for each sender. */
 #include "tests.h"
 
 #include <pthread.h>
@@ -7,7 +8,7 @@
 #include <stdatomic.h>
 #include <stdlib.h>
 
-enum { SENDERS = 2, TAKERS = 2, LONGEST = 32 };
+enum { SENDERS = 2, TAKERS = 2, BURST = 32, LONGEST = 2 * HK_MOST };
 
 static uint64_t each = 5000000;
 static unsigned char *met;
@@ -19,9 +20,12 @@ struct job {
     size_t burst;
 };
 
+/* A thread's words. */
+static uint64_t places[SENDERS + TAKERS][LONGEST];
+
 static void *send_all(void *at) {
     struct job *job = at;
-    uint64_t words[LONGEST], next = 0;
+    uint64_t *words = places[job->who], next = 0;
     while (next < each) {
         size_t n = 0;
         for (; n < job->burst && next + n < each; n++) words[n] = job->who * each + next + n;
@@ -44,7 +48,7 @@ static void *send_all(void *at) {
 
 static void *take_all(void *at) {
     struct job *job = at;
-    uint64_t words[LONGEST], last[SENDERS] = {0};
+    uint64_t *words = places[job->who], last[SENDERS] = {0};
     while (gone < SENDERS * each && !wrong) {
         int64_t count = hk_ring_try_take_burst(job->hand, 0, words, job->burst);
         while (count == HK_E_PENDING) {
@@ -65,9 +69,9 @@ static void *take_all(void *at) {
     return NULL;
 }
 
-static void cross(uint32_t put, uint32_t take, size_t burst) {
+static void cross(uint32_t size, uint32_t put, uint32_t take, size_t burst) {
     hk_hand *hand = NULL;
-    hk_ring_plan plan = {100, 1, put, take, 0, 0};
+    hk_ring_plan plan = {size, 1, put, take, 0, 0};
     pthread_t threads[SENDERS + TAKERS];
     struct job jobs[SENDERS + TAKERS];
     met = calloc(SENDERS * each, 1);
@@ -95,8 +99,9 @@ static void cross(uint32_t put, uint32_t take, size_t burst) {
 int main(int argc, char **argv) {
     if (argc > 1) each = strtoull(argv[1], NULL, 10) / 4;
     for (uint32_t pair = 0; pair < 4; pair++) {
-        cross(pair & 1, pair >> 1, 1);
-        cross(pair & 1, pair >> 1, LONGEST);
+        cross(100, pair & 1, pair >> 1, 1);
+        cross(100, pair & 1, pair >> 1, BURST);
     }
+    cross(3 * LONGEST, HK_MULTI, HK_MULTI, LONGEST);
     return hk_count_up("threads");
 }

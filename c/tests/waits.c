@@ -65,7 +65,7 @@ static void puts_of(uint32_t mode) {
     IS(hk_ring_put(hand, 1, words, 3, ends), HK_E_RING);
     IS(hk_ring_put_burst(hand, 0, NULL, 3, ends), HK_E_NULL), IS(hk_ring_put(hand, 0, NULL, 3, ends), HK_E_NULL);
     IS(hk_ring_take(hand, 0, NULL, HK_MOST + 6, ends), HK_E_NULL), IS(hk_ring_put(hand, 0, words, 0, ends), HK_E_COUNT);
-    IS(hk_ring_take_bulk(hand, 0, out, HK_MOST + 1, ends), HK_E_COUNT), IS(relaxed, 0);
+    IS(hk_ring_take_bulk(hand, 0, out, HK_MOST_ON_MULTI + 1, ends), HK_E_COUNT), IS(relaxed, 0);
     hk_hand_free(hand), hk_hand_free(other);
 }
 

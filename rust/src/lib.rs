@@ -70,8 +70,11 @@ pub use ring::{Consumer, Left, Producer, Ring, Taken};
 pub use routes::{FirstLevel, Routes};
 pub use word::Word;
 
-/// The largest number of words in one call.
+/// The largest number of words in one call on a head/tail-sync side.
 pub const MOST: usize = 4095;
+
+/// The largest number of words in one put or take on a multi side: as many as any ring holds.
+pub const MOST_ON_MULTI: usize = 1_048_575;
 
 /// What a thread does that waits for another one.
 pub(crate) fn relax() {

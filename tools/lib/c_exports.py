@@ -27,6 +27,7 @@ OF_C = {"HK_OK", "HK_E_NOTHING", "HK_E_BEGUN"}
 # A fault that no call of C can meet: its handles are empty where one is made.
 UNPUBLISHED = {"HK_E_USED"}
 LIMITS = {"HK_MOST": [("capi/src/rings/member.rt", "MOST"), ("capi/src/reorder_windows.rt", "MOST")],
+          "HK_MOST_ON_MULTI": [("capi/src/rings/member.rt", "MOST_ON_MULTI")],
           "HK_MOST_RINGS": [("capi/src/rings/opening.rt", "MOST_RINGS")],
           "HK_POOL_MOST": [("capi/src/pools/member.rt", "MOST_NUMBERS")],
           "HK_MOST_PORTS": [("live_routes/src/ports.rt", "MAX_PORTS")],

@@ -43,7 +43,7 @@ module _ (f : Rings) (how : How) (n ring : ℕ) (v : View Word64) (count left : 
   holds_nothing : at ≡ open_span.Idle → IsHeldNow f how n ring v count left at w → ⊥
   holds_nothing none is = absurd (let e : open_span.Idle ≡ open_span.Held is.r = sym none ∙ is.held in cc)
 
-  reserves_nothing : ((r : Reserved) → HasReserved f how n ring Take v (span_at Take r) left w.shown w → ⊥)
+  reserves_nothing : ((r : Reserved) → HasReserved f 4095 how n ring Take v (span_at Take r) left w.shown w → ⊥)
       → IsHeldNow f how n ring v count left at w → ⊥
   reserves_nothing none is = none is.r is.reserved
 

@@ -8,6 +8,7 @@ pub mod Asking
 pub mod Emptying
 pub mod Filling
 pub mod Held
+pub mod Limits
 pub mod Reserving
 mod HoldRows
 mod RingRows

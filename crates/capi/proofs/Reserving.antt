@@ -20,12 +20,12 @@ asked_of : (how : How) (n room count : ℕ) → count ≡ granted how n room →
 asked_of Bulk n room count is some = grind (arith, nat_tests)
 asked_of Burst n room count is some = omega (arith, is)
 
-module _ (f : Rings) (how : How) (n ring : ℕ) (side : Side) (v : View Word64) where
+module _ (f : Rings) (most : ℕ) (how : How) (n ring : ℕ) (side : Side) (v : View Word64) where
   pub reserved_of : (span : Span) (left : ℕ) (shown : List Word64) (w : View Word64) → ring < length (rings_of f)
       → span.ring ≡ ring → span.side ≡ side
       → OnRing f ring (λ plan. Starts tags how n ring side plan v span.start span.count left shown w)
-      → OnRing f ring (λ plan. MayAsk tags 4095 n side plan v) → w.party ≡ with_open v.party span
-      → HasReserved f how n ring side v span left shown w
+      → OnRing f ring (λ plan. MayAsk tags most n side plan v) → w.party ≡ with_open v.party span
+      → HasReserved f most how n ring side v span left shown w
   reserved_of span left shown w there at on starts may opened =
       let p = ring_at (rings_of f) ring there in
       let plan = p.0 in
@@ -37,6 +37,6 @@ module _ (f : Rings) (how : How) (n ring : ℕ) (side : Side) (v : View Word64) 
         party = opened;
         some = s.positive;
         few = omega (arith, s.granted, granted_few how n room);
-        most = (may plan p.1).1;
+        fits = (may plan p.1).1;
         asked = asked_of how n room span.count s.granted s.positive;
       }

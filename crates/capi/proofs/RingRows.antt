@@ -1,15 +1,18 @@
 -- Worked cases of what C passes and gets: codes, plans of rings, and what puts and takes are none
-use Rattle.std.proofs.Common.{◌≡◌, ◌≢◌, ◌<◌, ◌++◌, ℕ, suc, List, [], ◌∷◌, length, refl, sym, ◌∙◌, inl, inr, Option, Some, None, Ok, Err, true, false, arith, subst}
-use Rattle.std.specs.Prelude.{IsSome, pos, neg_ℤ}
+use Rattle.std.proofs.Common.{◌≡◌, ◌≢◌, ◌<◌, ◌++◌, ℕ, suc, List, [], ◌∷◌, length, refl, sym, ◌∙◌, inl, inr, Option, Some, None, Ok, Err, true, false, arith, subst, ap}
+use Rattle.std.specs.Prelude.{IsSome, pos, neg_ℤ, slice_get}
 use Rattle.geom.specs.declared.geometry.GeomFault.TheVariants.{NotPower, TooSmall, TooLarge}
 use Rattle.geom.specs.declared.plan.How.{How}
 use Rattle.geom.specs.declared.plan.How.TheVariants.{Bulk, Burst}
 use Rattle.geom.specs.declared.plan.Mode.TheVariants.{Multi, Hts}
+use Rattle.geom.specs.declared.plan.RingPlan.{RingPlan}
 use Rattle.geom.specs.declared.plan.Side.{Side}
+use Rattle.geom.specs.declared.plan.Side.TheVariants.{Put, Take}
 use Rattle.geom.specs.Sizes.{power_above}
 use Rattle.ringcore_laws.specs.Party.{with_open, with_settled}
 use Rattle.ringcore_laws.specs.declared.protocol.Span.{Span}
 use Rattle.fabric_laws.specs.declared.view.View.{View}
+use Rattle.fabric.specs.Hands.{rings_of}
 use Rattle.fabric.specs.declared.hand.StartFault.TheVariants.{Busy, Contended, NoRoom, Worn, BadCount}
 use Rattle.capi.specs.Calls.{Puts, Takes, how_of}
 use Rattle.capi.specs.Codes.{code_of}
@@ -18,7 +21,7 @@ use Rattle.capi.specs.Members.{Rings}
 use Rattle.capi.specs.Plans.{extent_asked, mode_asked, plan_asked}
 use Rattle.capi.specs.Rests.{RefusesClose}
 use Rattle.capi.specs.RingCalls.{member_view}
-use Rattle.capi.specs.Spans.{HasReserved, HasSettled, IsAsked, IsEarly, room_of, start_fault}
+use Rattle.capi.specs.Spans.{HasReserved, HasSettled, IsAsked, IsEarly, call_limit, limit_in, limit_of, room_of, start_fault}
 use Rattle.capi.specs.declared.rings.fault.Fault.TheVariants as fault
 use Rattle.capi.specs.declared.rings.member.Member.{Member}
 use Rattle.capi.specs.declared.rings.opening.Asked.{Asked}
@@ -185,25 +188,35 @@ hts_takes_fewer is = absurd (omega (arith, is))
 hts_needs_no_more : DoesNotFit Hts 9 8
 hts_needs_no_more = omega arith
 
+-- how many words a call moves at most
+multi_moves_what_a_ring_holds : (f : Rings) (plan : RingPlan) → slice_get (rings_of f) 3 ≡ Some plan → plan.put ≡ Multi → call_limit f 3 Put ≡ 1048575
+multi_moves_what_a_ring_holds f plan at multi = ap (λ (o : Option RingPlan). limit_in o Put) at ∙ ap limit_of multi
+
+hts_moves_what_its_word_counts : (f : Rings) (plan : RingPlan) → slice_get (rings_of f) 0 ≡ Some plan → plan.take ≡ Hts → call_limit f 0 Take ≡ 4095
+hts_moves_what_its_word_counts f plan at hts = ap (λ (o : Option RingPlan). limit_in o Take) at ∙ ap limit_of hts
+
+no_ring_moves_nothing : limit_in None Put ≡ 0
+no_ring_moves_nothing = refl
+
 -- reserved spans that are none: each breaks one field
-module _ (f : Rings) (how : How) (n ring : ℕ) (side : Side) (v : View Word64) (left : ℕ) (shown : List Word64) (w : View Word64) where
-  on_another_ring : (span : Span) → span.ring ≢ ring → HasReserved f how n ring side v span left shown w → ⊥
+module _ (f : Rings) (most : ℕ) (how : How) (n ring : ℕ) (side : Side) (v : View Word64) (left : ℕ) (shown : List Word64) (w : View Word64) where
+  on_another_ring : (span : Span) → span.ring ≢ ring → HasReserved f most how n ring side v span left shown w → ⊥
   on_another_ring span other is = other is.at.0
 
-  of_the_other_side : (span : Span) → span.side ≢ side → HasReserved f how n ring side v span left shown w → ⊥
+  of_the_other_side : (span : Span) → span.side ≢ side → HasReserved f most how n ring side v span left shown w → ⊥
   of_the_other_side span other is = other is.at.1
 
-  not_open : (span : Span) → w.party ≢ with_open v.party span → HasReserved f how n ring side v span left shown w → ⊥
+  not_open : (span : Span) → w.party ≢ with_open v.party span → HasReserved f most how n ring side v span left shown w → ⊥
   not_open span other is = other is.party
 
-  without_positions : (span : Span) → span.count ≡ 0 → HasReserved f how n ring side v span left shown w → ⊥
+  without_positions : (span : Span) → span.count ≡ 0 → HasReserved f most how n ring side v span left shown w → ⊥
   without_positions span none is = absurd (omega (arith, none, is.some))
 
-  longer_than_asked : (span : Span) → n < span.count → HasReserved f how n ring side v span left shown w → ⊥
+  longer_than_asked : (span : Span) → n < span.count → HasReserved f most how n ring side v span left shown w → ⊥
   longer_than_asked span more is = absurd (omega (arith, more, is.few))
 
-  too_many_for_a_call : (span : Span) → 4095 < n → HasReserved f how n ring side v span left shown w → ⊥
-  too_many_for_a_call span more is = absurd (omega (arith, more, is.most))
+  too_many_for_a_call : (span : Span) → most < n → HasReserved f most how n ring side v span left shown w → ⊥
+  too_many_for_a_call span more is = absurd (omega (arith, more, is.fits))
 
 -- settles that are none, and refusals that are none
 module _ (span : Span) (items : List Word64) (v w : View Word64) where

@@ -1,6 +1,7 @@
 -- Settles of open spans, and whole calls
 use Rattle.std.proofs.Common.{◌≡◌, ◌<◌, ◌≤◌, arith, ℕ, List, [], ◌∷◌, Bool, true, false, inl, inr, length, refl, ap, subst, sym, ◌∙◌}
 use Rattle.std.specs.Prelude.{slice_get}
+use Rattle.std.specs.List.{flat_map}
 use Rattle.geom.specs.declared.plan.How.{How}
 use Rattle.geom.specs.declared.plan.Mode.{Mode}
 use Rattle.geom.specs.declared.plan.Mode.TheVariants.{Hts, Multi}
@@ -23,7 +24,7 @@ use Rattle.fabric.specs.WholeCalls.{HasMoved, HasOpen, StaysOpen}
 use Rattle.fabric.proofs.Told.{ring_at}
 use Rattle.capi.specs.Calls.{Moves, Waits}
 use Rattle.capi.specs.Members.{ArePlain, Rings}
-use Rattle.capi.specs.Spans.{HasReserved, HasSettled, IsEarly, tags}
+use Rattle.capi.specs.Spans.{HasReserved, HasSettled, IsEarly, call_limit, tags}
 use Rattle.capi.specs.declared.rings.word64.Word64.{Word64}
 use Rattle.capi.proofs.Reserving.{reserved_of}
 
@@ -31,6 +32,10 @@ use Rattle.capi.proofs.Reserving.{reserved_of}
 none_carried : (b : ℕ) (words : List Word64) → occurrences_in tags b words ≡ 0
 none_carried b [] = refl
 none_carried b (x ∷ words) = none_carried b words
+
+pub none_tagged : (words : List Word64) → flat_map tags words ≡ []
+none_tagged [] = refl
+none_tagged (x ∷ words) = none_tagged words
 
 not_none : (n k : ℕ) → n < k → k ≡ 0 → ⊥
 not_none n k low none = omega (arith, low, none)
@@ -85,34 +90,37 @@ settled_of span words v w is = record {
   parts = ap (λ (u : View Word64). u.parts) is;
 }
 
-module _ (f : Rings) (how : How) (n ring : ℕ) (v : View Word64) (side : Side) (r : Reserved) (there : ring < length (rings_of f)) where
-  reserved_in : (w : View Word64) → HasOpen tags f how n ring v side r w
-      → HasReserved f how n ring side v (span_at side r) r.range.left w.shown w
+-- whole calls that reserved at most `most` positions, which makes no difference to this count
+module _ (f : Rings) (most : ℕ) (how : How) (n ring : ℕ) (v : View Word64) (side : Side) (r : Reserved) (there : ring < length (rings_of f))
+    (fits : n ≤ most → n ≤ call_limit f ring side) where
+  reserved_in : (w : View Word64) → HasOpen tags f most how n ring v side r w
+      → HasReserved f (call_limit f ring side) how n ring side v (span_at side r) r.range.left w.shown w
   reserved_in w h =
-      reserved_of f how n ring side v (span_at side r) r.range.left w.shown w there h.at refl h.starts h.may h.party
+      reserved_of f (call_limit f ring side) how n ring side v (span_at side r) r.range.left w.shown w there h.at refl h.starts
+      (λ plan at. ((h.may plan at).0, fits (h.may plan at).1, (h.may plan at).2)) h.party
 
-  pub few_in : (w : View Word64) → HasOpen tags f how n ring v side r w → (r.range.count ≤ n) × (n ≤ 4095)
-  few_in w h = let is = reserved_in w h in (is.few, is.most)
+  pub few_in : (w : View Word64) → HasOpen tags f most how n ring v side r w → (r.range.count ≤ n) × (n ≤ call_limit f ring side)
+  few_in w h = let is = reserved_in w h in (is.few, is.fits)
 
   -- a whole call that was made, and one whose span stays open
-  pub moved_of : (shown words : List Word64) (u : View Word64) → HasMoved tags f how n ring v side r shown words u
-      → Moves f how n ring side v r.range.count r.range.left shown words u
+  pub moved_of : (shown words : List Word64) (u : View Word64) → HasMoved tags f most how n ring v side r shown words u
+      → Moves f (call_limit f ring side) how n ring side v r.range.count r.range.left shown words u
   moved_of shown words u m = record {
     span = span_at side r;
     opened = m.opened;
-    reserved = subst (λ (l : List Word64). HasReserved f how n ring side v (span_at side r) r.range.left l m.opened) m.shows
+    reserved = subst (λ (l : List Word64). HasReserved f (call_limit f ring side) how n ring side v (span_at side r) r.range.left l m.opened) m.shows
         (reserved_in m.opened m.start);
     many = refl;
     settled = settled_of (span_at side r) words m.opened u m.settle;
   }
 
   pub waits_of : (k : ℕ) (shown words : List Word64) (u : View Word64) (e : SettleFault) → ArePlain (rings_of f)
-      → ((mode : Mode) → IsCount mode k r.range.count) → StaysOpen tags f how n ring v side r k shown words u e
-      → Waits f how n ring side v r.range.left shown u
+      → ((mode : Mode) → IsCount mode k r.range.count) → StaysOpen tags f most how n ring v side r k shown words u e
+      → Waits f (call_limit f ring side) how n ring side v r.range.left shown u
   waits_of k shown words u e plain all s = record {
     span = span_at side r;
     opened = s.opened;
-    reserved = subst (λ (l : List Word64). HasReserved f how n ring side v (span_at side r) r.range.left l s.opened) s.shows.0
+    reserved = subst (λ (l : List Word64). HasReserved f (call_limit f ring side) how n ring side v (span_at side r) r.range.left l s.opened) s.shows.0
         (reserved_in s.opened s.start);
     early = early_of f ring k side r words s.opened u s.start.at there plain (λ plan _. all (mode_of plan side)) e s.refused s.kept;
   }

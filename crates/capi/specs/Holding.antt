@@ -1,7 +1,7 @@
 -- What calls do while a hand holds a head/tail-sync side: its span stays open, and each call settles its first positions
 use Rattle.std.specs.Prelude.{◌≡◌, ℕ, ◌<◌, ◌≤◌, ◌⊎◌, List, length, take, Ok, Err}
 use Rattle.geom.specs.declared.plan.How.{How}
-use Rattle.geom.specs.declared.plan.Mode.TheVariants.{Multi}
+use Rattle.geom.specs.declared.plan.Mode.TheVariants.{Hts, Multi}
 use Rattle.geom.specs.declared.plan.Side.TheVariants.{Put, Take}
 use Rattle.ringcore_laws.specs.declared.protocol.Span.{Span}
 use Rattle.fabric_laws.specs.Changes.{advanced, rest_of}
@@ -15,7 +15,7 @@ use Rattle.capi.specs.Calls.{Refuses}
 use Rattle.capi.specs.Codes.{Outcome}
 use Rattle.capi.specs.Members.{Rings}
 use Rattle.capi.specs.RingCalls.{OnHts, OnPutting, SameMember, member_view}
-use Rattle.capi.specs.Spans.{HasReserved, HasSettled}
+use Rattle.capi.specs.Spans.{HasReserved, HasSettled, limit_of}
 use Rattle.capi.specs.declared.rings.fault.Fault.TheVariants as fault
 use Rattle.capi.specs.declared.rings.member.Member.{Member}
 use Rattle.capi.specs.declared.rings.word64.Word64.{Word64}
@@ -38,7 +38,7 @@ pub record IsHeldNow (f : Rings) (how : How) (n ring : ℕ) (v : View Word64) (c
     (w : View Word64) : Type 0 where
   pub r : Reserved
   pub held : at ≡ open_span.Held r
-  pub reserved : HasReserved f how n ring Take v (span_at Take r) left w.shown w
+  pub reserved : HasReserved f (limit_of Hts) how n ring Take v (span_at Take r) left w.shown w
   pub many : r.range.count ≡ count
   pub shown : length w.shown ≡ count
 
@@ -71,7 +71,7 @@ AdvancesPut words m u outcome = OnPutting m outcome (SameMember m u) (λ span v.
 module _ (f : Rings) (how : How) (n ring : ℕ) (v : View Word64) where
   abbrev pub Holds : ℕ → OpenSpan → View Word64 → Outcome → Type 0
   Holds left at w (Ok count) = IsHeldNow f how n ring v count left at w
-  Holds left at w (Err why) = Refuses f how n ring Take v why left w
+  Holds left at w (Err why) = Refuses f (limit_of Hts) how n ring Take v why left w
 
 abbrev pub HoldsTake : ℕ → How → ℕ → Member → Member → Outcome → Type 0
 HoldsTake ring how n m u outcome = OnHts ring Take m outcome (SameMember m u) (λ v. (u.port.fabric ≡ m.port.fabric)

@@ -1,8 +1,10 @@
 -- What calls on rings do to a hand, by its view
-use Rattle.std.specs.Prelude.{◌≡◌, ℕ, ◌<◌, ◌≤◌, List, [], Some}
+use Rattle.std.specs.Prelude.{◌≡◌, ℕ, ◌<◌, ◌≤◌, List, [], Option, None, Some, slice_get}
 use Rattle.geom.specs.declared.plan.How.{How}
 use Rattle.geom.specs.declared.plan.How.TheVariants.{Bulk, Burst}
-use Rattle.geom.specs.declared.plan.Mode.TheVariants.{Multi}
+use Rattle.geom.specs.declared.plan.Mode.{Mode}
+use Rattle.geom.specs.declared.plan.Mode.TheVariants.{Hts, Multi}
+use Rattle.geom.specs.declared.plan.RingPlan.{RingPlan}
 use Rattle.geom.specs.declared.plan.Side.{Side}
 use Rattle.geom.specs.Plan.{mode_of}
 use Rattle.ringcore_laws.specs.declared.protocol.Span.{Span}
@@ -10,7 +12,7 @@ use Rattle.ringcore_laws.specs.Party.{with_open, with_settled}
 use Rattle.fabric_laws.specs.declared.view.View.{View}
 use Rattle.fabric.specs.declared.hand.StartFault.{StartFault}
 use Rattle.fabric.specs.declared.hand.StartFault.TheVariants.{Busy, Contended, NoRoom, Worn, BadCount}
-use Rattle.fabric.specs.Hands.{OnRing}
+use Rattle.fabric.specs.Hands.{OnRing, rings_of}
 use Rattle.fabric.specs.Starts.{RefusesStart, Starts}
 use Rattle.fabric.specs.Views.{IsKept}
 use Rattle.capi.specs.Members.{Rings}
@@ -22,12 +24,27 @@ use Rattle.capi.specs.declared.rings.word64.Word64.{Word64}
 abbrev pub tags : Word64 → List ℕ
 tags word = []
 
+-- how many words a call moves at most: on a multi side as many as any ring holds, on a head/tail-sync side as many as
+-- its word counts
+abbrev pub limit_of : Mode → ℕ
+limit_of Multi = 1048575
+limit_of Hts = 4095
+
+abbrev pub limit_in : Option RingPlan → Side → ℕ
+limit_in None side = 0
+limit_in (Some plan) side = limit_of (mode_of plan side)
+
+-- the same of a side of a ring
+abbrev pub call_limit : Rings → ℕ → Side → ℕ
+call_limit f ring side = limit_in (slice_get (rings_of f) ring) side
+
 -- how many positions are reserved for n words: by bulk all, by burst at most as many
 abbrev pub IsAsked : How → ℕ → ℕ → Type 0
 IsAsked Bulk n count = count ≡ n
 IsAsked Burst n count = count ≤ n
 
-module _ (f : Rings) (how : How) (n ring : ℕ) (side : Side) (v : View Word64) where
+-- calls that move at most `most` words
+module _ (f : Rings) (most : ℕ) (how : How) (n ring : ℕ) (side : Side) (v : View Word64) where
   -- The hand reserved a span of the side; of a take with these words. `left` positions more are free, or queued
   pub record HasReserved (span : Span) (left : ℕ) (shown : List Word64) (w : View Word64) : Type 0 where
     pub started : OnRing f ring (λ plan. Starts tags how n ring side plan v span.start span.count left shown w)
@@ -35,12 +52,12 @@ module _ (f : Rings) (how : How) (n ring : ℕ) (side : Side) (v : View Word64) 
     pub party : w.party ≡ with_open v.party span
     pub some : 0 < span.count
     pub few : span.count ≤ n
-    pub most : n ≤ 4095
+    pub fits : n ≤ most
     pub asked : IsAsked how n span.count
 
   -- it reserved none, for this reason
   pub record WasRefused (why : StartFault) (w : View Word64) : Type 0 where
-    pub found : OnRing f ring (λ plan. RefusesStart tags 4095 how n ring side plan v w why)
+    pub found : OnRing f ring (λ plan. RefusesStart tags most how n ring side plan v w why)
     pub kept : IsKept v w
 
 -- the fault for a refused start

@@ -1,6 +1,8 @@
 -- A ring that was looked up once
-use Rattle.std.specs.Prelude.{◌≡◌, ℕ, Some, slice_get}
+use Rattle.std.specs.Prelude.{◌≡◌, ℕ, ◌<◌, Some, slice_get}
+use Rattle.geom.specs.Extent.{range_of}
 use Rattle.geom.specs.declared.plan.Mode.{Mode}
+use Rattle.geom.specs.declared.plan.Mode.TheVariants.{Hts}
 use Rattle.geom.specs.declared.plan.Side.{Side}
 use Rattle.geom.specs.Plan.{mode_of}
 use Rattle.fabric_laws.specs.Words.{slots_before}
@@ -17,3 +19,7 @@ place_mode p side = mode_of p.shape.plan side
 -- it says of the ring of its number what the fabric's plan does
 abbrev pub IsPlaceOf : {T : Type 0} {S : Type 0} {N : ℕ} → Fabric T N S → Place → Type 0
 IsPlaceOf f p = (slice_get (rings_of f) p.index ≡ Some p.shape.plan) × (p.shape.base ≡ slots_before (rings_of f) p.index)
+
+-- the word of a side, if it is head/tail-sync, has room for the count of as many positions
+abbrev pub HasCounts : Place → Side → ℕ → Type 0
+HasCounts p side most = place_mode p side ≡ Hts → most < range_of p.shape.plan.geometry

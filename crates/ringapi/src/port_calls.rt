@@ -55,11 +55,11 @@ impl<T: Tagged, const N: usize, S: Stored<T>> Port<T, N, S> {
     ) -> Result<Reserved, PortFault>
         ensures fabric { self.new.fabric ≡ self.old.fabric }
         ensures done { IfOk result (λ r. IsIdleOn self.old ring × (port_span self.new ≡ open_span.Idle)
-            × HasMoved T.numbers self.old.fabric.value how (length (I.items items.old)) ring (port_view self.old) Put r
+            × HasMoved T.numbers self.old.fabric.value N how (length (I.items items.old)) ring (port_view self.old) Put r
             [] (take r.range.count (I.items items.old)) (port_view self.new)
             × (I.items items.new ≡ I.after (I.items items.old) r.range.count)) }
         ensures refused { IfErr result (RefusesOn self.old ring self.new (I.items items.new ≡ I.items items.old)
-            (λ e. RefusesPut T.numbers self.old.fabric.value how (length (I.items items.old)) ring
+            (λ e. RefusesPut T.numbers self.old.fabric.value N how (length (I.items items.old)) ring
             (port_view self.old) (I.items items.old) (port_span self.new) (port_view self.new) e
             × (I.items items.new ≡ I.items items.old))) }
     {
@@ -90,10 +90,10 @@ impl<T: Word, const N: usize, S: Stored<T>> Port<T, N, S> {
         ensures done { IfOk result (λ r. IsIdleOn self.old ring × (port_span self.new ≡ open_span.Idle)
             × (into.new ≡ take r.range.count into.new ++ drop r.range.count into.old)
             × (length (take r.range.count into.new) ≡ r.range.count)
-            × HasMoved T.numbers self.old.fabric.value how (length into.old) ring (port_view self.old) Take r
+            × HasMoved T.numbers self.old.fabric.value N how (length into.old) ring (port_view self.old) Take r
             (take r.range.count into.new) (take r.range.count into.new) (port_view self.new)) }
         ensures refused { IfErr result (RefusesOn self.old ring self.new (into.new ≡ into.old)
-            (RefusesTake T.numbers self.old.fabric.value how (length into.old) ring (port_view self.old)
+            (RefusesTake T.numbers self.old.fabric.value N how (length into.old) ring (port_view self.old)
             into.old into.new (port_span self.new) (port_view self.new))) }
     {
         if ring >= self.fabric.rings() {

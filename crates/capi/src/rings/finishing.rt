@@ -1,8 +1,9 @@
 //! Finishing a span that a hand has open: after a call that returned `Pending`, or of a peek.
 ghost use Rattle.std.specs.Prelude.{◌≡◌, ◌≤◌, IfNone, IfSome, List, length, take};
+ghost use Rattle.geom.specs.declared.plan.Side.TheVariants as side;
 ghost use Rattle.geom.specs.declared.plan.Side.TheVariants.{Put, Take};
 ghost use Rattle.fabric.specs.Hands.{rings_of};
-ghost use Rattle.fabric.specs.Held.{span_at};
+ghost use Rattle.fabric.specs.Held.{IsHtsOf, span_at};
 ghost use Rattle.fabric.specs.InPlace.{IsPlacedOf, placed_view};
 ghost use Rattle.fabric.specs.Settles.{IsCount};
 ghost use Rattle.fabric.specs.declared.hand.in_place.OpenSpan.TheVariants as open_span;
@@ -12,7 +13,7 @@ ghost use Rattle.capi.specs.declared.rings.word64.Word64.{Word64 as Words};
 
 use crate::rings::fault::Fault;
 use crate::rings::member::{MOST, Rings, WordHand};
-use crate::rings::settling::{publish, withdraw};
+use crate::rings::settling::{publish, withdraw, withdraw_all};
 use crate::rings::word64::Word64;
 use fabric::Reserved;
 use geom::{Mode, Side};
@@ -65,7 +66,8 @@ pub(crate) fn finish_take(
     requires of { IsPlacedOf f.now hand.old }
     requires open { hand.old.span ≡ open_span.Take reserved }
     requires plain { ArePlain (rings_of f.now) }
-    requires shows { take reserved.range.count shown.now ≡ (placed_view hand.old).shown }
+    requires shows { IsHtsOf (placed_view hand.old).plans reserved.ring side.Take
+        → (reserved.range.count ≤ MOST) × (take reserved.range.count shown.now ≡ (placed_view hand.old).shown) }
     ensures of { IsPlacedOf f.now hand.new }
     ensures shows { AreShown hand.new shown.now }
     ensures finish { FinishesTake f.now (span_at Take reserved) (placed_view hand.old) n (placed_view hand.new) result }
@@ -75,8 +77,14 @@ pub(crate) fn finish_take(
     let Some(k) = settled_count(mode, n, count) else {
         return Err(Fault::Count);
     };
-    match withdraw(f, hand, reserved, k, &shown[..count]) {
-        Ok(()) => Ok(k as u32),
-        Err(why) => Err(why),
+    match mode {
+        Mode::Multi => match withdraw_all(f, hand, reserved) {
+            Ok(()) => Ok(k as u32),
+            Err(why) => Err(why),
+        },
+        Mode::Hts => match withdraw(f, hand, reserved, k, &shown[..count]) {
+            Ok(()) => Ok(k as u32),
+            Err(why) => Err(why),
+        },
     }
 }

@@ -10,8 +10,11 @@ use fabric::{Fabric, HandInPlace, Place};
 use ringapi::{Port, Spares};
 use std::sync::Arc;
 
-/// The largest number of words in one call.
+/// The largest number of words in a call on a head/tail-sync side, which its word has room to count.
 pub const MOST: usize = 4095;
+
+/// The same on a multi side: no ring holds more words.
+pub const MOST_ON_MULTI: usize = 1_048_575;
 
 /// Rings of words.
 pub(crate) type Rings = Fabric<Word64, 4095, Slot<Word64>>;
@@ -29,7 +32,7 @@ pub(crate) type WordSpares = Spares<Word64, 4095, Slot<Word64>>;
 #[derive(Drop)]
 pub struct Member {
     pub port: WordPort,
-    /// The words of an open take, from the front.
+    /// The words of an open take of a head/tail-sync side, from the front.
     pub shown: Box<[Word64; MOST]>,
     /// How many more positions were free, or words were queued, after the last call.
     pub left: u64,

@@ -68,3 +68,22 @@ pub(crate) fn withdraw(
         Err(_fault) => Err(Fault::Pending),
     }
 }
+
+/// Takes all words of the open span, which needn't be kept for that. Errors: as `withdraw`.
+#[inline(always)]
+pub(crate) fn withdraw_all(f: &Rings, hand: &mut WordHand, reserved: Reserved) -> Result<(), Fault>
+    requires of { IsPlacedOf f.now hand.old }
+    requires open { hand.old.span ≡ open_span.Take reserved }
+    requires plain { ArePlain (rings_of f.now) }
+    ensures of { IsPlacedOf f.now hand.new }
+    ensures done { IfOk result (λ _. (hand.new.span ≡ open_span.Idle)
+        × HasSettled (span_at Take reserved) (placed_view hand.old).shown (placed_view hand.old)
+        (placed_view hand.new)) }
+    ensures early { IfErr result (λ why. (why ≡ fault.Pending) × (hand.new.span ≡ hand.old.span)
+        × IsEarly f.now (span_at Take reserved) (placed_view hand.old) (placed_view hand.new)) }
+{
+    match hand.try_settle_all_taken(f, reserved) {
+        Ok(()) => Ok(()),
+        Err(_fault) => Err(Fault::Pending),
+    }
+}

@@ -1,11 +1,12 @@
 //! Starts of spans. Each is tried once.
 ghost use Rattle.std.specs.Prelude.{◌≡◌, ◌<◌, ◌≤◌, ◌++◌, [], drop, length, take, IfOk, IfErr};
+ghost use Rattle.geom.specs.declared.plan.Mode.TheVariants.{Hts};
 ghost use Rattle.geom.specs.declared.plan.Side.TheVariants.{Put, Take};
 ghost use Rattle.fabric.specs.Hands.{rings_of};
 ghost use Rattle.fabric.specs.Held.{span_at};
 ghost use Rattle.fabric.specs.InPlace.{IsPlacedOf, placed_view};
 ghost use Rattle.fabric.specs.declared.hand.in_place.OpenSpan.TheVariants as open_span;
-ghost use Rattle.capi.specs.Spans.{HasReserved, WasRefused, room_of, start_fault};
+ghost use Rattle.capi.specs.Spans.{HasReserved, WasRefused, limit_of, room_of, start_fault};
 
 use crate::rings::fault::Fault;
 use crate::rings::member::{MOST, Rings, WordHand};
@@ -58,10 +59,10 @@ pub(crate) fn start_put(
     requires idle { hand.old.span ≡ open_span.Idle }
     requires ring { ring < length (rings_of f.now) }
     ensures of { IsPlacedOf f.now hand.new }
-    ensures started { IfOk result (λ r. (hand.new.span ≡ open_span.Put r) × HasReserved f.now how n ring Put
+    ensures started { IfOk result (λ r. (hand.new.span ≡ open_span.Put r) × HasReserved f.now (limit_of Hts) how n ring Put
         (placed_view hand.old) (span_at Put r) r.range.left [] (placed_view hand.new)) }
     ensures refused { IfErr result (λ why. (hand.new.span ≡ open_span.Idle)
-        × WasRefused f.now how n ring Put (placed_view hand.old) why (placed_view hand.new)) }
+        × WasRefused f.now (limit_of Hts) how n ring Put (placed_view hand.old) why (placed_view hand.new)) }
 {
     match hand.try_start_put(f, ring, n, how) {
         Ok(reserved) => Ok(reserved),
@@ -83,12 +84,12 @@ pub(crate) fn start_take(
     requires ring { ring < length (rings_of f.now) }
     ensures of { IsPlacedOf f.now hand.new }
     ensures started { IfOk result (λ r. (hand.new.span ≡ open_span.Take r)
-        × HasReserved f.now how (length words.old) ring Take (placed_view hand.old) (span_at Take r) r.range.left
+        × HasReserved f.now (limit_of Hts) how (length words.old) ring Take (placed_view hand.old) (span_at Take r) r.range.left
         (placed_view hand.new).shown (placed_view hand.new)) }
     ensures copied { IfOk result (λ r. (length (placed_view hand.new).shown ≡ r.range.count)
         × (words.new ≡ (placed_view hand.new).shown ++ drop (length (placed_view hand.new).shown) words.old)) }
     ensures refused { IfErr result (λ why. (hand.new.span ≡ open_span.Idle) × (words.new ≡ words.old)
-        × WasRefused f.now how (length words.old) ring Take (placed_view hand.old) why (placed_view hand.new)) }
+        × WasRefused f.now (limit_of Hts) how (length words.old) ring Take (placed_view hand.old) why (placed_view hand.new)) }
 {
     match hand.try_start_take(f, ring, words.len(), how, words) {
         Ok(reserved) => Ok(reserved),

@@ -1,16 +1,18 @@
 //! Whole puts and takes of a member, each tried once.
-ghost use Rattle.std.specs.Prelude.{◌≡◌, [], ◌∷◌};
+ghost use Rattle.std.specs.Prelude.{◌≡◌, ◌<◌, ◌≤◌, ◌↔◌, ◌^◌, [], ◌∷◌, false, length};
 ghost use Rattle.geom.specs.declared.plan.How.TheVariants.{Bulk};
+ghost use Rattle.fabric.specs.Places.{HasCounts, IsPlaceOf, place_ring};
 ghost use Rattle.capi.specs.Calls.{how_of};
 ghost use Rattle.capi.specs.MemberCalls.{PutsWords, TakesWords};
+ghost use Rattle.capi.specs.Spans.{call_limit};
 
 use crate::rings::fault::Fault;
-use crate::rings::member::Member;
+use crate::rings::member::{MOST, MOST_ON_MULTI, Member, Rings};
 use crate::rings::reaching::try_reach;
-use crate::rings::starting::{fault_of, keep, room_in};
+use crate::rings::starting::{fault_of, room_in};
 use crate::rings::word64::Word64;
-use fabric::{OpenSpan, WholeFault, Words};
-use geom::How;
+use fabric::{OpenSpan, Place, WholeFault, Words};
+use geom::{How, Mode, Side};
 use std::slice::from_mut;
 
 /// By bulk or by burst.
@@ -20,10 +22,35 @@ pub fn how(bulk: bool) -> How
     if bulk { How::Bulk } else { How::Burst }
 }
 
-/// Puts the first of these words on a ring, as many as `how` says and there is room for. Errors: `Ring`, `Open`; those
-/// of a start; `Pending`, and the span stays open.
+/// The longest span for a call with `n` words on a side. `MOST` is right for all calls that have no more: for those
+/// that aren't `long` the mode isn't looked at.
 #[inline(always)]
-pub fn put_words(member: &mut Member, ring: usize, words: &[Word64], how: How) -> Result<u32, Fault>
+fn longest(_f: &Rings, place: &Place, side: Side, _n: usize, long: bool) -> usize
+    requires of { IsPlaceOf _f.now place.now }
+    requires short { long ≡ false → _n ≤ MOST }
+    ensures counts { HasCounts place.now side result }
+    ensures small { result < 2 ^ 20 }
+    ensures same { (_n ≤ result) ↔ (_n ≤ call_limit _f.now (place_ring place.now) side) }
+{
+    if !long {
+        return MOST;
+    }
+    match place.mode(side) {
+        Mode::Multi => MOST_ON_MULTI,
+        Mode::Hts => MOST,
+    }
+}
+
+/// `put_words` of at most `MOST` words, or of a `long` call.
+#[inline(always)]
+fn put_spans(
+    member: &mut Member,
+    ring: usize,
+    words: &[Word64],
+    how: How,
+    long: bool,
+) -> Result<u32, Fault>
+    requires short { long ≡ false → length words.now ≤ MOST }
     ensures { PutsWords ring how words.now member.old member.new result }
 {
     let port = &member.port;
@@ -35,9 +62,74 @@ pub fn put_words(member: &mut Member, ring: usize, words: &[Word64], how: How) -
         _ => return Err(Fault::Open),
     }
     let port = &mut member.port;
+    let most = longest(&port.fabric, &member.put_at, Side::Put, words.len(), long);
+    match port.hand.try_put_at(
+        &port.fabric,
+        &member.put_at,
+        &mut Words { words },
+        most,
+        how,
+    ) {
+        Ok(reserved) => {
+            member.left = reserved.left();
+            Ok(reserved.count() as u32)
+        }
+        Err(WholeFault::Start(why)) => {
+            member.left = room_in(why);
+            Err(fault_of(why))
+        }
+        Err(WholeFault::Settle(reserved, _fault)) => {
+            member.left = reserved.left();
+            Err(Fault::Pending)
+        }
+    }
+}
+
+/// A put of more than `MOST` words, apart from the usual ones: these take less time so.
+#[inline(never)]
+fn put_long(member: &mut Member, ring: usize, words: &[Word64], how: How) -> Result<u32, Fault>
+    ensures { PutsWords ring how words.now member.old member.new result }
+{
+    put_spans(member, ring, words, how, true)
+}
+
+/// Puts the first of these words on a ring, as many as `how` says and there is room for. Errors: `Ring`, `Open`; those
+/// of a start; `Pending`, and the span stays open.
+#[inline(always)]
+pub fn put_words(member: &mut Member, ring: usize, words: &[Word64], how: How) -> Result<u32, Fault>
+    ensures { PutsWords ring how words.now member.old member.new result }
+{
+    if words.len() > MOST {
+        return put_long(member, ring, words, how);
+    }
+    put_spans(member, ring, words, how, false)
+}
+
+/// `take_words` with at most `MOST` places, or of a `long` call.
+#[inline(always)]
+fn take_spans(
+    member: &mut Member,
+    ring: usize,
+    words: &mut [Word64],
+    how: How,
+    long: bool,
+) -> Result<u32, Fault>
+    requires short { long ≡ false → length words.old ≤ MOST }
+    ensures { TakesWords ring how words.old words.new member.old member.new result }
+{
+    let port = &member.port;
+    if !try_reach(&port.fabric, &mut member.take_at, ring) {
+        return Err(Fault::Ring);
+    }
+    match member.port.span() {
+        OpenSpan::Idle => (),
+        _ => return Err(Fault::Open),
+    }
+    let port = &mut member.port;
+    let most = longest(&port.fabric, &member.take_at, Side::Take, words.len(), long);
     match port
         .hand
-        .try_put_at(&port.fabric, &member.put_at, &mut Words { words }, how)
+        .try_take_at(&port.fabric, &member.take_at, words, most, how)
     {
         Ok(reserved) => {
             member.left = reserved.left();
@@ -54,8 +146,16 @@ pub fn put_words(member: &mut Member, ring: usize, words: &[Word64], how: How) -
     }
 }
 
+/// A take with more than `MOST` places.
+#[inline(never)]
+fn take_long(member: &mut Member, ring: usize, words: &mut [Word64], how: How) -> Result<u32, Fault>
+    ensures { TakesWords ring how words.old words.new member.old member.new result }
+{
+    take_spans(member, ring, words, how, true)
+}
+
 /// Takes words from a ring to the front of an array, as many as `how` says and are queued. Errors: `Ring`, `Open`;
-/// those of a start; `Pending`, and the span stays open: its words are at the front of the array, and of `shown`.
+/// those of a start; `Pending`, and the span stays open: its words are at the front of the array.
 #[inline(always)]
 pub fn take_words(
     member: &mut Member,
@@ -65,34 +165,10 @@ pub fn take_words(
 ) -> Result<u32, Fault>
     ensures { TakesWords ring how words.old words.new member.old member.new result }
 {
-    let port = &member.port;
-    if !try_reach(&port.fabric, &mut member.take_at, ring) {
-        return Err(Fault::Ring);
+    if words.len() > MOST {
+        return take_long(member, ring, words, how);
     }
-    match member.port.span() {
-        OpenSpan::Idle => (),
-        _ => return Err(Fault::Open),
-    }
-    let port = &mut member.port;
-    match port
-        .hand
-        .try_take_at(&port.fabric, &member.take_at, words, how)
-    {
-        Ok(reserved) => {
-            member.left = reserved.left();
-            Ok(reserved.count() as u32)
-        }
-        Err(WholeFault::Start(why)) => {
-            member.left = room_in(why);
-            Err(fault_of(why))
-        }
-        Err(WholeFault::Settle(reserved, _fault)) => {
-            let count = reserved.count();
-            keep(&mut member.shown, words, count);
-            member.left = reserved.left();
-            Err(Fault::Pending)
-        }
-    }
+    take_spans(member, ring, words, how, false)
 }
 
 /// Puts a word on a ring: `put_words` by bulk with it alone.

@@ -107,7 +107,7 @@ impl<T: Tagged, const N: usize, S: Stored<T>> HandInPlace<T, N, S> {
     {
         let range = match fabric
             .ring(ring)
-            .open_span(&mut self.share, Side::Take, n, how)
+            .open_span(&mut self.share, Side::Take, n, N, how)
         {
             Ok(range) => range,
             Err(fault) => return Err(fault),

@@ -61,7 +61,7 @@ impl<T: Tagged, const N: usize, S: Stored<T>> HandInPlace<T, N, S> {
     {
         let range = match fabric
             .ring(ring)
-            .open_span(&mut self.share, Side::Put, n, how)
+            .open_span(&mut self.share, Side::Put, n, N, how)
         {
             Ok(range) => range,
             Err(fault) => return Err(fault),
@@ -117,7 +117,7 @@ impl<T: Word, const N: usize, S: Stored<T>> HandInPlace<T, N, S> {
         };
         let range = match fabric
             .ring(ring)
-            .open_take(&mut self.share, n, how, &mut front)
+            .open_take(&mut self.share, n, N, how, &mut front)
         {
             Ok(range) => range,
             Err(fault) => return Err(fault),
@@ -205,6 +205,38 @@ impl<T: Tagged, const N: usize, S: Stored<T>> HandInPlace<T, N, S> {
     {
         let target = fabric.ring(reserved.ring);
         match target.settle_take(&mut self.share, reserved.range, k, items) {
+            Ok(()) => {
+                self.span = OpenSpan::Idle;
+                Ok(())
+            }
+            Err(fault) => Err(fault),
+        }
+    }
+
+    /// Tries once to take all words of the open span, which needn't be given again: `try_settle_take` with all of them.
+    /// Requires: they carry no buffer.
+    #[inline(always)]
+    pub fn try_settle_all_taken(
+        &mut self,
+        fabric: &Fabric<T, N, S>,
+        reserved: Reserved,
+    ) -> Result<(), SettleFault>
+        requires of { IsPlacedOf fabric.now self.old }
+        requires open { self.old.span ≡ open_span.Take reserved }
+        requires plain { flat_map T.numbers (placed_view self.old).shown ≡ [] }
+        ensures of { IsPlacedOf fabric.now self.new }
+        ensures done { IfOk result (λ _. (self.new.span ≡ open_span.Idle) × (placed_view self.new
+            ≡ settled (span_at Take reserved) (placed_view self.old).shown (placed_view self.old))) }
+        ensures refused { IfErr result (λ e. (self.new.span ≡ self.old.span)
+            × ((placed_view self.new).shown ≡ (placed_view self.old).shown) × OnRing fabric.now reserved.ring
+            (λ plan. RefusesSettle T.numbers plan.take plan reserved.range.count reserved.range.count
+            reserved.range.start [] (placed_view self.old) (placed_view self.new) e)) }
+        ensures kept { IfErr result (λ e. IsKept (placed_view self.old) (placed_view self.new)) }
+        ensures true_refusal { IfErr result
+            (λ e. IsTrueTooEarly T.numbers (span_at Take reserved) (placed_view self.old) e) }
+    {
+        let target = fabric.ring(reserved.ring);
+        match target.settle_all_taken(&mut self.share, reserved.range) {
             Ok(()) => {
                 self.span = OpenSpan::Idle;
                 Ok(())

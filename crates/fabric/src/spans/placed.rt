@@ -1,5 +1,5 @@
 //! Calls on a ring whose place is known, by a hand that stays where it is: nothing about the ring is looked up.
-ghost use Rattle.std.specs.Prelude.{◌≡◌, ◌<◌, ◌≤◌, ◌++◌, [], drop, length, take, IfOk, IfErr};
+ghost use Rattle.std.specs.Prelude.{◌≡◌, ◌<◌, ◌≤◌, ◌++◌, ◌^◌, [], drop, length, take, IfOk, IfErr};
 ghost use Rattle.std.specs.List.{flat_map};
 ghost use Rattle.burst.specs.Numbers.{AreDistinct};
 ghost use Rattle.geom.specs.declared.plan.Mode.TheVariants.{Hts};
@@ -9,7 +9,7 @@ ghost use Rattle.fabric.specs.Advances.{IsRestOf, RefusesAdvance};
 ghost use Rattle.fabric.specs.Hands.{OnRing};
 ghost use Rattle.fabric.specs.Held.{reserved_count, reserved_ring, span_at};
 ghost use Rattle.fabric.specs.InPlace.{IsPlacedOf, placed_view};
-ghost use Rattle.fabric.specs.Places.{IsPlaceOf, place_mode, place_ring};
+ghost use Rattle.fabric.specs.Places.{HasCounts, IsPlaceOf, place_mode, place_ring};
 ghost use Rattle.fabric.specs.Settles.{HoldsLess, HoldsMore};
 ghost use Rattle.fabric.specs.WholeCalls.{HasMoved, RefusesPut, RefusesTake};
 ghost use Rattle.fabric.specs.declared.hand.in_place.OpenSpan.TheVariants as open_span;
@@ -26,29 +26,33 @@ use burst::{Tagged, Word};
 use geom::{How, Side};
 
 impl<T: Tagged, const N: usize, S: Stored<T>> HandInPlace<T, N, S> {
-    /// `try_put` on the ring at this place.
+    /// `try_put` on the ring at this place, of at most `most` items, which may be more than `N` on a multi side.
+    /// Requires: it isn't more than any ring holds, and the word of a head/tail-sync side has room for as many.
     #[inline(always)]
     pub fn try_put_at<I: PutItems<T>>(
         &mut self,
         fabric: &Fabric<T, N, S>,
         place: &Place,
         items: &mut I,
+        most: usize,
         how: How,
     ) -> Result<Reserved, WholeFault>
         requires of { IsPlacedOf fabric.now self.old }
         requires idle { self.old.span ≡ open_span.Idle }
         requires place { IsPlaceOf fabric.now place.now }
+        requires counts { HasCounts place.now Put most }
+        requires small { most < 2 ^ 20 }
         ensures of { IsPlacedOf fabric.now self.new }
-        ensures done { IfOk result (λ r. (self.new.span ≡ open_span.Idle) × HasMoved T.numbers fabric.now how
+        ensures done { IfOk result (λ r. (self.new.span ≡ open_span.Idle) × HasMoved T.numbers fabric.now most how
             (length (I.items items.old)) (place_ring place.now) (placed_view self.old) Put r []
             (take r.range.count (I.items items.old)) (placed_view self.new)
             × (I.items items.new ≡ I.after (I.items items.old) r.range.count)) }
-        ensures refused { IfErr result (λ e. RefusesPut T.numbers fabric.now how (length (I.items items.old))
+        ensures refused { IfErr result (λ e. RefusesPut T.numbers fabric.now most how (length (I.items items.old))
             (place_ring place.now) (placed_view self.old) (I.items items.old) self.new.span (placed_view self.new) e
             × (I.items items.new ≡ I.items items.old)) }
     {
         let target = fabric.at(place);
-        let range = match target.open_span(&mut self.share, Side::Put, items.len(), how) {
+        let range = match target.open_span(&mut self.share, Side::Put, items.len(), most, how) {
             Ok(range) => range,
             Err(fault) => return Err(WholeFault::Start(fault)),
         };
@@ -150,25 +154,29 @@ impl<T: Tagged, const N: usize, S: Stored<T>> HandInPlace<T, N, S> {
 }
 
 impl<T: Word, const N: usize, S: Stored<T>> HandInPlace<T, N, S> {
-    /// `try_take` on the ring at this place.
+    /// `try_take` on the ring at this place, of at most `most` words, which may be more than `N` on a multi side.
+    /// Requires: it isn't more than any ring holds, and the word of a head/tail-sync side has room for as many.
     #[inline(always)]
     pub fn try_take_at(
         &mut self,
         fabric: &Fabric<T, N, S>,
         place: &Place,
         into: &mut [T],
+        most: usize,
         how: How,
     ) -> Result<Reserved, WholeFault>
         requires of { IsPlacedOf fabric.now self.old }
         requires idle { self.old.span ≡ open_span.Idle }
         requires place { IsPlaceOf fabric.now place.now }
+        requires counts { HasCounts place.now Take most }
+        requires small { most < 2 ^ 20 }
         ensures of { IsPlacedOf fabric.now self.new }
         ensures done { IfOk result (λ r. (self.new.span ≡ open_span.Idle)
             × (into.new ≡ take r.range.count into.new ++ drop r.range.count into.old)
             × (length (take r.range.count into.new) ≡ r.range.count)
-            × HasMoved T.numbers fabric.now how (length into.old) (place_ring place.now) (placed_view self.old) Take r
+            × HasMoved T.numbers fabric.now most how (length into.old) (place_ring place.now) (placed_view self.old) Take r
             (take r.range.count into.new) (take r.range.count into.new) (placed_view self.new)) }
-        ensures refused { IfErr result (λ e. RefusesTake T.numbers fabric.now how (length into.old)
+        ensures refused { IfErr result (λ e. RefusesTake T.numbers fabric.now most how (length into.old)
             (place_ring place.now) (placed_view self.old) into.old into.new self.new.span (placed_view self.new) e) }
     {
         let target = fabric.at(place);
@@ -177,7 +185,7 @@ impl<T: Word, const N: usize, S: Stored<T>> HandInPlace<T, N, S> {
             words: &mut *into,
             count: 0,
         };
-        let range = match target.open_take(&mut self.share, n, how, &mut front) {
+        let range = match target.open_take(&mut self.share, n, most, how, &mut front) {
             Ok(range) => range,
             Err(fault) => return Err(WholeFault::Start(fault)),
         };

@@ -33,15 +33,15 @@ impl<T: Tagged, const N: usize, S: Stored<T>> HandInPlace<T, N, S> {
         requires idle { self.old.span ≡ open_span.Idle }
         requires ring { ring < length (rings_of fabric.now) }
         ensures of { IsPlacedOf fabric.now self.new }
-        ensures done { IfOk result (λ r. (self.new.span ≡ open_span.Idle) × HasMoved T.numbers fabric.now how
+        ensures done { IfOk result (λ r. (self.new.span ≡ open_span.Idle) × HasMoved T.numbers fabric.now N how
             (length (I.items items.old)) ring (placed_view self.old) Put r [] (take r.range.count (I.items items.old))
             (placed_view self.new) × (I.items items.new ≡ I.after (I.items items.old) r.range.count)) }
-        ensures refused { IfErr result (λ e. RefusesPut T.numbers fabric.now how (length (I.items items.old)) ring
+        ensures refused { IfErr result (λ e. RefusesPut T.numbers fabric.now N how (length (I.items items.old)) ring
             (placed_view self.old) (I.items items.old) self.new.span (placed_view self.new) e
             × (I.items items.new ≡ I.items items.old)) }
     {
         let target = fabric.ring(ring);
-        let range = match target.open_span(&mut self.share, Side::Put, items.len(), how) {
+        let range = match target.open_span(&mut self.share, Side::Put, items.len(), N, how) {
             Ok(range) => range,
             Err(fault) => return Err(WholeFault::Start(fault)),
         };
@@ -77,9 +77,9 @@ impl<T: Word, const N: usize, S: Stored<T>> HandInPlace<T, N, S> {
         ensures done { IfOk result (λ r. (self.new.span ≡ open_span.Idle)
             × (into.new ≡ take r.range.count into.new ++ drop r.range.count into.old)
             × (length (take r.range.count into.new) ≡ r.range.count)
-            × HasMoved T.numbers fabric.now how (length into.old) ring (placed_view self.old) Take r
+            × HasMoved T.numbers fabric.now N how (length into.old) ring (placed_view self.old) Take r
             (take r.range.count into.new) (take r.range.count into.new) (placed_view self.new)) }
-        ensures refused { IfErr result (λ e. RefusesTake T.numbers fabric.now how (length into.old) ring
+        ensures refused { IfErr result (λ e. RefusesTake T.numbers fabric.now N how (length into.old) ring
             (placed_view self.old) into.old into.new self.new.span (placed_view self.new) e) }
     {
         let target = fabric.ring(ring);
@@ -88,7 +88,7 @@ impl<T: Word, const N: usize, S: Stored<T>> HandInPlace<T, N, S> {
             words: &mut *into,
             count: 0,
         };
-        let range = match target.open_take(&mut self.share, n, how, &mut front) {
+        let range = match target.open_take(&mut self.share, n, N, how, &mut front) {
             Ok(range) => range,
             Err(fault) => return Err(WholeFault::Start(fault)),
         };

@@ -19,13 +19,13 @@ returns-in-Ok c =
     let found = c.in-Ok.ensures in
     let same : f ≡ c.args.member.now.port.fabric.value = search rules in
     let there : c.args.ring < length (rings_of f) = search rules in
-    let reserved : HasReserved f c.args.how c.args.n c.args.ring Take v (span_at Take r) r.range.left w.shown w =
-    reserved_of f c.args.how c.args.n c.args.ring Take v (span_at Take r) r.range.left w.shown w there found.started.1 refl found.started.2
+    let reserved : HasReserved f 4095 c.args.how c.args.n c.args.ring Take v (span_at Take r) r.range.left w.shown w =
+    reserved_of f 4095 c.args.how c.args.n c.args.ring Take v (span_at Take r) r.range.left w.shown w there found.started.1 refl found.started.2
     (λ plan at. (found.asked plan at).0) found.opened in
     let held : IsHeldNow f c.args.how c.args.n c.args.ring v c.count.result c.left-member.result h.span w = record {
       r = r;
       held = found.started.0;
-      reserved = subst (λ (left : ℕ). HasReserved f c.args.how c.args.n c.args.ring Take v (span_at Take r) left w.shown w) (sym c.left-member.ensures) reserved;
+      reserved = subst (λ (left : ℕ). HasReserved f 4095 c.args.how c.args.n c.args.ring Take v (span_at Take r) left w.shown w) (sym c.left-member.ensures) reserved;
       many = search rules;
       shown = search rules;
     } in

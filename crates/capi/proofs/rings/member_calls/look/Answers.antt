@@ -1,4 +1,5 @@
-use Rattle.std.proofs.Common.{◌≡◌, ◌<◌, Ok, inr, length, refl, rules, subst}
+use Rattle.std.proofs.Common.{◌≡◌, ◌<◌, Ok, ap, inr, length, refl, rules, subst, sym, ◌∙◌}
+use Rattle.std.specs.Prelude.{slice_get}
 use Rattle.fabric.specs.Hands.{rings_of}
 use Rattle.fabric.specs.InPlace.{placed_view}
 use Rattle.capi.specs.Counts.{Looks}
@@ -16,4 +17,21 @@ returns c =
       record { fabric = refl; span = c.look_at.ensures.span; shown = refl; left = refl },
       subst (λ (f : Rings). Looks tags f c.args.ring c.args.side (placed_view m.port.hand) (placed_view c.look_at.new.hand) (Ok c.look_at.result)) same
           c.look_at.ensures.found,
+    )
+
+pub invariant_of-member-2 : goal.invariant_of-member-2
+invariant_of-member-2 c =
+    let m = c.args.member.now in
+    let view = c.look_at.ensures.found.0 in (
+      search rules,
+      (
+        m.plain,
+        (
+          λ r is hts.
+              let span = sym c.look_at.ensures.span ∙ is in
+              let shown = m.shows r span (λ plan at. hts plan (ap (λ w. slice_get w.plans r.ring) view ∙ at)) in
+              (shown.0, shown.1 ∙ ap (λ w. w.shown) (sym view)),
+          (m.puts, (m.takes, (m.spare, search))),
+        ),
+      ),
     )

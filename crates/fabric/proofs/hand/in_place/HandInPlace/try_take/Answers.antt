@@ -1,4 +1,4 @@
-use Rattle.std.proofs.Common.{◌≡◌, ◌<◌, None, Some, ap, length, refl, replicate, slice_get, subst, sym, ◌∙◌}
+use Rattle.std.proofs.Common.{arith, ◌≡◌, ◌<◌, None, Some, ap, length, refl, replicate, slice_get, subst, sym, ◌∙◌}
 use Rattle.geom.specs.declared.plan.Side.TheVariants.{Take}
 use Rattle.fabric_laws.specs.Kinds.{run}
 use Rattle.fabric_laws.specs.Words.{slot_at}
@@ -32,8 +32,12 @@ invariant_of-self-in-Err-settle_take g c =
                 ∙ (λ i. run (slot_at (sym plans i) (of.index i) (plan_of r c.args.fabric.now c.args.ring of.of of.index plan (ap (λ ps. slice_get ps c.args.ring) (sym known) ∙ at) i))
                 range.start (replicate range.count None)));
             many = λ _. ap length e.shown ∙ h.full refl;
-            fits = h.fits;
+            fits = λ more. omega (arith, more, h.fits);
           };
       held = λ q is. absurd (let u : open_span.Take here ≡ open_span.Held q = is in cc);
       hts = λ q is. absurd (let u : open_span.Take here ≡ open_span.Held q = is in cc);
     }
+
+pub open_take-requires : goal.open_take-requires
+open_take-requires g c =
+    (omega (arith), (search, (c.args.self.now.idle c.requires.idle, (c.ring-target.result.counts Take, (λ m few most. few, refl)))))

@@ -1,5 +1,9 @@
-use Rattle.std.proofs.Common.{◌≡◌, ◌<◌, None, Some, ap, length, refl, replicate, slice_get, subst, sym, ◌∙◌}
+use Rattle.std.proofs.Common.{arith, ◌≡◌, ◌<◌, None, Some, ap, length, refl, replicate, slice_get, subst, sym, ◌∙◌}
 use Rattle.std.proofs.lemmas.Option.{slice_get_within}
+use Rattle.geom.specs.Extent.{range_of}
+use Rattle.geom.specs.Plan.{mode_of}
+use Rattle.geom.specs.declared.plan.Mode.TheVariants.{Hts}
+use Rattle.fabric.specs.declared.plan.Shape.{Shape}
 use Rattle.geom.specs.declared.plan.Side.TheVariants.{Take}
 use Rattle.fabric_laws.specs.Kinds.{run}
 use Rattle.fabric_laws.specs.Words.{slot_at}
@@ -35,8 +39,13 @@ invariant_of-self-in-Err-settle_take g c =
                 ∙ (λ i. run (slot_at (sym plans i) (of.index i) (plan_of r c.args.fabric.now ring of.of of.index plan (ap (λ ps. slice_get ps ring) (sym known) ∙ at) i))
                 range.start (replicate range.count None)));
             many = λ _. ap length e.shown ∙ h.full refl;
-            fits = h.fits;
+            fits = λ more. omega (arith, h.fits, c.requires.small);
           };
       held = λ q is. absurd (let u : open_span.Take here ≡ open_span.Held q = is in cc);
       hts = λ q is. absurd (let u : open_span.Take here ≡ open_span.Held q = is in cc);
     }
+
+pub open_take-requires : goal.open_take-requires
+open_take-requires g c =
+    let counts = subst (λ (z : Shape). mode_of z.plan Take ≡ Hts → c.args.most < range_of z.plan.geometry) (sym c.at-target.ensures.shape) c.requires.counts in
+    (omega (arith), (search, (c.args.self.now.idle c.requires.idle, (counts, (λ m few most. few, refl)))))

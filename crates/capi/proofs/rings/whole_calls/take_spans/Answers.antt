@@ -1,4 +1,4 @@
-use Rattle.std.proofs.Common.{[], ◌≡◌, ◌<◌, ◌++◌, ℕ, ap, drop, length, refl, rules, subst, sym, take, ◌∙◌}
+use Rattle.std.proofs.Common.{[], ◌≡◌, ◌<◌, ◌≤◌, ◌++◌, ℕ, ap, drop, length, refl, rules, subst, sym, take, ◌∙◌}
 use Rattle.geom.specs.declared.plan.Side.TheVariants.{Take}
 use Rattle.fabric.specs.Hands.{rings_of}
 use Rattle.fabric.specs.InPlace.{placed_view}
@@ -7,10 +7,10 @@ use Rattle.fabric.specs.declared.hand.in_place.OpenSpan.TheVariants as open_span
 use Rattle.fabric.specs.declared.hand.in_place.WholeFault.{WholeFault}
 use Rattle.capi.specs.Calls.{Moves, Waits}
 use Rattle.capi.specs.Members.{Rings}
-use Rattle.capi.specs.Spans.{tags}
+use Rattle.capi.specs.Spans.{call_limit, tags}
 use Rattle.capi.proofs.Settled.{all_fit, moved_of, waits_of}
 use Rattle.capi.proofs.Waiting.{take_waits}
-use Rattle.capi.proofs.rings.whole_calls.take_words.Goals as goal
+use Rattle.capi.proofs.rings.whole_calls.take_spans.Goals as goal
 
 pub returns-in-Ok : goal.returns-in-Ok
 returns-in-Ok c =
@@ -20,20 +20,22 @@ returns-in-Ok c =
     let n = length before in
     let v = placed_view m.port.hand in
     let w = placed_view c.try_take_at.new.self in
+    let most = c.longest-most.result in
     let r = c.in-Ok.reserved in
     let done = c.in-Ok.ensures.done in
     let shown = take r.range.count c.try_take_at.new.into in
-    let same : c.deref-2.result.now ≡ f = search rules in
+    let same : c.deref-3.result.now ≡ f = search rules in
     let reached = c.try_reach.ensures.there c.if-not-try_reach.false in
     let there : c.args.ring < length (rings_of f) = search rules in
+    let to : n ≤ most → n ≤ call_limit f c.args.ring Take = search (rules, same, reached) in
     let long : length shown ≡ c.count.result = done.2 ∙ sym c.count.ensures in
     let copied : c.try_take_at.new.into ≡ shown ++ drop c.count.result before = done.1 ∙ ap (λ k. shown ++ drop k before) (sym c.count.ensures) in
-    let whole : HasMoved tags f c.args.how n c.args.ring v Take r shown shown w =
-    subst (λ (z : Rings × ℕ). HasMoved tags z.0 c.args.how n z.1 v Take r shown shown w) (λ i. (same i, reached.0 i)) done.3 in
-    let moved : Moves f c.args.how n c.args.ring Take v c.count.result c.left-member.result shown shown w =
-    subst (λ (z : ℕ × ℕ). Moves f c.args.how n c.args.ring Take v z.0 z.1 shown shown w)
+    let whole : HasMoved tags f most c.args.how n c.args.ring v Take r shown shown w =
+    subst (λ (z : Rings × ℕ). HasMoved tags z.0 most c.args.how n z.1 v Take r shown shown w) (λ i. (same i, reached.0 i)) done.3 in
+    let moved : Moves f (call_limit f c.args.ring Take) c.args.how n c.args.ring Take v c.count.result c.left-member.result shown shown w =
+    subst (λ (z : ℕ × ℕ). Moves f (call_limit f c.args.ring Take) c.args.how n c.args.ring Take v z.0 z.1 shown shown w)
     (λ i. (sym c.count.ensures i, sym c.left-member.ensures i))
-    (moved_of f c.args.how n c.args.ring v Take r there shown shown w whole) in
+    (moved_of f most c.args.how n c.args.ring v Take r there to shown shown w whole) in
     search (rules, there, long, copied, moved)
 
 pub returns-in-Err-Settle : goal.returns-in-Err-Settle
@@ -46,19 +48,21 @@ returns-in-Err-Settle c =
     let h = c.try_take_at.new.self in
     let after = c.try_take_at.new.into in
     let w = placed_view h in
+    let most = c.longest-most.result in
     let r = c.in-Err-Settle.reserved in
-    let same : c.deref-2.result.now ≡ f = search rules in
+    let same : c.deref-3.result.now ≡ f = search rules in
     let reached = c.try_reach.ensures.there c.if-not-try_reach.false in
     let there : c.args.ring < length (rings_of f) = search rules in
-    let found = subst (λ (e : WholeFault). RefusesTake tags c.deref-2.result.now c.args.how n c.try_reach.new.at.index v before after h.span w e)
+    let to : n ≤ most → n ≤ call_limit f c.args.ring Take = search (rules, same, reached) in
+    let found = subst (λ (e : WholeFault). RefusesTake tags c.deref-3.result.now most c.args.how n c.try_reach.new.at.index v before after h.span w e)
     c.in-Err-Settle.field-0-is c.in-Err-Settle.ensures.refused in
     let copied = found.3 in
-    let open_still : StaysOpen tags f c.args.how n c.args.ring v Take r r.range.count found.1 [] w c.in-Err-Settle._fault =
-    subst (λ (z : Rings × ℕ). StaysOpen tags z.0 c.args.how n z.1 v Take r r.range.count found.1 [] w c.in-Err-Settle._fault)
+    let open_still : StaysOpen tags f most c.args.how n c.args.ring v Take r r.range.count found.1 [] w c.in-Err-Settle._fault =
+    subst (λ (z : Rings × ℕ). StaysOpen tags z.0 most c.args.how n z.1 v Take r r.range.count found.1 [] w c.in-Err-Settle._fault)
     (λ i. (same i, reached.0 i)) found.4 in
-    let waits : Waits f c.args.how n c.args.ring Take v c.left-member-in-Err-Settle.result found.1 w =
-    subst (λ (left : ℕ). Waits f c.args.how n c.args.ring Take v left found.1 w) (sym c.left-member-in-Err-Settle.ensures)
-    (waits_of f c.args.how n c.args.ring v Take r there r.range.count found.1 [] w c.in-Err-Settle._fault
+    let waits : Waits f (call_limit f c.args.ring Take) c.args.how n c.args.ring Take v c.left-member-in-Err-Settle.result found.1 w =
+    subst (λ (left : ℕ). Waits f (call_limit f c.args.ring Take) c.args.how n c.args.ring Take v left found.1 w) (sym c.left-member-in-Err-Settle.ensures)
+    (waits_of f most c.args.how n c.args.ring v Take r there to r.range.count found.1 [] w c.in-Err-Settle._fault
     m.plain (λ mode. all_fit mode r.range.count r.range.count refl) open_still) in
     let idle : m.port.hand.span ≡ open_span.Idle = search rules in
     take_waits c.args.ring c.args.how before _ found.1 m _ there idle refl copied waits
