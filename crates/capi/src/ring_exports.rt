@@ -1,5 +1,5 @@
 //! The exports for puts, takes and looks at rings.
-ghost use Rattle.std.specs.Prelude.{[], ◌∷◌};
+ghost use Rattle.std.specs.Prelude.{◌≡◌, ◌≤◌, [], ◌∷◌, false, length};
 ghost use Rattle.geom.specs.declared.plan.How.TheVariants.{Bulk};
 ghost use Rattle.capi.specs.Calls.{how_of, word_of};
 ghost use Rattle.capi.specs.Codes.{Answers};
@@ -11,9 +11,26 @@ use crate::handle::Handle;
 use crate::keeping::{borrow, with_object};
 use crate::object::Object;
 use crate::rings::{
-    Fault, Word64, answer, how, look, put_word, put_words, side_of, take_word, take_words,
+    Fault, MOST, Word64, answer, how, look, put_word, put_words, side_of, take_word, take_words,
 };
 use std::alloc::Global;
+
+/// Puts at most `MOST` words, or those of a `long` call.
+#[inline(always)]
+fn put(alloc: Global, h: &mut Handle, ring: usize, words: &[Word64], bulk: bool, long: bool) -> i64
+    requires short { long ≡ false → length words.now ≤ MOST }
+    ensures { Answers result (AtHand h.old.value h.new.value (PutsWords ring (how_of bulk) words.now)) }
+{
+    with_object!(alloc, h, Hand(member) => put_words(member, ring, words, how(bulk), long))
+}
+
+/// A long put, apart from the usual ones, which then save fewer registers.
+#[inline(never)]
+fn put_long(alloc: Global, h: &mut Handle, ring: usize, words: &[Word64], bulk: bool) -> i64
+    ensures { Answers result (AtHand h.old.value h.new.value (PutsWords ring (how_of bulk) words.now)) }
+{
+    put(alloc, h, ring, words, bulk, true)
+}
 
 /// Puts words on a ring.
 #[unsafe(no_mangle)]
@@ -26,7 +43,36 @@ pub extern "C" fn hkx_ring_put(
 ) -> i64
     ensures { Answers result (AtHand h.old.value h.new.value (PutsWords ring (how_of bulk) words.now)) }
 {
-    with_object!(alloc, h, Hand(member) => put_words(member, ring, words, how(bulk)))
+    if words.len() > MOST {
+        return put_long(alloc, h, ring, words, bulk);
+    }
+    put(alloc, h, ring, words, bulk, false)
+}
+
+/// Takes words to an array of at most `MOST` places, or by a `long` call.
+#[inline(always)]
+fn take(
+    alloc: Global,
+    h: &mut Handle,
+    ring: usize,
+    words: &mut [Word64],
+    bulk: bool,
+    long: bool,
+) -> i64
+    requires short { long ≡ false → length words.old ≤ MOST }
+    ensures { Answers result
+        (AtHand h.old.value h.new.value (TakesWords ring (how_of bulk) words.old words.new)) }
+{
+    with_object!(alloc, h, Hand(member) => take_words(member, ring, words, how(bulk), long))
+}
+
+/// A long take, apart from the usual ones.
+#[inline(never)]
+fn take_long(alloc: Global, h: &mut Handle, ring: usize, words: &mut [Word64], bulk: bool) -> i64
+    ensures { Answers result
+        (AtHand h.old.value h.new.value (TakesWords ring (how_of bulk) words.old words.new)) }
+{
+    take(alloc, h, ring, words, bulk, true)
 }
 
 /// Takes words from a ring to the front of an array.
@@ -41,7 +87,10 @@ pub extern "C" fn hkx_ring_take(
     ensures { Answers result
         (AtHand h.old.value h.new.value (TakesWords ring (how_of bulk) words.old words.new)) }
 {
-    with_object!(alloc, h, Hand(member) => take_words(member, ring, words, how(bulk)))
+    if words.len() > MOST {
+        return take_long(alloc, h, ring, words, bulk);
+    }
+    take(alloc, h, ring, words, bulk, false)
 }
 
 /// How many words are queued on a ring, or how many more there is room for, with a span open or without.

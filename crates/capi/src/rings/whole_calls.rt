@@ -41,9 +41,10 @@ fn longest(_f: &Rings, place: &Place, side: Side, _n: usize, long: bool) -> usiz
     }
 }
 
-/// `put_words` of at most `MOST` words, or of a `long` call.
+/// Puts the first of these words on a ring, as many as `how` says and there is room for. Requires: there are at most
+/// `MOST`, or the call is `long`. Errors: `Ring`, `Open`; those of a start; `Pending`, and the span stays open.
 #[inline(always)]
-fn put_spans(
+pub fn put_words(
     member: &mut Member,
     ring: usize,
     words: &[Word64],
@@ -85,29 +86,11 @@ fn put_spans(
     }
 }
 
-/// A put of more than `MOST` words, apart from the usual ones: these take less time so.
-#[inline(never)]
-fn put_long(member: &mut Member, ring: usize, words: &[Word64], how: How) -> Result<u32, Fault>
-    ensures { PutsWords ring how words.now member.old member.new result }
-{
-    put_spans(member, ring, words, how, true)
-}
-
-/// Puts the first of these words on a ring, as many as `how` says and there is room for. Errors: `Ring`, `Open`; those
-/// of a start; `Pending`, and the span stays open.
+/// Takes words from a ring to the front of an array, as many as `how` says and are queued. Requires: it has at most
+/// `MOST` places, or the call is `long`. Errors: `Ring`, `Open`; those of a start; `Pending`, and the span stays open:
+/// its words are at the front of the array.
 #[inline(always)]
-pub fn put_words(member: &mut Member, ring: usize, words: &[Word64], how: How) -> Result<u32, Fault>
-    ensures { PutsWords ring how words.now member.old member.new result }
-{
-    if words.len() > MOST {
-        return put_long(member, ring, words, how);
-    }
-    put_spans(member, ring, words, how, false)
-}
-
-/// `take_words` with at most `MOST` places, or of a `long` call.
-#[inline(always)]
-fn take_spans(
+pub fn take_words(
     member: &mut Member,
     ring: usize,
     words: &mut [Word64],
@@ -146,37 +129,12 @@ fn take_spans(
     }
 }
 
-/// A take with more than `MOST` places.
-#[inline(never)]
-fn take_long(member: &mut Member, ring: usize, words: &mut [Word64], how: How) -> Result<u32, Fault>
-    ensures { TakesWords ring how words.old words.new member.old member.new result }
-{
-    take_spans(member, ring, words, how, true)
-}
-
-/// Takes words from a ring to the front of an array, as many as `how` says and are queued. Errors: `Ring`, `Open`;
-/// those of a start; `Pending`, and the span stays open: its words are at the front of the array.
-#[inline(always)]
-pub fn take_words(
-    member: &mut Member,
-    ring: usize,
-    words: &mut [Word64],
-    how: How,
-) -> Result<u32, Fault>
-    ensures { TakesWords ring how words.old words.new member.old member.new result }
-{
-    if words.len() > MOST {
-        return take_long(member, ring, words, how);
-    }
-    take_spans(member, ring, words, how, false)
-}
-
 /// Puts a word on a ring: `put_words` by bulk with it alone.
 #[inline(always)]
 pub fn put_word(member: &mut Member, ring: usize, word: Word64) -> Result<u32, Fault>
     ensures { PutsWords ring Bulk (word ∷ []) member.old member.new result }
 {
-    put_words(member, ring, &[word], How::Bulk)
+    put_words(member, ring, &[word], How::Bulk, false)
 }
 
 /// Takes a word from a ring: `take_words` by bulk with one place.
@@ -184,5 +142,5 @@ pub fn put_word(member: &mut Member, ring: usize, word: Word64) -> Result<u32, F
 pub fn take_word(member: &mut Member, ring: usize, word: &mut Word64) -> Result<u32, Fault>
     ensures { TakesWords ring Bulk (word.old ∷ []) (word.new ∷ []) member.old member.new result }
 {
-    take_words(member, ring, from_mut(word), How::Bulk)
+    take_words(member, ring, from_mut(word), How::Bulk, false)
 }

@@ -10,7 +10,7 @@ use Rattle.capi.specs.Members.{Rings}
 use Rattle.capi.specs.Spans.{call_limit, tags}
 use Rattle.capi.proofs.Settled.{all_fit, moved_of, waits_of}
 use Rattle.capi.proofs.Waiting.{take_waits}
-use Rattle.capi.proofs.rings.whole_calls.take_spans.Goals as goal
+use Rattle.capi.proofs.rings.whole_calls.take_words.Goals as goal
 
 pub returns-in-Ok : goal.returns-in-Ok
 returns-in-Ok c =

@@ -10,7 +10,7 @@ use Rattle.capi.specs.Members.{Rings}
 use Rattle.capi.specs.Spans.{call_limit, tags}
 use Rattle.capi.proofs.Limits.{limit_small}
 use Rattle.capi.proofs.Settled.{all_fit, few_in, moved_of, waits_of}
-use Rattle.capi.proofs.rings.whole_calls.put_spans.Goals as goal
+use Rattle.capi.proofs.rings.whole_calls.put_words.Goals as goal
 
 pub overflow_cast-result : goal.overflow_cast-result
 overflow_cast-result c =
