@@ -20,6 +20,8 @@ HANDLES = {
 }
 TYPE = {name: kind for kind, names in HANDLES.items() for name in names}
 GROUPS = {"hands": HANDLES["hk_hand *"], "tables": HANDLES["hk_routes *"]}
+# The calls that move more words on a multi side.
+ON_MULTI = re.compile(r"hk_ring_(try_(put|take)_(bulk|burst)|finish_put)")
 # The counts of calls that forward, and the values that the table has to have of each.
 OF_FORWARD = {
     "port": {"PORTS", "SIZE_MAX"},
@@ -118,6 +120,8 @@ def most(name):
         return "HK_MOST_RINGS"
     if name.endswith("_lookup_bulk"):
         return "SIZE_MAX / 8"
+    if ON_MULTI.fullmatch(name):
+        return "HK_MOST_ON_MULTI"
     limits = {"pool": "HK_POOL_MOST", "forward": "HK_FORWARD_MOST"}
     return limits.get(name.split("_")[1], "HK_MOST")
 
