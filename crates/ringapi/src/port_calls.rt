@@ -55,8 +55,8 @@ impl<T: Tagged, const N: usize, S: Stored<T>> Port<T, N, S> {
     ) -> Result<Reserved, PortFault>
         ensures fabric { self.new.fabric ≡ self.old.fabric }
         ensures done { IfOk result (λ r. IsIdleOn self.old ring × (port_span self.new ≡ open_span.Idle)
-            × HasMoved T.numbers self.old.fabric.value N how (length (I.items items.old)) ring (port_view self.old) Put r
-            [] (take r.range.count (I.items items.old)) (port_view self.new)
+            × HasMoved T.numbers self.old.fabric.value N how (length (I.items items.old)) ring (port_view self.old) Put
+            r [] (take r.range.count (I.items items.old)) (port_view self.new)
             × (I.items items.new ≡ I.after (I.items items.old) r.range.count)) }
         ensures refused { IfErr result (RefusesOn self.old ring self.new (I.items items.new ≡ I.items items.old)
             (λ e. RefusesPut T.numbers self.old.fabric.value N how (length (I.items items.old)) ring

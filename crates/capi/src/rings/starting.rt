@@ -59,8 +59,8 @@ pub(crate) fn start_put(
     requires idle { hand.old.span ≡ open_span.Idle }
     requires ring { ring < length (rings_of f.now) }
     ensures of { IsPlacedOf f.now hand.new }
-    ensures started { IfOk result (λ r. (hand.new.span ≡ open_span.Put r) × HasReserved f.now (limit_of Hts) how n ring Put
-        (placed_view hand.old) (span_at Put r) r.range.left [] (placed_view hand.new)) }
+    ensures started { IfOk result (λ r. (hand.new.span ≡ open_span.Put r) × HasReserved f.now (limit_of Hts) how n ring
+        Put (placed_view hand.old) (span_at Put r) r.range.left [] (placed_view hand.new)) }
     ensures refused { IfErr result (λ why. (hand.new.span ≡ open_span.Idle)
         × WasRefused f.now (limit_of Hts) how n ring Put (placed_view hand.old) why (placed_view hand.new)) }
 {
@@ -84,12 +84,13 @@ pub(crate) fn start_take(
     requires ring { ring < length (rings_of f.now) }
     ensures of { IsPlacedOf f.now hand.new }
     ensures started { IfOk result (λ r. (hand.new.span ≡ open_span.Take r)
-        × HasReserved f.now (limit_of Hts) how (length words.old) ring Take (placed_view hand.old) (span_at Take r) r.range.left
-        (placed_view hand.new).shown (placed_view hand.new)) }
+        × HasReserved f.now (limit_of Hts) how (length words.old) ring Take (placed_view hand.old) (span_at Take r)
+        r.range.left (placed_view hand.new).shown (placed_view hand.new)) }
     ensures copied { IfOk result (λ r. (length (placed_view hand.new).shown ≡ r.range.count)
         × (words.new ≡ (placed_view hand.new).shown ++ drop (length (placed_view hand.new).shown) words.old)) }
     ensures refused { IfErr result (λ why. (hand.new.span ≡ open_span.Idle) × (words.new ≡ words.old)
-        × WasRefused f.now (limit_of Hts) how (length words.old) ring Take (placed_view hand.old) why (placed_view hand.new)) }
+        × WasRefused f.now (limit_of Hts) how (length words.old) ring Take (placed_view hand.old) why
+        (placed_view hand.new)) }
 {
     match hand.try_start_take(f, ring, words.len(), how, words) {
         Ok(reserved) => Ok(reserved),

@@ -174,8 +174,8 @@ impl<T: Word, const N: usize, S: Stored<T>> HandInPlace<T, N, S> {
         ensures done { IfOk result (λ r. (self.new.span ≡ open_span.Idle)
             × (into.new ≡ take r.range.count into.new ++ drop r.range.count into.old)
             × (length (take r.range.count into.new) ≡ r.range.count)
-            × HasMoved T.numbers fabric.now most how (length into.old) (place_ring place.now) (placed_view self.old) Take r
-            (take r.range.count into.new) (take r.range.count into.new) (placed_view self.new)) }
+            × HasMoved T.numbers fabric.now most how (length into.old) (place_ring place.now) (placed_view self.old)
+            Take r (take r.range.count into.new) (take r.range.count into.new) (placed_view self.new)) }
         ensures refused { IfErr result (λ e. RefusesTake T.numbers fabric.now most how (length into.old)
             (place_ring place.now) (placed_view self.old) into.old into.new self.new.span (placed_view self.new) e) }
     {

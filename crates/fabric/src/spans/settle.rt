@@ -46,7 +46,7 @@ impl<T: Tagged, const N: usize, S: Stored<T>> Ring<'_, T, N, S> {
     /// Settles the first `k` positions of the open span of a side, in one step on a word. If an earlier span of a multi
     /// side isn't settled, nothing is done, and the tail found is returned.
     #[inline(always)]
-    fn commit(
+    pub(crate) fn commit(
         &self,
         seat: &mut Seat<Cell<T, S>, View<T>>,
         side: Side,
@@ -371,37 +371,6 @@ impl<T: Tagged, const N: usize, S: Stored<T>> Ring<'_, T, N, S> {
                 items.own(k, &mut share.owned);
                 Ok(())
             }
-            Some(tail) => Err(SettleFault::NotYet(tail)),
-        }
-    }
-
-    /// Takes all items of a take span, which aren't given again. If an earlier span of a multi side isn't settled,
-    /// nothing is done. Requires: the items carry no buffer.
-    #[inline(always)]
-    pub(crate) fn settle_all_taken(
-        &self,
-        share: &mut Share<T, S>,
-        range: Positions,
-    ) -> Result<(), SettleFault>
-        requires seat { IsSeated self.now share.old.seat }
-        requires whole { length share.old.seat.me.0.shown ≡ range.count }
-        requires plain { flat_map T.numbers share.old.seat.me.0.shown ≡ [] }
-        requires span { share.old.seat.me.0.party.span ≡ Some (span_of self.now.index Take range.start range.count) }
-        requires slots { share.old.seat.me.1 ≡ slots_of self.now range.start (replicate range.count None) }
-        ensures seat { IsSameSeat share.old.seat share.new.seat }
-        ensures done { IfOk result (λ _. (share.new.seat.me.0 ≡ settled
-            (span_of self.now.index Take range.start range.count) share.old.seat.me.0.shown share.old.seat.me.0)
-            × (share.new.seat.me.1 ≡ [])) }
-        ensures refused { IfErr result (λ e. (share.new.seat.me.1 ≡ share.old.seat.me.1) × RefusesSettle T.numbers
-            self.now.shape.plan.take self.now.shape.plan range.count range.count range.start [] share.old.seat.me.0
-            share.new.seat.me.0 e) }
-        ensures kept { IfErr result (λ e. IsKept share.old.seat.me.0 share.new.seat.me.0) }
-        ensures shown { IfErr result (λ e. share.new.seat.me.0.shown ≡ share.old.seat.me.0.shown) }
-        ensures true_refusal { IfErr result (λ e. IsTrueTooEarly T.numbers
-            (span_of self.now.index Take range.start range.count) share.old.seat.me.0 e) }
-    {
-        match self.commit(&mut share.seat, Side::Take, range, range.count) {
-            None => Ok(()),
             Some(tail) => Err(SettleFault::NotYet(tail)),
         }
     }
