@@ -1,15 +1,17 @@
 -- Worked cases of a ring that was looked up, and of counts
-use Rattle.std.proofs.Common.{◌≡◌, ◌∙◌, ℕ, ◌*◌, ◌+◌, ◌-◌, ◌^◌, [], ◌∷◌, Option, None, Some, ap, refl, sym, false}
+use Rattle.std.proofs.Common.{◌≡◌, ◌∙◌, ◌≤◌, arith, ℕ, ◌*◌, ◌+◌, ◌-◌, ◌^◌, [], ◌∷◌, Option, None, Some, ap, refl, sym, false}
 use Rattle.std.specs.Prelude.{slice_get}
 use Rattle.geom.specs.declared.plan.Mode.{Mode}
 use Rattle.geom.specs.declared.plan.Mode.TheVariants.{Hts, Multi}
+use Rattle.geom.specs.Extent.{range_of}
 use Rattle.geom.specs.declared.plan.RingPlan.{RingPlan}
+use Rattle.geom.specs.declared.plan.Side.TheVariants.{Put, Take}
 use Rattle.fabric_laws.specs.Words.{slots_before}
 use Rattle.fabric.specs.declared.fabric.Fabric.{Fabric}
 use Rattle.fabric.specs.declared.place.Place.{Place}
 use Rattle.fabric.specs.Counts.{queued_between}
 use Rattle.fabric.specs.Hands.{rings_of}
-use Rattle.fabric.specs.Places.{IsPlaceOf}
+use Rattle.fabric.specs.Places.{HasCounts, IsPlaceOf, place_mode}
 
 -- a ring of four slots for three items
 abbrev ring : Mode → RingPlan
@@ -47,3 +49,10 @@ two_shown = refl
 -- more were put and taken between the two loads than the ring takes
 pub no_more_than_fit : queued_between (ring Multi) 5 12 ≡ 3
 no_more_than_fit = refl
+
+-- a multi side has no count; a head/tail-sync word hasn't room for one as large as its range
+multi_counts_nothing : (p : Place) (n : ℕ) → place_mode p Put ≡ Multi → HasCounts p Put n
+multi_counts_nothing p n multi = λ hts. absurd (let e : Multi ≡ Hts = sym multi ∙ hts in cc)
+
+more_than_its_word_counts : (p : Place) (n : ℕ) → place_mode p Take ≡ Hts → range_of p.shape.plan.geometry ≤ n → HasCounts p Take n → ⊥
+more_than_its_word_counts p n hts large is = let few = is hts in omega (arith, few, large)

@@ -26,8 +26,8 @@ use burst::{Tagged, Word};
 use geom::{How, Side};
 
 impl<T: Tagged, const N: usize, S: Stored<T>> HandInPlace<T, N, S> {
-    /// `try_put` on the ring at this place, of at most `most` items, which may be more than `N` on a multi side.
-    /// Requires: it isn't more than any ring holds, and the word of a head/tail-sync side has room for as many.
+    /// `try_put` on the ring at this place, of at most `most` items, which may be more than `N`. Requires: it
+    /// isn't more than any ring holds, and the word of a head/tail-sync side has room for as many.
     #[inline(always)]
     pub fn try_put_at<I: PutItems<T>>(
         &mut self,
@@ -154,8 +154,8 @@ impl<T: Tagged, const N: usize, S: Stored<T>> HandInPlace<T, N, S> {
 }
 
 impl<T: Word, const N: usize, S: Stored<T>> HandInPlace<T, N, S> {
-    /// `try_take` on the ring at this place, of at most `most` words, which may be more than `N` on a multi side.
-    /// Requires: it isn't more than any ring holds, and the word of a head/tail-sync side has room for as many.
+    /// `try_take` on the ring at this place, of at most `most` words, which may be more than `N`. Requires: it
+    /// isn't more than any ring holds, and the word of a head/tail-sync side has room for as many.
     #[inline(always)]
     pub fn try_take_at(
         &mut self,
