@@ -51,8 +51,8 @@ static inline int64_t hk_finish_take_after(hk_hand *hand, size_t n, int64_t code
     return code;
 }
 
-/* Puts n words, as many as hk_ring_try_put_bulk allows, next to each other on a ring, once there is room for all. Returns n. On a ring that holds
- * fewer it waits until relax ends it. */
+/* Puts n words, as many as hk_ring_try_put_bulk allows, next to each other on a ring, once there is room for all.
+ * Returns n. On a ring that holds fewer it waits until relax ends it. */
 static inline int64_t hk_ring_put_bulk(hk_hand *hand, size_t ring, const uint64_t *words, size_t n, hk_relax relax) {
     int64_t code = hk_ring_try_put_bulk(hand, ring, words, n);
     HK_UNTIL(code, HK_IS_EARLY(code), relax, hk_ring_try_put_bulk(hand, ring, words, n));
@@ -67,16 +67,16 @@ static inline int64_t hk_ring_put_burst(hk_hand *hand, size_t ring, const uint64
     return hk_finish_put_after(hand, words, n, code, relax);
 }
 
-/* Takes n words, as many as hk_ring_try_take_bulk allows, once as many are queued. Returns n. On a ring that holds fewer it waits until relax ends
- * it. */
+/* Takes n words, as many as hk_ring_try_take_bulk allows, once as many are queued. Returns n. On a ring that holds fewer
+ * it waits until relax ends it. */
 static inline int64_t hk_ring_take_bulk(hk_hand *hand, size_t ring, uint64_t *words, size_t n, hk_relax relax) {
     int64_t code = hk_ring_try_take_bulk(hand, ring, words, n);
     HK_UNTIL(code, HK_IS_EARLY(code), relax, hk_ring_try_take_bulk(hand, ring, words, n));
     return hk_finish_take_after(hand, n, code, relax);
 }
 
-/* Takes as many words as are queued, at most n, as many as hk_ring_try_take_burst allows, once there is one. Returns how
- * many. */
+/* Takes as many words as are queued, at most n, as many as hk_ring_try_take_burst allows, once there is one. Returns
+ * how many. */
 static inline int64_t hk_ring_take_burst(hk_hand *hand, size_t ring, uint64_t *words, size_t n, hk_relax relax) {
     int64_t code = hk_ring_try_take_burst(hand, ring, words, n);
     HK_UNTIL(code, HK_IS_EARLY(code), relax, hk_ring_try_take_burst(hand, ring, words, n));
