@@ -43,8 +43,8 @@ static inline void gets(enum hk_mark mark) {
     __tsan_acquire(&hk_places[mark]);
 }
 
-/* A split passes on a hand, and its memory, that another thread's split may have made. Here they are made one at a time,
- * so that their order is seen. */
+/* A split passes on a hand, and its memory, that another thread's split may have made. Here they are made one at a
+ * time, so that their order is seen. */
 static pthread_mutex_t hk_splits = PTHREAD_MUTEX_INITIALIZER;
 
 static inline void begins_split(void) {

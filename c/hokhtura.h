@@ -136,8 +136,8 @@ enum hk_mode {
 /* One ring of a set. exact = 1: it holds `size` words, 1 to 2^20 - 1, as with RING_F_EXACT_SZ. exact = 0: it has `size`
  * slots, a power of two from 2 to 2^20, and holds size - 1 words. `put` and `take` are the modes of its two sides.
  * `last` is the number of words after which the ring ends: puts and takes return HK_E_WORN then. 0 stands for the most
- * that the modes allow, which a greater number may not exceed: 2^63 - 1 if both are HK_MULTI (2,900 years at 100 million
- * words a second), else 2^52 - 1 (14 years at ten million). `reserved` is 0. */
+ * that the modes allow, which a greater number may not exceed: 2^63 - 1 if both are HK_MULTI (2,900 years at 100
+ * million words a second), else 2^52 - 1 (14 years at ten million). `reserved` is 0. */
 typedef struct hk_ring_plan {
     uint32_t size;
     uint32_t exact;

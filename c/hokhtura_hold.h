@@ -1,7 +1,7 @@
 /* Ends that put and take word by word on a side that a hand holds, in some three fifths of the time of single calls:
  * for a side that one thread uses most of the time. An end reserves positions by one exchange, and each word then takes
- * one store. When its positions run out, it reserves again. Other threads' calls on that side return HK_E_AGAIN until it
- * is released; a thread that stops while it holds a side stops that side.
+ * one store. When its positions run out, it reserves again. Other threads' calls on that side return HK_E_AGAIN until
+ * it is released; a thread that stops while it holds a side stops that side.
  *
  * An end belongs to the thread that has its hand. While it holds the side, other calls of this hand on rings return
  * HK_E_OPEN, but for hk_ring_count and hk_ring_room. All of it is inline: the library has none of these names. */

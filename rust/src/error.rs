@@ -47,8 +47,8 @@ errors! {
     /// Other threads came first each time that the call tried: call again.
     Again = 2, "other threads came first: call again";
     /// Of a ring: the positions are reserved, and an earlier call of another thread isn't finished yet. Finish the call
-    /// before the handle is dropped: otherwise its positions stay reserved, and that side is blocked. Of a `Fib`: nothing
-    /// was changed.
+    /// before the handle is dropped: otherwise its positions stay reserved, and that side is blocked. Of a `Fib`:
+    /// nothing was changed.
     Pending = 3, "reserved, and to be finished";
     /// There is an open span: finish it first.
     Open = 4, "there is an open span";

@@ -135,8 +135,8 @@ impl Forwarder {
     }
 
     /// Holds what was published last: the calls by way of what is returned are answered by it, and cost less. A later
-    /// publish can't be settled meanwhile ([`settle`](crate::Fib::settle) returns `Pending`), so drop it every few bursts
-    /// and before the thread waits.
+    /// publish can't be settled meanwhile ([`settle`](crate::Fib::settle) returns `Pending`), so drop it every few
+    /// bursts and before the thread waits.
     ///
     /// ```
     /// use hokhtura::{Fib, FirstLevel};

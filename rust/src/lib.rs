@@ -21,15 +21,15 @@
 //!
 //! | side | calls | for |
 //! |---|---|---|
-//! | `Mode::Multi` | `try_put_bulk`, `try_take_burst` and so on, `try_put_one`, `try_take_one` | any number of threads |
+//! | `Mode::Multi` | `try_put_bulk`, `try_take_burst`, .., `try_put_one`, `try_take_one` | any number of threads |
 //! | `Mode::Hts` | the same, one call of the side at a time | sides that are held now and then |
 //! | `Mode::Hts`, held | [`Producer::hold`], [`Consumer::hold`] | words one by one, by one thread for a while |
 //!
 //! A put or a take reserves positions, and then publishes or frees them. No call tries either step more than 1,024
-//! times, and none waits but the iterators that say so. The rings aren't lock-free: a thread that stops in between blocks that
-//! side. Calls of others then return [`Error::Again`] (head/tail-sync) or [`Error::Pending`] (multi). Finish a pending
-//! call before its handle is dropped: otherwise its positions stay reserved forever, and later calls on that side can't
-//! finish. What a thread did before it put a word happens before the take of that word.
+//! times, and none waits but the iterators that say so. The rings aren't lock-free: a thread that stops in between
+//! blocks that side. Calls of others then return [`Error::Again`] (head/tail-sync) or [`Error::Pending`] (multi). Finish
+//! a pending call before its handle is dropped: otherwise its positions stay reserved forever, and later calls on that
+//! side can't finish. What a thread did before it put a word happens before the take of that word.
 //!
 //! The crate is `no_std` and needs `alloc`. With the feature `std`, which is on by default, iterators that wait let
 //! other threads run; without it they spin.

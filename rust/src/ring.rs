@@ -76,9 +76,9 @@ macro_rules! takes {
         ///
         /// # Errors
         ///
-        /// `Count` if there are no places or more than `MOST`, on a multi side `MOST_ON_MULTI`; `NoRoom` if too few words
-        /// are queued; `Again`; `Worn`; `Open`: an earlier call of this handle is pending. `Pending`: the words are at
-        /// the front of the slice already, and `finish_take` takes them off the ring.
+        /// `Count` if there are no places or more than `MOST`, on a multi side `MOST_ON_MULTI`; `NoRoom` if too few
+        /// words are queued; `Again`; `Worn`; `Open`: an earlier call of this handle is pending. `Pending`: the words
+        /// are at the front of the slice already, and `finish_take` takes them off the ring.
         pub fn try_take_bulk(&mut self, words: &mut [T]) -> Result<usize, Error> {
             self.hand.take(words, true)
         }
