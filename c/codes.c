@@ -4,8 +4,8 @@
 #define CODES(X)                                                              \
     X(HK_OK, "done")                                                          \
     X(HK_E_NOROOM, "too little room, or too few words")                       \
-    X(HK_E_AGAIN, "other threads came first: call again")                     \
-    X(HK_E_PENDING, "reserved, and to be finished")                           \
+    X(HK_E_AGAIN, "other threads came first, or hold the side: call again")   \
+    X(HK_E_PENDING, "not finished: an earlier call of another thread, or a reader, isn't done") \
     X(HK_E_OPEN, "the hand has an open span")                                 \
     X(HK_E_NOTOPEN, "the hand has no open span of that side")                 \
     X(HK_E_RING, "no ring of this number")                                    \

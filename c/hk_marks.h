@@ -16,8 +16,8 @@
 #endif
 #endif
 
-/* What is passed otherwise than by a word: a publish of a forwarding table, a publish that a reader lets go, and the
- * end of a handle. They are of all tables and handles together, so a race may be missed here, and none is made up. */
+/* What is passed otherwise than by a word: a version of a forwarding table, one that a reader lets go, and the end of a
+ * handle. They are of all tables and handles together, so a race may be missed here, and none is made up. */
 enum hk_mark { HK_MARK_PUBLISH, HK_MARK_LET_GO, HK_MARK_END, HK_MARK_WORDS };
 
 #ifdef HK_MARKS

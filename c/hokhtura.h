@@ -11,8 +11,8 @@
  * two threads may not make it at the same time.
  *
  * WHAT THREADS SEE. What a thread did before it put a word, or put or sent a number of a pool, is seen by the thread
- * that takes that word, or gets or receives that number; what it did before hk_fib_publish, by a reader whose call is
- * answered by that publish; what a reader did before hk_forward_release, by the writer once hk_fib_settle returns
+ * that takes that word, or gets or receives that number; what it did before hk_fib_publish, by a reader whose call uses
+ * that version of the table; what a reader did before hk_forward_release, by the writer once hk_fib_settle returns
  * HK_OK.
  *
  * RETURN VALUES. A call returns a count of 0 or more (HK_OK is 0), or a code below 0, `enum hk_code`. Unless a call
@@ -135,9 +135,9 @@ enum hk_mode {
 
 /* One ring of a set. exact = 1: it holds `size` words, 1 to 2^20 - 1, as with RING_F_EXACT_SZ. exact = 0: it has `size`
  * slots, a power of two from 2 to 2^20, and holds size - 1 words. `put` and `take` are the modes of its two sides.
- * `last` is the number of words after which the ring ends: puts and takes return HK_E_WORN then. 0 stands for the most
- * that the modes allow, which a greater number may not exceed: 2^63 - 1 if both are HK_MULTI (2,900 years at 100
- * million words a second), else 2^52 - 1 (14 years at ten million). `reserved` is 0. */
+ * `last` is the number of words after which the ring ends: a put returns HK_E_WORN then, and what is queued can still
+ * be taken. 0 stands for the most that the modes allow, which a greater number may not exceed: 2^63 - 1 if both are
+ * HK_MULTI (2,900 years at 100 million words a second), else 2^52 - 1 (14 years at ten million). `reserved` is 0. */
 typedef struct hk_ring_plan {
     uint32_t size;
     uint32_t exact;
@@ -162,17 +162,18 @@ HK_API HK_CHECKED int64_t hk_hand_split(hk_hand *hand, hk_hand **out);
  * if it is head/tail-sync, and if it is multi HK_E_PENDING, or HK_E_NOROOM once no position is left. */
 HK_API void hk_hand_free(hk_hand *hand);
 
-/* Puts n words on a ring, 1 to HK_MOST, or to HK_MOST_ON_MULTI on a multi side: by bulk all of them or none, by burst as
- * many as there is room for. Returns how many were put: the first words of the array, in order, next to each other on
- * the ring.
- * HK_E_NULL, HK_E_KIND, HK_E_RING, HK_E_OPEN, HK_E_COUNT, HK_E_NOROOM, HK_E_WORN, HK_E_AGAIN: nothing was put.
+/* Puts n words on a ring, 1 to HK_MOST, or to HK_MOST_ON_MULTI on a multi side: by bulk all of them or none, by burst
+ * as many as there is room for. Returns how many were put: the first words of the array, in order, next to each other
+ * on the ring.
+ * HK_E_NULL, HK_E_KIND, HK_E_RING, HK_E_OPEN, HK_E_COUNT, HK_E_NOROOM, HK_E_WORN, HK_E_AGAIN: nothing was put. A burst
+ * that would pass the ring's last position isn't shortened: it is HK_E_WORN.
  * HK_E_PENDING, only on a multi side: the positions are the hand's, the words are not put yet. Call
  * hk_ring_finish_put with the same words until it returns a count. */
 HK_API HK_CHECKED int64_t hk_ring_try_put_bulk(hk_hand *hand, size_t ring, const uint64_t *words, size_t n);
 HK_API HK_CHECKED int64_t hk_ring_try_put_burst(hk_hand *hand, size_t ring, const uint64_t *words, size_t n);
 /* Takes n words from a ring, 1 to HK_MOST, or to HK_MOST_ON_MULTI on a multi side, the oldest first: by bulk all n or
  * none, by burst at most n. Returns how many are at the front of the array; its other places are unchanged. Codes as
- * above.
+ * above, but for HK_E_WORN, which no take returns.
  * HK_E_PENDING, only on a multi side: the words are at the front of the array, and still on the ring. Call
  * hk_ring_finish_take with the same n until it returns a count. */
 HK_API HK_CHECKED int64_t hk_ring_try_take_bulk(hk_hand *hand, size_t ring, uint64_t *words, size_t n);
@@ -181,15 +182,16 @@ HK_API HK_CHECKED int64_t hk_ring_try_take_burst(hk_hand *hand, size_t ring, uin
  * HK_E_NULL, HK_E_KIND, HK_E_RING, HK_E_OPEN, HK_E_NOROOM, HK_E_WORN, HK_E_AGAIN: nothing was put. HK_E_PENDING: call
  * hk_ring_finish_put with this word and n = 1. */
 HK_API HK_CHECKED int64_t hk_ring_try_put_one(hk_hand *hand, size_t ring, uint64_t word);
-/* Takes the oldest word from a ring: what hk_ring_try_take_bulk does with n = 1, in less time. Returns 1. Codes as
- * above. HK_E_PENDING: the word is there, and still on the ring. Call hk_ring_finish_take with n = 1. */
+/* Takes the oldest word from a ring: what hk_ring_try_take_bulk does with n = 1, in less time. Returns 1. HK_E_NULL,
+ * HK_E_KIND, HK_E_RING, HK_E_OPEN, HK_E_NOROOM, HK_E_AGAIN: nothing was taken. HK_E_PENDING: the word is written, and
+ * still on the ring. Call hk_ring_finish_take with n = 1. */
 HK_API HK_CHECKED int64_t hk_ring_try_take_one(hk_hand *hand, size_t ring, uint64_t *word);
 
 /* Peeks, only on head/tail-sync sides. A put reserves up to n positions; a take shows up to n words at the front of the
  * array without taking them. Both return how many. While a peek is open, other threads' calls on that side return
  * HK_E_AGAIN. If the hand is freed before the take is finished, the words that it showed are lost: no call takes them
  * any more, and they are only in the array. HK_E_NULL, HK_E_KIND, HK_E_RING, HK_E_MODE, HK_E_OPEN, HK_E_COUNT,
- * HK_E_NOROOM, HK_E_WORN, HK_E_AGAIN; never HK_E_PENDING. */
+ * HK_E_NOROOM, HK_E_WORN (a put), HK_E_AGAIN; never HK_E_PENDING. */
 HK_API HK_CHECKED int64_t hk_ring_peek_put_bulk(hk_hand *hand, size_t ring, size_t n);
 HK_API HK_CHECKED int64_t hk_ring_peek_put_burst(hk_hand *hand, size_t ring, size_t n);
 HK_API HK_CHECKED int64_t hk_ring_peek_take_bulk(hk_hand *hand, size_t ring, uint64_t *words, size_t n);
@@ -216,8 +218,8 @@ HK_API HK_CHECKED int64_t hk_ring_advance_put(hk_hand *hand, const uint64_t *wor
  * HK_E_MODE, HK_E_COUNT. */
 HK_API HK_CHECKED int64_t hk_ring_advance_put_one(hk_hand *hand, uint64_t word);
 /* Holds a take side, with up to n of its words, which stay on the ring until they are taken. Returns how many.
- * HK_E_NULL, HK_E_KIND, HK_E_RING, HK_E_MODE, HK_E_OPEN, HK_E_COUNT, HK_E_NOROOM, HK_E_WORN, HK_E_AGAIN. If the hand is
- * freed meanwhile, no call takes these words any more. */
+ * HK_E_NULL, HK_E_KIND, HK_E_RING, HK_E_MODE, HK_E_OPEN, HK_E_COUNT, HK_E_NOROOM, HK_E_AGAIN. If the hand is freed
+ * meanwhile, no call takes these words any more. */
 HK_API HK_CHECKED int64_t hk_ring_hold_take_bulk(hk_hand *hand, size_t ring, size_t n);
 HK_API HK_CHECKED int64_t hk_ring_hold_take_burst(hk_hand *hand, size_t ring, size_t n);
 /* Takes the next n words of the held side, and keeps the others. Returns n. HK_E_NULL, HK_E_KIND, HK_E_NOTOPEN;
@@ -281,7 +283,7 @@ HK_API void hk_pool_free(hk_pool *pool);
 /* Gets n numbers, 1 to HK_POOL_MOST, all or none: from the cache, the newest first; if it has too few, the others from
  * the free ring, the oldest first. If n is at most 512, as many more as the cache's size then go from that ring to the
  * cache, if it has them, too. Returns n. HK_E_NULL, HK_E_KIND, HK_E_COUNT. HK_E_NOROOM: the free ring has too few;
- * numbers may be in the caches of other handles. HK_E_WORN. HK_E_AGAIN. */
+ * numbers may be in the caches of other handles. HK_E_AGAIN. */
 HK_API HK_CHECKED int64_t hk_pool_try_get_bulk(hk_pool *pool, uint32_t *numbers, size_t n);
 /* Puts n numbers back, 1 to HK_POOL_MOST, all or none: into the cache; if that would pass one and a half times its
  * size, they go to the free ring, and the cache stays as it is. Returns n. HK_E_NULL, HK_E_KIND, HK_E_COUNT.
@@ -304,7 +306,7 @@ HK_API HK_CHECKED int64_t hk_pool_try_send_burst(hk_pool *pool, size_t ring, con
 /* Takes n numbers, 1 to HK_POOL_MOST, from a ring of the pool, the oldest first: by bulk all n or none, by burst at
  * most n, as many as are queued. The handle has them then, and they aren't cached. Returns how many are at the front of
  * the array; its other places are unchanged. HK_E_NULL, HK_E_KIND, HK_E_RING, HK_E_COUNT. HK_E_NOROOM: fewer than n are
- * queued, or for a burst none. HK_E_WORN. HK_E_AGAIN. */
+ * queued, or for a burst none. HK_E_AGAIN. */
 HK_API HK_CHECKED int64_t hk_pool_try_receive_bulk(hk_pool *pool, size_t ring, uint32_t *numbers, size_t n);
 HK_API HK_CHECKED int64_t hk_pool_try_receive_burst(hk_pool *pool, size_t ring, uint32_t *numbers, size_t n);
 /* How many numbers are queued on a ring of the pool, 0 to rings - 1, and how many more it takes, as found by one look.
@@ -345,13 +347,13 @@ HK_API void hk_routes_free(hk_routes *routes);
 
 /* The writer's handle on a forwarding table: routes to the numbers of next hops, the next hops, and the ports. One
  * thread at a time changes it. Readers see no change before hk_fib_publish, and then see all changes at once. No call
- * waits: a change or a publish that can't be made yet, since a reader is still in a call that began before the last
- * publish, is refused with HK_E_PENDING and changes nothing; call again. There are two copies of the routes. */
+ * waits: a change, or hk_fib_publish, that can't be made yet, since a reader may still use the version before the last
+ * one, is refused with HK_E_PENDING and changes nothing; call again. There are two copies of the routes. */
 typedef struct hk_fib hk_fib;
 
-/* A reader's handle, for one thread at a time. It looks addresses up and forwards frames. Each call is answered by one
- * publish, which is no older than any that this handle saw: by the last one, or by the one that the handle holds. A
- * reader neither waits nor takes memory. */
+/* A reader's handle, for one thread at a time. It looks addresses up and forwards frames. Each call uses one version of
+ * the table, which is no older than any that this handle used: the last one that was published, or the one that the
+ * handle holds. A reader neither waits nor takes memory. */
 typedef struct hk_forward hk_forward;
 
 /* The largest number of ports, of next hops, and of frames in one burst. */
@@ -396,54 +398,52 @@ HK_API HK_CHECKED int64_t hk_fib_open_whole(hk_fib **out, uint32_t bits, uint32_
                                             size_t port_count, const hk_next_hop *hops, size_t hop_count);
 /* [memory] Makes a reader, which may go to another thread. HK_E_NULL, HK_E_KIND, HK_E_MEMORY. */
 HK_API HK_CHECKED int64_t hk_fib_share(hk_fib *fib, hk_forward **out);
-/* [memory] Draws up a route for the first `depth` bits of an address, 1 to 32, or another next hop of it, whose number
+/* [memory] Prepares a route for the first `depth` bits of an address, 1 to 32, or another next hop of it, whose number
  * is below 2^24. HK_E_NULL, HK_E_KIND, HK_E_PENDING, HK_E_DEPTH, HK_E_HOP, HK_E_GROUPS, HK_E_MEMORY. */
 HK_API HK_CHECKED int64_t hk_fib_add(hk_fib *fib, uint32_t address, uint32_t depth, uint32_t hop);
-/* [memory] Draws up the removal of a route. HK_E_NULL, HK_E_KIND, HK_E_PENDING, HK_E_DEPTH, HK_E_NOROUTE,
+/* [memory] Prepares the removal of a route. HK_E_NULL, HK_E_KIND, HK_E_PENDING, HK_E_DEPTH, HK_E_NOROUTE,
  * HK_E_MEMORY. */
 HK_API HK_CHECKED int64_t hk_fib_remove(hk_fib *fib, uint32_t address, uint32_t depth);
-/* [memory] Draws up the removal of all routes. HK_E_NULL, HK_E_KIND, HK_E_PENDING, HK_E_MEMORY. */
+/* [memory] Prepares the removal of all routes. HK_E_NULL, HK_E_KIND, HK_E_PENDING, HK_E_MEMORY. */
 HK_API HK_CHECKED int64_t hk_fib_clear(hk_fib *fib);
-/* [memory] Draws up another next hop for a number below the count that the table was opened with. HK_E_NULL, HK_E_KIND,
+/* [memory] Prepares another next hop for a number below the count that the table was opened with. HK_E_NULL, HK_E_KIND,
  * HK_E_PENDING, HK_E_HOP: there is no such number; HK_E_MEMORY. */
 HK_API HK_CHECKED int64_t hk_fib_set_hop(hk_fib *fib, uint32_t number, const hk_next_hop *hop);
-/* [memory] Draws up another port for a number below the count that the table was opened with. HK_E_NULL, HK_E_KIND,
+/* [memory] Prepares another port for a number below the count that the table was opened with. HK_E_NULL, HK_E_KIND,
  * HK_E_PLAN: a depth above 32; HK_E_PENDING, HK_E_COUNT: there is no such number; HK_E_MEMORY. */
 HK_API HK_CHECKED int64_t hk_fib_set_port(hk_fib *fib, uint32_t number, const hk_port *port);
-/* [memory] Publishes all that is drawn up at once. Each reader sees it from its next call on, or, if it holds what was
- * published before, from the first one after hk_forward_release. HK_E_NULL, HK_E_KIND; HK_E_PENDING: the publish before
- * isn't settled; HK_E_MEMORY. */
+/* [memory] Publishes all prepared changes at once, as a new version. Each reader sees it from its next call on, or, if
+ * it holds the version before, from the first one after hk_forward_release. HK_E_NULL, HK_E_KIND; HK_E_PENDING: the last
+ * version isn't settled; HK_E_MEMORY. */
 HK_API HK_CHECKED int64_t hk_fib_publish(hk_fib *fib);
-/* [memory] Settles the last publish: takes back the copy that readers had before, and repeats the changes in it. Each
- * call that draws up a change does so first. HK_OK: changes can be made. HK_E_NULL, HK_E_KIND; HK_E_PENDING: a reader
- * is still in a call that began before the publish, or holds what was published before; HK_E_MEMORY. Call again. */
+/* [memory] Settles the last version: takes back the copy that readers had before, and repeats the changes in it. Each
+ * call that prepares a change does so first. HK_OK: changes can be made. HK_E_NULL, HK_E_KIND; HK_E_PENDING: a reader
+ * is still in a call that uses the version before, or holds that; HK_E_MEMORY. Call again. */
 HK_API HK_CHECKED int64_t hk_fib_settle(hk_fib *fib);
 /* How many changes readers don't see yet. HK_E_NULL, HK_E_KIND. */
 HK_API HK_CHECKED int64_t hk_fib_pending(const hk_fib *fib);
-/* The number of the next hop of exactly this route, with what is drawn up. HK_E_NULL, HK_E_KIND, HK_E_DEPTH,
+/* The number of the next hop of exactly this route, with what is prepared. HK_E_NULL, HK_E_KIND, HK_E_DEPTH,
  * HK_E_NOROUTE. */
 HK_API HK_CHECKED int64_t hk_fib_get(const hk_fib *fib, uint32_t address, uint32_t depth);
-/* How many routes there are, with what is drawn up. HK_E_NULL, HK_E_KIND. */
+/* How many routes there are, with what is prepared. HK_E_NULL, HK_E_KIND. */
 HK_API HK_CHECKED int64_t hk_fib_count(const hk_fib *fib);
-/* Writes the first route, with what is drawn up, that isn't before this address and depth, in the order of addresses
+/* Writes the first route, with what is prepared, that isn't before this address and depth, in the order of addresses
  * and then of depths. A walk over all routes begins with 0 and 0, and goes on with the address of the route found and
  * its depth + 1. HK_E_NULL, HK_E_KIND; HK_E_NOROUTE: there is none. */
 HK_API HK_CHECKED int64_t hk_fib_walk(const hk_fib *fib, uint32_t address, uint32_t depth, hk_fib_route *route);
-/* Frees the writer's handle; null is allowed. Readers keep what was published last. */
+/* Frees the writer's handle; null is allowed. Readers keep the last version. */
 HK_API void hk_fib_free(hk_fib *fib);
 
-/* Holds what was published last: the calls of this handle are answered by it until hk_forward_release, and cost less,
- * since none of them has to take the table and give it back. What is held already stays. While a reader holds what was
- * published before the last publish, that isn't settled: hk_fib_settle returns HK_E_PENDING. So release every few
- * bursts and before the thread waits or sleeps, where DPDK's programs report a quiescent state to rte_rcu_qsbr.
- * HK_E_NULL, HK_E_KIND. */
+/* Holds the last version: the calls of this handle use it until hk_forward_release, and cost less, since none of them
+ * has to take the table and give it back. A version that is held already stays. While a reader holds the version before
+ * the last one, hk_fib_settle returns HK_E_PENDING. So release every few bursts and before the thread waits or sleeps,
+ * where DPDK's programs report a quiescent state to rte_rcu_qsbr. HK_E_NULL, HK_E_KIND. */
 HK_API HK_CHECKED int64_t hk_forward_hold(hk_forward *forward);
-/* Lets go what is held, if anything is: the next call is answered by what is published last then. HK_E_NULL,
- * HK_E_KIND. */
+/* Lets go the version that is held, if one is: the next call uses the last one. HK_E_NULL, HK_E_KIND. */
 HK_API HK_CHECKED int64_t hk_forward_release(hk_forward *forward);
 /* The next hop's number of the longest published route that covers an address. HK_E_NULL, HK_E_KIND, HK_E_NOROUTE. */
 HK_API HK_CHECKED int64_t hk_forward_lookup(hk_forward *forward, uint32_t address);
-/* The same for n addresses, all by one publish: hops[i] is the next hop for addresses[i], or HK_NO_HOP. HK_E_COUNT: n
+/* The same for n addresses, all in one version: hops[i] is the next hop for addresses[i], or HK_NO_HOP. HK_E_COUNT: n
  * is above SIZE_MAX / 8. HK_E_NULL, HK_E_KIND. */
 HK_API HK_CHECKED int64_t hk_forward_lookup_bulk(hk_forward *forward, const uint32_t *HK_RESTRICT addresses,
                                                  uint32_t *HK_RESTRICT hops, size_t n);
@@ -451,7 +451,7 @@ HK_API HK_CHECKED int64_t hk_forward_lookup_bulk(hk_forward *forward, const uint
 /* ---- Forwarding of frames ---------------------------------------------------------------------------------------- */
 
 /* A reader forwards Ethernet frames with IPv4 packets where they lie, by the routes, next hops and ports of one
- * publish. What becomes of a frame is decided by its bytes and its length on the wire: it is dropped for the first
+ * version. What becomes of a frame is decided by its bytes and its length on the wire: it is dropped for the first
  * reason of `enum hk_drop` that holds, and is unchanged then; or it is sent. A frame that is sent has the address of
  * the next hop and that of the port it leaves through, a time to live one less, and a correct checksum; every other
  * byte is as it was, and so an 802.1Q tag is kept. The caller sends it, or drops it.

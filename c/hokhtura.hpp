@@ -355,7 +355,7 @@ public:
         if (code) (void)object.release();
         return code;
     }
-    // Takes the oldest object. If a code is returned, the pointer is as it was. HK_E_NULL, HK_E_NOROOM, HK_E_WORN,
+    // Takes the oldest object. If a code is returned, the pointer is as it was. HK_E_NULL, HK_E_NOROOM,
     // HK_E_AGAIN.
     result try_take(std::unique_ptr<T> &object) noexcept {
         std::uint64_t word = 0;

@@ -67,8 +67,8 @@ static inline int64_t hk_ring_put_burst(hk_hand *hand, size_t ring, const uint64
     return hk_finish_put_after(hand, words, n, code, relax);
 }
 
-/* Takes n words, as many as hk_ring_try_take_bulk allows, once as many are queued. Returns n. On a ring that holds fewer
- * it waits until relax ends it. */
+/* Takes n words, as many as hk_ring_try_take_bulk allows, once as many are queued. Returns n. On a ring that holds
+ * fewer it waits until relax ends it. */
 static inline int64_t hk_ring_take_bulk(hk_hand *hand, size_t ring, uint64_t *words, size_t n, hk_relax relax) {
     int64_t code = hk_ring_try_take_bulk(hand, ring, words, n);
     HK_UNTIL(code, HK_IS_EARLY(code), relax, hk_ring_try_take_bulk(hand, ring, words, n));
@@ -163,15 +163,15 @@ static inline int64_t hk_pool_receive_burst(hk_pool *pool, size_t ring, uint32_t
     return code;
 }
 
-/* Settles the last publish, once no reader is in a call that began before it or holds what was published before. Until
- * the next publish no change is answered HK_E_PENDING then. */
+/* Settles the last version, once no reader uses or holds the one before. Until the next hk_fib_publish no change returns
+ * HK_E_PENDING then. */
 static inline int64_t hk_fib_settle_wait(hk_fib *fib, hk_relax relax) {
     int64_t code = hk_fib_settle(fib);
     HK_UNTIL(code, code == HK_E_PENDING, relax, hk_fib_settle(fib));
     return code;
 }
 
-/* Publishes all that is drawn up, once the publish before is settled. */
+/* Publishes all prepared changes, once the last version is settled. */
 static inline int64_t hk_fib_publish_wait(hk_fib *fib, hk_relax relax) {
     int64_t code = hk_fib_publish(fib);
     HK_UNTIL(code, code == HK_E_PENDING, relax, hk_fib_publish(fib));

@@ -171,7 +171,7 @@ static inline int rte_lpm_rcu_qsbr_add(struct rte_lpm *lpm, struct rte_lpm_rcu_c
 #define HKL_UNTIL_SETTLED(code, call) \
     while (((code) = (call)) == HK_E_PENDING) rte_pause()
 
-/* Publishes what is drawn up, or draws nothing up. Returns DPDK's code. */
+/* Publishes the prepared changes, or prepares none. Returns DPDK's code. */
 static inline int hkl_publish(struct rte_lpm *lpm, int64_t code) {
     if (code >= 0) HKL_UNTIL_SETTLED(code, hk_fib_publish(lpm->fib));
     if (code >= 0) return 0;

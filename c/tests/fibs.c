@@ -106,7 +106,7 @@ static void compare(hk_fib *fib, hk_forward *reader) {
     }
 }
 
-/* A reader that holds a publish is answered by it after the next one, and the writer can't go on before it lets go. */
+/* A reader that holds a version uses it after the next one, and the writer can't go on before it lets go. */
 static void hold(hk_fib *fib, hk_forward *reader) {
     if (below(10) != 0) return;
     IS(hk_forward_hold(reader), HK_OK), IS(hk_forward_hold(reader), HK_OK);
@@ -155,7 +155,7 @@ static void beside_a_list(hk_fib *fib, int calls) {
 static uint32_t publishes = 20000;
 static _Atomic int is_done;
 
-/* Each route leads to the number of the publish. A reader of an odd number holds a publish for eight bursts. */
+/* Each route leads to the number of the version. A reader of an odd number holds a version for eight bursts. */
 struct reader {
     hk_forward *reader;
     int number;

@@ -53,7 +53,7 @@ static void split_pool(struct all *all) {
     IS(hk_pool_try_put_bulk(all->pool, &number, 1), 1);
 }
 
-/* A change that is refused isn't drawn up, and neither the routes nor a reader see anything of it. */
+/* A change that is refused isn't prepared, and neither the routes nor a reader see anything of it. */
 static void draw_up(struct all *all, int64_t code, int64_t pending, int64_t routes) {
     tell(code);
     if (code == HK_OK) return;

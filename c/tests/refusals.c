@@ -104,7 +104,7 @@ static void open_tables(void) {
     IS(hk_routes_share(shared, &sharer), HK_OK);
 }
 
-/* The forwarder has seen a route whose hop leads to its port, and another one is drawn up. */
+/* The forwarder has seen a route whose hop leads to its port, and another one is prepared. */
 static void open_forwarder(void) {
     hk_next_hop hops[HOPS] = {one_hop[0]};
     hops[7] = hops[0];

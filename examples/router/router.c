@@ -121,8 +121,8 @@ static uint32_t receive(struct thread *t, uint32_t ring, uint32_t *numbers) {
 
 /* ---- Routes and forwarding: all calls of hk_fib_ and hk_forward_ ------------------------------------------------- */
 
-/* Draws up these routes, each with a next hop of its own, in place of all that are there. While a worker is still in a
- * call that began before the last publish, nothing can be drawn up yet. */
+/* Prepares these routes, each with a next hop of its own, in place of all that are there. While a worker may still use
+ * the version before the last one, nothing can be prepared yet. */
 static int64_t draw_up(const struct settings *s, uint32_t *line) {
     int64_t code;
     while ((code = hk_fib_clear(fib)) == HK_E_PENDING) nap();

@@ -44,12 +44,12 @@ macro_rules! errors {
 errors! {
     /// A put found the ring too full, or a take found too few words.
     NoRoom = 1, "too little room, or too few words";
-    /// Other threads came first each time that the call tried: call again.
-    Again = 2, "other threads came first: call again";
+    /// Other threads came first each time that the call tried, or one holds this side: nothing was done, call again.
+    Again = 2, "other threads came first, or hold the side: call again";
     /// Of a ring: the positions are reserved, and an earlier call of another thread isn't finished yet. Finish the call
     /// before the handle is dropped: otherwise its positions stay reserved, and that side is blocked. Of a `Fib`:
     /// nothing was changed.
-    Pending = 3, "reserved, and to be finished";
+    Pending = 3, "not finished: an earlier call of another thread, or a reader, isn't done";
     /// There is an open span: finish it first.
     Open = 4, "there is an open span";
     /// There is no open span of that side.
@@ -68,12 +68,12 @@ errors! {
     Shared = 12, "other handles share it";
     /// Out of memory.
     Memory = 13, "out of memory";
-    /// No such ring, pool, table, port or window can be made.
+    /// An argument is out of range: no such ring, pool, table, port or window can be made.
     Plan = 14, "no such ring, pool, table, port or window can be made";
     /// The ring has carried as many words as it can count: 2^63 - 1, or 2^52 - 1 with a head/tail-sync side, or as many
     /// numbers of a pool: 2^51 - 1.
     Worn = 15, "the positions of the ring are used up";
-    /// As many handles were made as there can be, 2^62.
+    /// The limit of 2^62 handles is reached.
     Parts = 16, "too many handles";
     /// A number that the pool's handle doesn't have, has in its cache, or that is given twice.
     NotYours = 17, "a number that the handle doesn't have, or given twice";

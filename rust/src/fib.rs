@@ -22,11 +22,11 @@ pub struct Route {
 }
 
 /// The writer of a forwarding table: routes to the numbers of next hops, the next hops, and the ports. Readers see no
-/// change before [`publish`](Fib::publish), and then see all changes at once. No call waits: one that can't be made yet
-/// is refused as `Pending`, and changes nothing.
+/// change before [`publish`](Fib::publish), and then see all changes at once, as a new version. No call waits: one that
+/// can't be made yet is refused as `Pending`, and changes nothing.
 pub struct Fib(NonNull<ffi::Fib>, PhantomData<*mut u8>);
 
-// A handle may go to another thread. It isn't `Sync`: no two calls overlap.
+// SAFETY: a handle may go to another thread. It isn't `Sync`: no two calls overlap.
 unsafe impl Send for Fib {}
 
 impl Fib {
@@ -94,7 +94,7 @@ impl Fib {
         Forwarder::of(at)
     }
 
-    /// Draws up a route for the first `depth` bits of an address, or another next hop of it.
+    /// Prepares a route for the first `depth` bits of an address, or another next hop of it.
     ///
     /// # Errors
     ///
@@ -103,7 +103,7 @@ impl Fib {
         answer(unsafe { ffi::hk_fib_add(self.0.as_ptr(), address.into(), depth, hop) }).map(drop)
     }
 
-    /// Draws up the removal of a route.
+    /// Prepares the removal of a route.
     ///
     /// # Errors
     ///
@@ -112,7 +112,7 @@ impl Fib {
         answer(unsafe { ffi::hk_fib_remove(self.0.as_ptr(), address.into(), depth) }).map(drop)
     }
 
-    /// Draws up the removal of all routes.
+    /// Prepares the removal of all routes.
     ///
     /// # Errors
     ///
@@ -121,7 +121,7 @@ impl Fib {
         answer(unsafe { ffi::hk_fib_clear(self.0.as_ptr()) }).map(drop)
     }
 
-    /// Draws up another next hop of a number.
+    /// Prepares another next hop of a number.
     ///
     /// # Errors
     ///
@@ -130,7 +130,7 @@ impl Fib {
         answer(unsafe { ffi::hk_fib_set_hop(self.0.as_ptr(), number, &hop.plan()) }).map(drop)
     }
 
-    /// Draws up another port of a number.
+    /// Prepares another port of a number.
     ///
     /// # Errors
     ///
@@ -139,23 +139,22 @@ impl Fib {
         answer(unsafe { ffi::hk_fib_set_port(self.0.as_ptr(), number, &port.plan()) }).map(drop)
     }
 
-    /// Publishes all that is drawn up at once. Each reader sees it from its next call on, or, if it holds what was
-    /// published before, once it lets that go.
+    /// Publishes all prepared changes at once, as a new version. Each reader sees it from its next call on, or, if it
+    /// holds the version before, once it lets that go.
     ///
     /// # Errors
     ///
-    /// `Pending`: the publish before isn't settled; `Memory`.
+    /// `Pending`: the last version isn't settled; `Memory`.
     pub fn publish(&mut self) -> Result<(), Error> {
         answer(unsafe { ffi::hk_fib_publish(self.0.as_ptr()) }).map(drop)
     }
 
-    /// Settles the last publish: takes back the copy that readers had before, and repeats the changes in it. Each call
-    /// that draws up a change does so first. Once it returns `Ok`, changes can be made.
+    /// Settles the last version: takes back the copy that readers had before, and repeats the changes in it. Each call
+    /// that prepares a change does so first. Once it returns `Ok`, changes can be made.
     ///
     /// # Errors
     ///
-    /// `Pending`: a reader is still in a call that began before the publish, or holds what was published before;
-    /// `Memory`. Call again.
+    /// `Pending`: a reader is still in a call that uses the version before, or holds that; `Memory`. Call again.
     pub fn settle(&mut self) -> Result<(), Error> {
         answer(unsafe { ffi::hk_fib_settle(self.0.as_ptr()) }).map(drop)
     }
@@ -166,7 +165,7 @@ impl Fib {
         answer(unsafe { ffi::hk_fib_pending(self.0.as_ptr()) }).unwrap_or(0)
     }
 
-    /// The number of the next hop of exactly this route, with what is drawn up.
+    /// The number of the next hop of exactly this route, with what is prepared.
     ///
     /// # Errors
     ///
@@ -176,7 +175,7 @@ impl Fib {
         answer(unsafe { ffi::hk_fib_get(self.0.as_ptr(), address.into(), depth) }).map(|hop| hop as u32)
     }
 
-    /// How many routes there are, with what is drawn up.
+    /// How many routes there are, with what is prepared.
     #[must_use]
     pub fn len(&self) -> usize {
         answer(unsafe { ffi::hk_fib_count(self.0.as_ptr()) }).unwrap_or(0)
@@ -188,7 +187,7 @@ impl Fib {
         self.len() == 0
     }
 
-    /// All routes, with what is drawn up, in the order of addresses and then of depths.
+    /// All routes, with what is prepared, in the order of addresses and then of depths.
     #[must_use]
     pub fn iter(&self) -> impl FusedIterator<Item = Route> + '_ {
         let mut from = (0, 0);

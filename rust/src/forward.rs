@@ -122,11 +122,11 @@ impl fmt::Debug for Frame<'_> {
 }
 
 /// A reader of a [`Fib`](crate::Fib): it looks addresses up, and forwards Ethernet frames with IPv4 packets where they
-/// lie. Each call is answered by one publish, no older than any that this reader saw: the last one, or the one that it
-/// holds. It neither waits nor takes memory.
+/// lie. Each call uses one version of the table, no older than any that this reader used: the last one that was
+/// published, or the one that it holds. It neither waits nor allocates.
 pub struct Forwarder(NonNull<ffi::Forward>, PhantomData<*mut u8>);
 
-// A handle may go to another thread. It isn't `Sync`: no two calls overlap.
+// SAFETY: a handle may go to another thread. It isn't `Sync`: no two calls overlap.
 unsafe impl Send for Forwarder {}
 
 impl Forwarder {
@@ -134,9 +134,9 @@ impl Forwarder {
         Ok(Forwarder(NonNull::new(at).ok_or(Error::Null)?, PhantomData))
     }
 
-    /// Holds what was published last: the calls by way of what is returned are answered by it, and cost less. A later
-    /// publish can't be settled meanwhile ([`settle`](crate::Fib::settle) returns `Pending`), so drop it every few
-    /// bursts and before the thread waits.
+    /// A guard that holds the last version: calls through it use that version, and cost less. A later version can't be
+    /// settled meanwhile ([`settle`](crate::Fib::settle) returns `Pending`), so drop it every few bursts and before the
+    /// thread waits.
     ///
     /// ```
     /// use hokhtura::{Fib, FirstLevel};
@@ -166,7 +166,7 @@ impl Forwarder {
         u32::try_from(unsafe { ffi::hk_forward_lookup(self.0.as_ptr(), address.into()) }).ok()
     }
 
-    /// The same for addresses as numbers, all by one publish: at each place of `hops` the number of the next hop for
+    /// The same for addresses as numbers, all in one version: at each place of `hops` the number of the next hop for
     /// the address at that place, or `u32::MAX`.
     ///
     /// # Errors
@@ -237,7 +237,7 @@ fn verdict(number: usize) -> Verdict {
     Verdict::of(number as u32)
 }
 
-/// A reader that holds a publish until this is dropped.
+/// A reader that holds a version until this is dropped.
 #[derive(Debug)]
 pub struct Held<'a>(&'a Forwarder);
 

@@ -1,7 +1,7 @@
 //! One thread's hand on a ring, of any type of word.
 use crate::error::{answer, Error};
 use crate::ffi;
-use crate::word::{bits, Word};
+use crate::word::Word;
 use core::marker::PhantomData;
 use core::ptr::{null, null_mut, NonNull};
 
@@ -26,7 +26,7 @@ impl Mode {
 /// A hand on a ring of words, and how many the ring holds. The marker makes it neither `Send` nor `Sync` by itself.
 pub(crate) struct Hand<T>(NonNull<ffi::Hand>, usize, PhantomData<(T, *mut u8)>);
 
-// A hand may go to another thread with the words that it may take. It isn't `Sync`: no two calls overlap.
+// SAFETY: a hand may go to another thread with the words that it may take. It isn't `Sync`: no two calls overlap.
 unsafe impl<T: Send> Send for Hand<T> {}
 
 fn made<H>(at: *mut H, code: i64) -> Result<NonNull<H>, Error> {
@@ -70,7 +70,7 @@ impl<T: Word> Hand<T> {
     }
 
     pub(crate) fn put_one(&mut self, word: T) -> Result<usize, Error> {
-        answer(unsafe { ffi::hk_ring_try_put_one(self.0.as_ptr(), 0, bits(word)) })
+        answer(unsafe { ffi::hk_ring_try_put_one(self.0.as_ptr(), 0, word.into_bits()) })
     }
 
     pub(crate) fn take_one(&mut self, word: &mut T) -> Result<usize, Error> {

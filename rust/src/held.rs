@@ -2,7 +2,7 @@
 use crate::error::Error;
 use crate::hand::Hand;
 use crate::ring::{Consumer, Producer};
-use crate::word::{bits, of_bits, Word};
+use crate::word::Word;
 use core::fmt;
 
 /// A producer that reserves several positions at once on the put side of a ring, which has to be head/tail-sync, and
@@ -28,7 +28,8 @@ pub struct HeldTakes<'a, T: Word> {
 }
 
 impl<T: Word> Producer<T> {
-    /// Holds the put side from the first word on: reserves up to `most` positions at a time, 1 to `MOST`.
+    /// A guard that holds the put side from its first `put` on: it reserves up to `most` positions at a time, 1 to
+    /// `MOST`.
     ///
     /// ```
     /// use hokhtura::{Mode, Ring};
@@ -54,7 +55,8 @@ impl<T: Word> Producer<T> {
 }
 
 impl<T: Word> Consumer<T> {
-    /// Holds the take side from the first word on: reserves up to `most` words at a time, 1 to `MOST`.
+    /// A guard that holds the take side from its first `take` on: it reserves up to `most` words at a time, 1 to
+    /// `MOST`.
     pub fn hold(&mut self, most: usize) -> HeldTakes<'_, T> {
         HeldTakes { hand: self.hand(), most, left: 0 }
     }
@@ -65,14 +67,14 @@ impl<T: Word> HeldPuts<'_, T> {
     ///
     /// # Errors
     ///
-    /// `Mode` if the side isn't head/tail-sync; `Count` if `most` is 0 or above `MOST`; `NoRoom`; `Again`; `Worn`. The
-    /// word wasn't put then, and the side isn't held.
+    /// `Mode` if the side isn't head/tail-sync; `Open` if an earlier guard was forgotten; `Count` if `most` is 0 or
+    /// above `MOST`; `NoRoom`; `Again`; `Worn`. The word wasn't put then, and the side isn't held.
     #[inline]
     pub fn put(&mut self, word: T) -> Result<(), Error> {
         if self.left == 0 {
             self.left = self.hand.hold_put(self.most)?;
         }
-        self.hand.put_held(bits(word), self.left == 1)?;
+        self.hand.put_held(word.into_bits(), self.left == 1)?;
         self.left -= 1;
         Ok(())
     }
@@ -83,7 +85,7 @@ impl<T: Word> HeldTakes<'_, T> {
     ///
     /// # Errors
     ///
-    /// `NoRoom` if the ring is empty; otherwise as `HeldPuts::put`.
+    /// `NoRoom` if the ring is empty; otherwise as `HeldPuts::put`, but never `Worn`.
     #[inline]
     pub fn take(&mut self) -> Result<T, Error> {
         if self.left == 0 {
@@ -92,8 +94,8 @@ impl<T: Word> HeldTakes<'_, T> {
         let mut word = 0;
         self.hand.take_held(&mut word, self.left == 1)?;
         self.left -= 1;
-        // It was put on this ring, whose words are of this type.
-        Ok(unsafe { of_bits(word) })
+        // SAFETY: it was put on this ring, whose words are of this type.
+        Ok(unsafe { T::of_bits(word) })
     }
 }
 

@@ -1,7 +1,9 @@
 //! Rings, pools of numbers, routes, forwarding of frames and reorder windows of libhokhtura.
 //!
-//! Each handle is used by one thread at a time: it is `Send` and not `Sync`, so the compiler enforces the rule of
-//! `hokhtura.h`. What threads share, a ring, a pool or a table, is reached through a handle of each thread's own.
+//! Each handle is used by one thread at a time: it is `Send` if its words are, and never `Sync`, so the compiler
+//! enforces the rule of `hokhtura.h`. What threads share, a ring, a pool or a table, is reached through a handle of
+//! each thread's own; a handle can't be shared by a reference or lie in a `static`. A `Ring` of raw pointers isn't
+//! `Send`: a type of the program's that is `Send` can implement [`Word`], or a [`Queue`] carries any `Send` type.
 //!
 //! ```
 //! use hokhtura::Ring;
@@ -27,16 +29,25 @@
 //!
 //! A put or a take reserves positions, and then publishes or frees them. No call tries either step more than 1,024
 //! times, and none waits but the iterators that say so. The rings aren't lock-free: a thread that stops in between
-//! blocks that side. Calls of others then return [`Error::Again`] (head/tail-sync) or [`Error::Pending`] (multi). Finish
-//! a pending call before its handle is dropped: otherwise its positions stay reserved forever, and later calls on that
-//! side can't finish. What a thread did before it put a word happens before the take of that word.
+//! blocks that side. Calls of others then return [`Error::Again`] (head/tail-sync) or [`Error::Pending`] (multi).
+//! Finish a pending call before its handle is dropped: otherwise its positions stay reserved forever, and later calls
+//! on that side can't finish. What a thread did before it put a word happens before the take of that word.
 //!
 //! The crate is `no_std` and needs `alloc`. With the feature `std`, which is on by default, iterators that wait let
-//! other threads run; without it they spin.
+//! other threads run; without it they spin. The library below it is for Linux on x86-64 (`x86-64-v2`), needs the C
+//! library, and takes the memory of rings, pools and tables from that, not from Rust's global allocator.
 //!
 //! The memory orders of the library's atomics aren't explored by loom or another model checker here: every atomic
 //! step is on the proved side, which is proved for sequentially consistent atomics, and this crate has none of its
 //! own.
+//!
+//! # Unsafe code
+//!
+//! Nearly all of it is calls of `hokhtura.h`. Each is sound because its handle came from an open, a split or a share
+//! and is freed by its drop alone; because `&mut self`, or `&self` of a type that isn't `Sync`, makes it the only call
+//! on that handle; and because an array goes to it with its own length. The other blocks turn words into bits and back
+//! ([`Word`]), and pointers on a ring into the boxes that they came from. The provenance of a pointer is exposed when
+//! it is put, so that the take may use it again.
 #![no_std]
 #![deny(missing_docs)]
 #![warn(unsafe_op_in_unsafe_fn, clippy::pedantic)]

@@ -17,12 +17,12 @@ pub const POOL_MOST: usize = 4096;
 /// before, until it succeeds. Numbers that weren't put back are lost to the others in any case.
 pub struct Pool(NonNull<ffi::Pool>, PhantomData<*mut u8>);
 
-// A cache may go to another thread with its numbers. It isn't `Sync`: no two calls overlap.
+// SAFETY: a cache may go to another thread with its numbers. It isn't `Sync`: no two calls overlap.
 unsafe impl Send for Pool {}
 
 impl Pool {
-    /// A pool of `n` numbers, 1 to 2^20 - 1, all of them free. Each thread's cache has this size, 0 to 512, and `rings`
-    /// rings, 0 to 63, pass numbers from one handle to another.
+    /// A pool of `n` numbers, 1 to 2^20 - 1, all of them free. Each handle has a cache of the size `cache`, 0 to 512,
+    /// and `rings` rings, 0 to 63, pass numbers from one handle to another.
     ///
     /// # Errors
     ///
@@ -64,7 +64,7 @@ impl Pool {
     ///
     /// # Errors
     ///
-    /// `NoRoom` if cache and free ring have too few, `Again`, `Count`, `Worn`.
+    /// `NoRoom` if cache and free ring have too few, `Again`, `Count`.
     pub fn try_get_bulk(&mut self, numbers: &mut [u32]) -> Result<(), Error> {
         answer(unsafe { ffi::hk_pool_try_get_bulk(self.0.as_ptr(), numbers.as_mut_ptr(), numbers.len()) }).map(drop)
     }
@@ -124,7 +124,7 @@ impl Pool {
     ///
     /// # Errors
     ///
-    /// `NoRoom` if fewer are there, `Ring`, `Again`, `Count`, `Worn`.
+    /// `NoRoom` if fewer are there, `Ring`, `Again`, `Count`.
     pub fn try_receive_bulk(&mut self, ring: usize, numbers: &mut [u32]) -> Result<(), Error> {
         let pool = self.0.as_ptr();
         answer(unsafe { ffi::hk_pool_try_receive_bulk(pool, ring, numbers.as_mut_ptr(), numbers.len()) }).map(drop)
@@ -135,7 +135,7 @@ impl Pool {
     ///
     /// # Errors
     ///
-    /// `NoRoom` if none is queued, `Ring`, `Again`, `Count`, `Worn`.
+    /// `NoRoom` if none is queued, `Ring`, `Again`, `Count`.
     ///
     /// ```
     /// use hokhtura::{Error, Pool};

@@ -1,15 +1,16 @@
-//! A ring of values that own what they have.
+//! A ring of owned values.
 use crate::error::Error;
 use crate::hand::{Hand, Mode};
+use crate::word::Word;
 use alloc::boxed::Box;
 use alloc::sync::Arc;
 use core::fmt;
 
-/// One thread's handle on a ring of values of any type. Each value is in a box while it is on the ring, and it is owned
-/// by one side at a time: a put moves it in, a take moves it out. When the last handle is dropped, the values that are
-/// left on the ring are dropped, too.
+/// One thread's handle on a ring of values of any `Send` type. Each value is in a box while it is on the ring, and it
+/// is owned by one side at a time: a put moves it in, a take moves it out. When the last handle is dropped, the values
+/// that are left on the ring are dropped, too.
 ///
-/// Both sides are head/tail-sync, so no call is pending: it is done, or nothing is changed.
+/// Both sides are head/tail-sync, so no method returns `Pending`: a call is done, or nothing is changed.
 ///
 /// ```
 /// use hokhtura::{Error, Queue};
@@ -30,7 +31,7 @@ pub struct Queue<T> {
     rest: Arc<Rest<T>>,
 }
 
-// A handle may go to another thread with the values that it may take. It isn't `Sync`: no two calls overlap.
+// SAFETY: a handle may go to another thread with the values that it may take. It isn't `Sync`: no two calls overlap.
 unsafe impl<T: Send> Send for Queue<T> {}
 
 /// What all handles share: a hand that is used only at the end. Each handle drops its own hand before it gives this up,
@@ -42,7 +43,7 @@ struct Rest<T> {
 /// A value that was taken off the ring.
 #[allow(clippy::unnecessary_box_returns)] // a caller may keep the box
 fn value<T>(at: *mut T) -> Box<T> {
-    // Each pointer on the ring is that of a box that was given up to it, and is taken once.
+    // SAFETY: each pointer on the ring is that of a box that was given up to it, and a ring returns it once.
     unsafe { Box::from_raw(at) }
 }
 
@@ -53,8 +54,8 @@ impl<T> Drop for Rest<T> {
             return;
         }
         while self.kept.drain(&mut word) == Ok(1) {
-            // A word that is left was put as a pointer.
-            drop(value(unsafe { crate::word::of_bits::<*mut T>(word[0]) }));
+            // SAFETY: a word that is left was put as a pointer.
+            drop(value(unsafe { <*mut T>::of_bits(word[0]) }));
         }
     }
 }
@@ -80,7 +81,7 @@ impl<T: Send> Queue<T> {
         Ok(Queue { hand: self.hand.split()?, rest: Arc::clone(&self.rest) })
     }
 
-    /// Puts a value.
+    /// Puts a value. It allocates the value's box, also if the ring then has no room.
     ///
     /// # Errors
     ///
@@ -89,7 +90,7 @@ impl<T: Send> Queue<T> {
         self.try_put_box(Box::new(value)).map_err(|(value, error)| (*value, error))
     }
 
-    /// Puts a value that is in a box already, and takes no memory.
+    /// Puts a value that is in a box already. It doesn't allocate.
     ///
     /// # Errors
     ///
@@ -107,7 +108,7 @@ impl<T: Send> Queue<T> {
     ///
     /// # Errors
     ///
-    /// `NoRoom` if there is none, `Again`, `Worn`.
+    /// `NoRoom` if there is none, `Again`.
     pub fn try_take(&mut self) -> Result<T, Error> {
         self.try_take_box().map(|boxed| *boxed)
     }
@@ -116,7 +117,7 @@ impl<T: Send> Queue<T> {
     ///
     /// # Errors
     ///
-    /// `NoRoom` if there is none, `Again`, `Worn`.
+    /// `NoRoom` if there is none, `Again`.
     pub fn try_take_box(&mut self) -> Result<Box<T>, Error> {
         let mut at = core::ptr::null_mut();
         self.hand.take_one(&mut at).map(|_| value(at))

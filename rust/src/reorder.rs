@@ -1,7 +1,7 @@
 //! A window that returns words in the order of their numbers.
 use crate::error::{answer, Error};
 use crate::ffi;
-use crate::word::{bits, of_bits, Word};
+use crate::word::Word;
 use core::fmt;
 use core::iter::FusedIterator;
 use core::marker::PhantomData;
@@ -10,7 +10,7 @@ use core::ptr::{null_mut, NonNull};
 /// Words that wait for their turn, each with its number.
 pub struct Reorder<T: Word>(NonNull<ffi::Window>, PhantomData<(T, *mut u8)>);
 
-// A window may go to another thread with its words. It isn't `Sync`: no two calls overlap.
+// SAFETY: a window may go to another thread with its words. It isn't `Sync`: no two calls overlap.
 unsafe impl<T: Word + Send> Send for Reorder<T> {}
 
 impl<T: Word> Reorder<T> {
@@ -43,7 +43,7 @@ impl<T: Word> Reorder<T> {
     ///
     /// `Late`, `Early`, `Double`.
     pub fn insert(&mut self, number: u64, word: T) -> Result<(), Error> {
-        answer(unsafe { ffi::hk_reorder_insert(self.0.as_ptr(), number, bits(word)) }).map(drop)
+        answer(unsafe { ffi::hk_reorder_insert(self.0.as_ptr(), number, word.into_bits()) }).map(drop)
     }
 
     /// Takes the word whose turn it is, if it has arrived.
@@ -51,8 +51,8 @@ impl<T: Word> Reorder<T> {
         let mut word = 0;
         let code = unsafe { ffi::hk_reorder_pop(self.0.as_ptr(), &raw mut word) };
         debug_assert!(code == 0 || code == ffi::NOTHING);
-        // A word of the window was inserted as a `T`.
-        (code == 0).then(|| unsafe { of_bits(word) })
+        // SAFETY: a word of the window was inserted as a `T`.
+        (code == 0).then(|| unsafe { T::of_bits(word) })
     }
 
     /// Takes the words whose turn it is, at most as many as there are places. Returns how many are at the front of

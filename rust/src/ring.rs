@@ -2,21 +2,25 @@
 use crate::error::Error;
 use crate::hand::{Hand, Mode};
 use crate::relax;
-use crate::word::{of_bits, Word};
+use crate::word::Word;
 use core::fmt;
 use core::iter::FusedIterator;
 
 /// A ring of words, with this thread's hand on it. Other threads use hands that are split off.
+///
+/// When the last handle is dropped, the words that are left on the ring are discarded. A handle that is dropped while a
+/// call of it is pending, also by unwinding, leaves its positions reserved: that side of the ring is blocked for good.
+/// No method panics.
 pub struct Ring<T: Word> {
     hand: Hand<T>,
 }
 
-/// A thread's handle for putting words on a ring.
+/// A thread's handle for putting words on a ring. It is dropped as a [`Ring`] is.
 pub struct Producer<T: Word> {
     hand: Hand<T>,
 }
 
-/// A thread's handle for taking words from a ring.
+/// A thread's handle for taking words from a ring. It is dropped as a [`Ring`] is.
 pub struct Consumer<T: Word> {
     hand: Hand<T>,
 }
@@ -38,7 +42,7 @@ macro_rules! puts {
         ///
         /// # Errors
         ///
-        /// Those of `try_put_bulk`.
+        /// Those of `try_put_bulk`. Near the ring's last position a burst isn't shortened: it is `Worn`.
         pub fn try_put_burst(&mut self, words: &[T]) -> Result<usize, Error> {
             self.hand.put(words, false)
         }
@@ -47,16 +51,17 @@ macro_rules! puts {
         ///
         /// # Errors
         ///
-        /// Those of `try_put_bulk` but `Count`. After `Pending`, `finish_put` with this word alone puts it.
+        /// Those of `try_put_bulk` but `Count`. After `Pending`, call `finish_put` with this word alone.
         pub fn try_put_one(&mut self, word: T) -> Result<(), Error> {
             self.hand.put_one(word).map(drop)
         }
 
-        /// Finishes a put that returned `Pending`, with the same words. Returns how many were put.
+        /// Finishes a put that returned `Pending`, with the same slice. Returns how many of its first words were put;
+        /// after a burst these may be fewer than all.
         ///
         /// # Errors
         ///
-        /// `Pending`: not yet. `NotOpen`: no put is open. `Count`: these are more words than it reserved.
+        /// `Pending`: not yet. `NotOpen`: no put is open. `Count`: the slice has fewer words than were reserved.
         pub fn finish_put(&mut self, words: &[T]) -> Result<usize, Error> {
             self.hand.finish_put(words)
         }
@@ -72,13 +77,13 @@ macro_rules! puts {
 
 macro_rules! takes {
     () => {
-        /// Takes as many words as there are places, or none. Returns how many.
+        /// Fills the slice with the oldest words, or takes none. Returns how many.
         ///
         /// # Errors
         ///
         /// `Count` if there are no places or more than `MOST`, on a multi side `MOST_ON_MULTI`; `NoRoom` if too few
-        /// words are queued; `Again`; `Worn`; `Open`: an earlier call of this handle is pending. `Pending`: the words
-        /// are at the front of the slice already, and `finish_take` takes them off the ring.
+        /// words are queued; `Again`; `Open`: an earlier call of this handle is pending. `Pending`: the words are at
+        /// the front of the slice already, and `finish_take` takes them off the ring.
         pub fn try_take_bulk(&mut self, words: &mut [T]) -> Result<usize, Error> {
             self.hand.take(words, true)
         }
@@ -97,24 +102,26 @@ macro_rules! takes {
         ///
         /// # Errors
         ///
-        /// Those of `try_take_bulk` but `Count`. At `Pending` the word is in its place already, and `finish_take` with
-        /// 1 takes it off the ring.
+        /// Those of `try_take_bulk` but `Count`. At `Pending` the word is written already, and `finish_take` with 1
+        /// takes it off the ring.
         pub fn try_take_one(&mut self, word: &mut T) -> Result<(), Error> {
             self.hand.take_one(word).map(drop)
         }
 
-        /// Finishes a take that returned `Pending`, for a slice of `n` places. Returns how many words were taken.
+        /// Finishes a take that returned `Pending`, with `n` the length of its slice. Returns how many words were
+        /// taken.
         ///
         /// # Errors
         ///
-        /// `Pending`: not yet. `NotOpen`: no take is open. `Count`: these are more words than it reserved.
+        /// `Pending`: not yet. `NotOpen`: no take is open. `Count`: `n` is less than what was reserved.
         pub fn finish_take(&mut self, n: usize) -> Result<usize, Error> {
             self.hand.finish_take(n)
         }
 
-        /// The words that are queued, one after the other, until none is left or other threads come first: so `None`
-        /// doesn't mean that the ring is empty. Each is taken as it is returned. While an earlier take of another
-        /// thread isn't finished, it waits, without a limit.
+        /// The words that are queued, one after the other. Each is taken as it is returned. It ends at any error: the
+        /// ring is empty, other threads came first (`Again`), or an earlier take of this handle is pending (`Open`). So
+        /// `None` doesn't mean that the ring is empty. While an earlier take of another thread isn't finished, it
+        /// waits, without a limit.
         pub fn taken(&mut self) -> Taken<'_, T> {
             Taken { hand: &mut self.hand, ended: false }
         }
@@ -277,8 +284,8 @@ impl<T: Word> Iterator for Taken<'_, T> {
             taken = self.hand.finish_take(1);
         }
         self.ended = taken != Ok(1);
-        // A word that was taken was put as a `T`.
-        (!self.ended).then(|| unsafe { of_bits(word) })
+        // SAFETY: a word that was taken was put as a `T`.
+        (!self.ended).then(|| unsafe { T::of_bits(word) })
     }
 }
 
@@ -296,8 +303,8 @@ impl<T: Word> Iterator for Left<T> {
     fn next(&mut self) -> Option<T> {
         let mut word = [0];
         let count = self.hand.drain(&mut word).ok()?;
-        // A word that is left was put as a `T`.
-        (count == 1).then(|| unsafe { of_bits(word[0]) })
+        // SAFETY: a word that is left was put as a `T`.
+        (count == 1).then(|| unsafe { T::of_bits(word[0]) })
     }
 }
 

@@ -27,7 +27,7 @@ impl FirstLevel {
 /// A table of routes to IPv4 prefixes, each with a next hop below 2^24.
 pub struct Routes(NonNull<ffi::Table>, PhantomData<*mut u8>);
 
-// A handle may go to another thread. It isn't `Sync`: no two calls overlap.
+// SAFETY: a handle may go to another thread. It isn't `Sync`: no two calls overlap.
 unsafe impl Send for Routes {}
 
 impl Routes {

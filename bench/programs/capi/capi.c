@@ -6,7 +6,7 @@
  *                                     turn
  *   capi pools                        one thread gets numbers of a pool through its cache and puts them again: ns a number
  *   capi lookups                      lookups with 1,000 routes, one by one and in bursts of 32, in a table and by a reader
- *   capi publishes                    100 changes of 1,000 routes and their publish, beside three readers: us
+ *   capi publishes                    100 changes of 1,000 routes that are published, while three readers look up: us
  *   capi memory twice|whole           what 60,000 routes take in a forwarding table, which has two copies, and in a table
  *   capi forwards                     frames of 64 bytes by 1,000 routes, half of them routed, in bursts of 32 and alone, by
  *                                     the names that yardsticks/ipv4.c prints
@@ -247,7 +247,7 @@ static void reads_of(hk_forward *reader, const uint32_t *hits, const uint32_t *a
 	report(name, ns, "ns/lookup");
 }
 
-/* The same addresses by readers of forwarding tables: by one that takes the last publish at each call, and by one that
+/* The same addresses by readers of forwarding tables: by one that takes the last version at each call, and by one that
  * holds it. */
 static void reads(void)
 {
@@ -344,7 +344,7 @@ static void memory(int twice)
 	hk_fib *fib = NULL;
 	if (twice) {
 		fib = fib_of(routes, 60000, NULL, 0, NULL, 0);
-		/* The second copy gets the changes of the publish. */
+		/* The second copy gets the published changes. */
 		DONE(hk_fib_add(fib, routes[0].address, routes[0].depth, 1));
 	} else if (hk_routes_open(&table, 24, 8192) < 0) exit(1);
 	for (unsigned i = 0; !twice && i < 60000; i++)
