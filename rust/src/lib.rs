@@ -3,7 +3,7 @@
 //! Each handle is used by one thread at a time: it is `Send` if its words are, and never `Sync`, so the compiler
 //! enforces the rule of `hokhtura.h`. What threads share, a ring, a pool or a table, is reached through a handle of
 //! each thread's own; a handle can't be shared by a reference or lie in a `static`. A `Ring` of raw pointers isn't
-//! `Send`: a type of the program's that is `Send` can implement [`Word`], or a [`Queue`] carries any `Send` type.
+//! `Send`: a `Ring` carries addresses (`pointer as usize`), or a [`Queue`] values of any `Send` type.
 //!
 //! ```
 //! use hokhtura::Ring;
