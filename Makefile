@@ -29,7 +29,7 @@ help:
 	@echo 'make dist       packs what make build and make lib left into out/hokhtura-VERSION-x86_64-linux.tar.gz: seconds'
 	@echo 'make deb        the same as Debian packages, in out: seconds'
 	@echo 'make uninstall  removes these again: at once'
-	@echo 'make test       the merge gate: every proof from nothing, must-fail edits, tests, programs, documents: some hours'
+	@echo 'make test       the merge gate: every proof from nothing, mutants, tests, programs, documents: some hours'
 	@echo 'make bench      measures one part beside its yardstick, NAME=$(NAME): minutes, on a quiet machine'
 	@echo
 	@echo 'Minutes are of one processor; several work side by side where there are several. What can be set, as in'
@@ -58,13 +58,13 @@ compare:
 	@for port in $(OUT).alone.*.pcap; do cmp $$port $(OUT)$${port#$(OUT).alone} || exit 1; done
 	@echo "compare: by one thread the same bytes at each port"
 
-# The merge gate: the tests, built without proofs; every proof from nothing, the must-fail edits and the programs; then
-# that there is what refuses each wrong body of the table; the C library over what was proved, and its tests from C, C++
+# The merge gate: the tests, built without proofs; every proof from nothing, the mutants and the programs; then that
+# there is what refuses each wrong body of the table; the C library over what was proved, and its tests from C, C++
 # and Rust; the packages; and, with the program that was proved there, the cases of tests/transcripts, runs over large
 # captures, runs that are refused memory, and the commands of the documents.
 test:
 	tools/try-tests
-	tools/build-capi rt ci
+	tools/run-gate rt ci
 	tools/try-bodies
 	ARCHIVE=$(CURDIR)/out/libcapi.a tools/try-capi
 	PKTKIT=$(CURDIR)/crates/pktkit/out/pktkit ARCHIVE=$(CURDIR)/out/libcapi.a tools/try-dist

@@ -4,8 +4,11 @@ import os
 import re
 from typing import NamedTuple
 
+from workspace import TOP
+
 FUNCTION = re.compile(r"( *)(?:pub(?:\([^)]*\))? )?(?:const )?(?:unsafe )?(?:extern \S+ )?fn (\w+)")
 LABEL = re.compile(r"\s*ensures (\w+) \{")
+IN_THE_TABLE = re.compile(r"`(\w+)/(\w+)`")
 OF_A_CLAUSE = re.compile(r"(returns|invariant_of|loop)\b.*-clause-(\w+)$")
 
 
@@ -17,6 +20,19 @@ class Mutant(NamedTuple):
     labels: frozenset  # the labels of the clauses of these functions; a `*` if a trait's clauses are among them
     clause: str  # where it is meant to be refused, if the file says so
     why: str  # why it can't be applied
+
+
+def last_cells():
+    """The last cell of each row of the table of wrong bodies in docs/PROVING.md: what refuses each."""
+    section = read_text(os.path.join(TOP, "docs", "PROVING.md")).split("\n## Wrong bodies\n")[1].split("\n## ")[0]
+    rows = [line.strip("| ") for line in section.splitlines() if line.startswith("| ")]
+    return [row.rsplit(" | ", 1)[-1] for row in rows[1:]]
+
+
+def of_the_gate(crate):
+    """The names of the mutants in mutants/CRATE that the gate tries: those that the table of wrong bodies names."""
+    named = {name for cell in last_cells() for at, name in IN_THE_TABLE.findall(cell) if at == crate}
+    return sorted(name for name in named if os.path.exists(os.path.join(TOP, "mutants", crate, f"{name}.edit")))
 
 
 def owner_of(line):

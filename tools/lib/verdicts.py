@@ -72,10 +72,14 @@ def copy_kept(crate, room):
 
 
 class Copy:
-    """A copy of the crates, in which one of them is changed and checked."""
+    """A copy of the crates, in which one of them is changed and checked: by `rt check` with these words, or by the
+    command that `compiler` gives, over the libraries of a gate."""
 
-    def __init__(self, crate, words):
-        self.crate, self.words, self.room = crate, words, tempfile.mkdtemp(prefix="try-mutants.")
+    def __init__(self, crate, words, compiler=None):
+        self.room = tempfile.mkdtemp(prefix="try-mutants.")
+        # What one check of the copy proves, the next ones take.
+        kept = ["--incremental", os.path.join(self.room, "kept")]
+        self.command = [*(compiler("check", crate) + kept if compiler else ["rt", "check"]), *words]
         self.folder = os.path.join(self.room, "crates", crate)
         words = ["git", "ls-files", "-co", "--exclude-standard", "-z", "crates", "crates.txt", "HANDLES"]
         listed = subprocess.run(words, capture_output=True, text=True, check=True)
@@ -83,7 +87,8 @@ class Copy:
             if os.path.isfile(file):
                 os.makedirs(os.path.dirname(os.path.join(self.room, file)), exist_ok=True)
                 shutil.copy2(file, os.path.join(self.room, file))
-        copy_kept(crate, self.room)
+        if not compiler:
+            copy_kept(crate, self.room)
 
     def __enter__(self):
         return self
@@ -117,15 +122,15 @@ class Copy:
         """The report of a check with these mutants: of the whole crate, or of the functions that they change."""
         texts = self.texts(mutants)
         was = {path: read_text(path) for path in texts}
-        names = {function and function[1] for mutant in mutants for function in mutant.functions}
-        is_whole = is_whole or None in names
-        only = [] if is_whole else [word for name in sorted(names) for word in ("--only", name)]
+        changed = {function for mutant in mutants for function in mutant.functions}
+        paths = [] if is_whole or None in changed else sorted("::".join(filter(None, one)) for one in changed)
+        only = [word for path in paths for word in ("--only", path)]
         how = {"stdin": subprocess.DEVNULL, "stdout": subprocess.PIPE, "stderr": subprocess.STDOUT, "errors": "replace"}
         self.write(texts)
-        ran = subprocess.run(["rt", "check", *self.words, *only], cwd=self.folder, check=False, **how)
+        ran = subprocess.run([*self.command, *only], cwd=self.folder, check=False, **how)
         self.write(was)
-        changed = {os.path.relpath(path, self.folder): text for path, text in texts.items()}
-        return Report(ran.returncode, ran.stdout, changed)
+        files = {os.path.relpath(path, self.folder): text for path, text in texts.items()}
+        return Report(ran.returncode, ran.stdout, files)
 
     @staticmethod
     def write(texts):
@@ -251,11 +256,11 @@ def judge(copy, mutants, found):
     return hidden
 
 
-def judge_all(crate, mutants, words):
+def judge_all(crate, mutants, words, compiler=None):
     """The verdict on each of these mutants of a crate."""
     found = {mutant: Verdict(BAD, why=mutant.why) for mutant in mutants if mutant.why}
     left = [mutant for mutant in mutants if not mutant.why]
-    with Copy(crate, words) as copy:
+    with Copy(crate, words, compiler) as copy:
         while left:
             chosen = copy.together(left)
             hidden = judge(copy, chosen, found)

@@ -15,9 +15,14 @@ def lines_of(path):
     return [line for line in stripped if line]
 
 
+def all_crates():
+    """The lines of crates.txt by the names of the crates, lowest first."""
+    return {line.split(":")[0].split()[0]: line for line in lines_of(os.path.join(TOP, "crates.txt"))}
+
+
 def needed(wanted):
     """The lines of crates.txt for these crates and for all their dependencies."""
-    listed = {line.split(":")[0].split()[0]: line for line in lines_of(os.path.join(TOP, "crates.txt"))}
+    listed = all_crates()
     found, waiting = {}, list(wanted)
     while waiting:
         crate = waiting.pop()

@@ -31,7 +31,7 @@ use Rattle.pool.specs.declared.store.Store.{Ghosts as StoreGhosts}
 use Rattle.pool_laws.specs.Beside.{Receives, Sends, unsent_of}
 use Rattle.pool_laws.specs.Hands.{IsIn, IsSameIn, view_in}
 use Rattle.pool.specs.Locals.{HasSameHand, cache_of, hand_of, view_of}
-use Rattle.pool_laws.proofs.Asking.{bulk_all}
+use Rattle.pool_laws.proofs.Requests.{bulk_all}
 use Rattle.pool.proofs.Shown.{whole_shown}
 use Rattle.ringapi.proofs.Counts.{count_both}
 use Rattle.ringapi.proofs.Singles.{single_both}

@@ -10,7 +10,7 @@ use Rattle.ringcore_laws.specs.History.{position_of, room_by_look}
 use Rattle.ringcore_laws.specs.Party.{with_open}
 use Rattle.fabric_laws.specs.declared.view.View.{View}
 use Rattle.fabric.specs.Hands.{OnRing, rings_of}
-use Rattle.fabric.specs.Starts.{MayAsk, Starts}
+use Rattle.fabric.specs.Starts.{MayStart, Starts}
 use Rattle.fabric.proofs.Told.{granted_few, ring_at}
 use Rattle.capi.specs.Members.{Rings}
 use Rattle.capi.specs.Spans.{HasReserved, IsAsked, tags}
@@ -24,7 +24,7 @@ module _ (f : Rings) (most : ℕ) (how : How) (n ring : ℕ) (side : Side) (v : 
   pub reserved_of : (span : Span) (left : ℕ) (shown : List Word64) (w : View Word64) → ring < length (rings_of f)
       → span.ring ≡ ring → span.side ≡ side
       → OnRing f ring (λ plan. Starts tags how n ring side plan v span.start span.count left shown w)
-      → OnRing f ring (λ plan. MayAsk tags most n side plan v) → w.party ≡ with_open v.party span
+      → OnRing f ring (λ plan. MayStart tags most n side plan v) → w.party ≡ with_open v.party span
       → HasReserved f most how n ring side v span left shown w
   reserved_of span left shown w there at on starts may opened =
       let p = ring_at (rings_of f) ring there in

@@ -84,7 +84,7 @@ AtFib (Some (object.Pool p)) new outcome does = IsOther outcome (object.Pool p) 
 AtFib (Some (object.Routes t)) new outcome does = IsOther outcome (object.Routes t) new
 AtFib (Some (object.Reorder w)) new outcome does = IsOther outcome (object.Reorder w) new
 
--- no routes, and these next hops and ports, are published, and nothing else is drawn up
+-- no routes, and these next hops and ports, are published, and nothing else is prepared
 pub record IsOpened (r : State) (bits groups : ℕ) (ports : List Port) (hops : List Hop) : Type 0 where
   pub seen : r.seen ≡ only (opening bits groups hops ports)
   pub drawn : r.drawn ≡ opening bits groups hops ports
@@ -200,7 +200,7 @@ pub record IsSettled (answer : Result (Unit {0}) LiveFault) (r s : State) : Type
 abbrev pub Settles : Outcome → State → State → Type 0
 Settles outcome r s = (answer : Result (Unit {0}) LiveFault) × (outcome ≡ done_of answer) × IsSettled answer r s
 
--- the next hop's number of exactly this route among those that are drawn up, or why there is none
+-- the next hop's number of exactly this route among those that are prepared, or why there is none
 abbrev pub got_of : Result ℕ RouteFault → Outcome
 got_of (Ok hop) = Ok hop
 got_of (Err why) = Err (fault_of why)
@@ -215,7 +215,7 @@ abbrev pub Gets : Outcome → ℕ → ℕ → State → State → Type 0
 Gets outcome address depth r s =
     (s ≡ r) × ((answer : Result ℕ RouteFault) × (outcome ≡ got_of answer) × IsGot answer address (depth_of depth) r.drawn)
 
--- the first route that is drawn up and isn't before this address and depth, or none is
+-- the first route that is prepared and isn't before this address and depth, or none is
 abbrev pub Walks : Outcome → ℕ → ℕ → FibRoute → FibRoute → State → State → Type 0
 Walks (Ok count) address depth before after r s =
     (s ≡ r) × (count ≡ 0)

@@ -214,7 +214,7 @@ pub extern "C" fn hkx_fib_share(alloc: Global, h: &mut Handle, second: &mut Hand
     answer(share_at(alloc, h, second))
 }
 
-/// Draws up a route, or another next hop of its prefix.
+/// Prepares a route, or another next hop of its prefix.
 #[unsafe(no_mangle)]
 pub extern "C" fn hkx_fib_add(
     alloc: Global,
@@ -228,7 +228,7 @@ pub extern "C" fn hkx_fib_add(
     answer(add_at(alloc, h, address, depth, hop))
 }
 
-/// Draws up the removal of a route.
+/// Prepares the removal of a route.
 #[unsafe(no_mangle)]
 pub extern "C" fn hkx_fib_remove(alloc: Global, h: &mut Handle, address: u32, depth: u32) -> i64
     ensures { Answers result (λ outcome. AtFib h.old.value h.new.value outcome (Removes outcome address depth)) }
@@ -236,7 +236,7 @@ pub extern "C" fn hkx_fib_remove(alloc: Global, h: &mut Handle, address: u32, de
     answer(remove_at(alloc, h, address, depth))
 }
 
-/// Draws up the removal of all routes.
+/// Prepares the removal of all routes.
 #[unsafe(no_mangle)]
 pub extern "C" fn hkx_fib_clear(alloc: Global, h: &mut Handle) -> i64
     ensures { Answers result (λ outcome. AtFib h.old.value h.new.value outcome (Clears outcome)) }
@@ -244,7 +244,7 @@ pub extern "C" fn hkx_fib_clear(alloc: Global, h: &mut Handle) -> i64
     answer(clear_at(alloc, h))
 }
 
-/// Draws up another next hop of a number.
+/// Prepares another next hop of a number.
 #[unsafe(no_mangle)]
 pub extern "C" fn hkx_fib_set_hop(alloc: Global, h: &mut Handle, number: u32, hop: &Hop) -> i64
     ensures { Answers result (λ outcome. AtFib h.old.value h.new.value outcome (SetsHop outcome number hop.now)) }
@@ -252,7 +252,7 @@ pub extern "C" fn hkx_fib_set_hop(alloc: Global, h: &mut Handle, number: u32, ho
     answer(set_hop_at(alloc, h, number, hop))
 }
 
-/// Draws up another port of a number.
+/// Prepares another port of a number.
 #[unsafe(no_mangle)]
 pub extern "C" fn hkx_fib_set_port(alloc: Global, h: &mut Handle, number: u32, port: &Port) -> i64
     ensures { Answers result (λ outcome. AtFib h.old.value h.new.value outcome (SetsPort outcome number port.now)) }
@@ -260,7 +260,7 @@ pub extern "C" fn hkx_fib_set_port(alloc: Global, h: &mut Handle, number: u32, p
     answer(set_port_at(alloc, h, number, port))
 }
 
-/// Publishes all that is drawn up at once. Readers that are in no call see it from their next call on, and the others
+/// Publishes all that is prepared at once. Readers that are in no call see it from their next call on, and the others
 /// once a further call of the writer isn't pending.
 #[unsafe(no_mangle)]
 pub extern "C" fn hkx_fib_publish(alloc: Global, h: &mut Handle) -> i64
@@ -287,7 +287,7 @@ pub extern "C" fn hkx_fib_pending(alloc: Global, h: &mut Handle) -> i64
     answer(pending_at(alloc, h))
 }
 
-/// How many routes there are, with those that are drawn up.
+/// How many routes there are, with those that are prepared.
 #[unsafe(no_mangle)]
 pub extern "C" fn hkx_fib_count(alloc: Global, h: &mut Handle) -> i64
     ensures { Answers result (λ outcome. AtFib h.old.value h.new.value outcome

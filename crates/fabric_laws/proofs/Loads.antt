@@ -27,7 +27,7 @@ use Rattle.ringcore_laws.proofs.FreeRoom.{room_for_all}
 use Rattle.fabric_laws.specs.declared.view.View.{View}
 use Rattle.fabric_laws.specs.Rule.{IsConsistent, IsTrueView, parties_of_views}
 use Rattle.fabric_laws.specs.Words.{own_at, settled_word_at}
-use Rattle.fabric_laws.specs.Changes.{view_after_look, asked, found_busy, looked, missed}
+use Rattle.fabric_laws.specs.Changes.{view_after_look, view_after_room, found_busy, looked, missed}
 use Rattle.fabric_laws.specs.Kinds.{HasRoom, IsNear, ReadsBack, look_tells, room_tells}
 use Rattle.fabric_laws.proofs.Lanes.{own_same}
 use Rattle.fabric_laws.proofs.Steps.{St, base_low, position_base, position_is, side_ruled, stays, take_base, word_is}
@@ -163,10 +163,10 @@ module _ {T : Type 0} (tags : T → List ℕ) (plans : List RingPlan) (pool : �
             ∙ position_base plan.geometry Hts other (λ _. (side_ruled tags plans pool s c r plan at (other_side side)).small e)
 
     module _ (o : Observed) (seen : v.observed ≡ Some o) (on_ring : o.ring ≡ r) (on_side : o.side ≡ side) where
-      asked_true : IsTrueView plans (parties_of_views s.views) (asked other.len v)
-      asked_true =
+      room_true : IsTrueView plans (parties_of_views s.views) (view_after_room other.len v)
+      room_true =
           let old = (c.views id v here).observed o seen in
-          still_true s c id v here alive r plan at (asked other.len v) refl refl
+          still_true s c id v here alive r plan at (view_after_room other.len v) refl refl
           (λ q e. subst (λ (z : Observed). TrueObserved plans (parties_of_views s.views) z × IsBehind plans (parties_of_views s.views) z)
           (same_plan (sym (ap (λ z. with_tail z other.len) seen) ∙ e)) (
             record {
@@ -226,11 +226,11 @@ module _ {T : Type 0} (tags : T → List ℕ) (plans : List RingPlan) (pool : �
         words = set s.words (settled_word_at (mode_of plan (other_side side)) r (other_side side))
             (get_or s.words (settled_word_at (mode_of plan (other_side side)) r (other_side side)) 0);
         homes = s.homes;
-        views = set s.views id (asked other.len v);
+        views = set s.views id (view_after_room other.len v);
       }
       room_stays =
-          stays tags plans pool s c (settled_word_at (mode_of plan (other_side side)) r (other_side side)) id v (asked other.len v) here alive refl refl refl
-          refl asked_true
+          stays tags plans pool s c (settled_word_at (mode_of plan (other_side side)) r (other_side side)) id v (view_after_room other.len v) here alive refl refl refl
+          refl room_true
 
       pub room_found : ReadsBack r (other_side side) other.len v × (other.len ≤ plan.geometry.last)
           × IsNear side plan.geometry.capacity (position_of plan.geometry (mode_of plan side) o.looked_at) other.len
@@ -254,7 +254,7 @@ module _ {T : Type 0} (tags : T → List ℕ) (plans : List RingPlan) (pool : �
       let tail : position_of plan.geometry (mode_of plan (other_side side)) x ≡ (side_of (parties_of_views s.views) r (other_side side)).len =
       tail_is s c id v here alive r side plan at in
       let got = room_found s c id v here alive r side plan at o seen on_ring on_side in (
-        asked (side_of (parties_of_views s.views) r (other_side side)).len v,
+        view_after_room (side_of (parties_of_views s.views) r (other_side side)).len v,
         keeps,
         tt,
         room_stays s c id v here alive r side plan at o seen on_ring on_side,
@@ -266,10 +266,10 @@ module _ {T : Type 0} (tags : T → List ℕ) (plans : List RingPlan) (pool : �
             let is : plan ≡ plan' = same_plan (sym at ∙ (ap (slice_get plans) to ∙ told)) in
             subst (λ (z : ℕ × Side × RingPlan × Observed). let t = position_of z.2.geometry (mode_of z.2 (other_side z.1)) x in let p =
             position_of z.2.geometry (mode_of z.2 z.1) z.3.looked_at in
-            (◌≡◌ {A = View T} (asked (side_of (parties_of_views s.views) r (other_side side)).len v) (asked t v)) × (me.1 ≡ me.1)
+            (◌≡◌ {A = View T} (view_after_room (side_of (parties_of_views s.views) r (other_side side)).len v) (view_after_room t v)) × (me.1 ≡ me.1)
             × ReadsBack z.0 (other_side z.1) t v × (t ≤ z.2.geometry.last)
             × IsNear z.1 z.2.geometry.capacity p t × (v.party.span ≡ None → HasRoom tags z.1 z.2 p t v)) (λ k. (to k, across k, is k, same_o k))
-            (subst (λ (t : ℕ). (◌≡◌ {A = View T} (asked (side_of (parties_of_views s.views) r (other_side side)).len v) (asked t v)) × (me.1 ≡ me.1)
+            (subst (λ (t : ℕ). (◌≡◌ {A = View T} (view_after_room (side_of (parties_of_views s.views) r (other_side side)).len v) (view_after_room t v)) × (me.1 ≡ me.1)
             × ReadsBack r (other_side side) t v × (t ≤ plan.geometry.last)
             × IsNear side plan.geometry.capacity (position_of plan.geometry (mode_of plan side) o.looked_at) t
             × (v.party.span ≡ None → HasRoom tags side plan (position_of plan.geometry (mode_of plan side) o.looked_at) t v))

@@ -12,7 +12,7 @@ module _ {H P : Type 0} where
   same_some : (d f g : Forwarding H P) → Some f ≡ Some g → f ≡ g
   same_some d f g e = ap (or_else d) e
 
-  -- the copy that was drawn up is published, and the one before it is behind
+  -- the copy that was prepared is published, and the one before it is behind
   pub published : (p q : Publishing (Forwarding H P)) (spare left_over : Option (Forwarding H P)) (ready : Bool)
       (log : List (Change H P)) (fib : Forwarding H P)
       → IsRouting p spare ready log → ready ≡ true → spare ≡ Some fib → left_over ≡ None → q.seen ≡ followed p.seen fib

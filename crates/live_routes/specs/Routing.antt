@@ -33,7 +33,7 @@ or_else d None = d
 or_else d (Some x) = x
 
 module _ {H P : Type 0} where
-  -- what is drawn up: the copy that the writer has, if it has all changes
+  -- what is prepared: the copy that the writer has, if it has all changes
   abbrev pub drawn_of : Past (Forwarding H P) → Option (Forwarding H P) → Bool → Forwarding H P
   drawn_of seen spare ready = if ready then or_else seen.latest spare else seen.latest
 
@@ -53,7 +53,7 @@ module _ {H P : Type 0} where
     -- the second copy is in one place
     pub apart : IsSome spare → p.behind ≡ None
 
-  -- one change more is drawn up
+  -- one change more is prepared
   abbrev pub drew : Routing H P → Forwarding H P → Routing H P
   drew r f = record r { drawn = f; pending = r.pending + 1 }
 
@@ -64,7 +64,7 @@ module _ {H P : Type 0} where
     pub settled : new.settled ≡ true
     pub pending : new.pending ≡ old.pending + 1
 
-  -- a call changed nothing that is published or drawn up
+  -- a call changed nothing that is published or prepared
   pub record Keeps (old new : Routing H P) : Type 0 where
     pub drawn : new.drawn ≡ old.drawn
     pub seen : new.seen ≡ old.seen

@@ -134,7 +134,7 @@ impl<H: Copy, P: Copy> RouteWriter<H, P> {
         }
     }
 
-    /// Publishes what is drawn up: each reader takes it at its next call. `settle`, which is tried here once, gets the
+    /// Publishes what is prepared: each reader takes it at its next call. `settle`, which is tried here once, gets the
     /// copy before it back for the writer. Errors: 7 `Pending` where the publish before isn't settled, 4 `Memory`. An
     /// error changes nothing that callers see but `settled`.
     pub fn publish(&mut self) -> Result<(), LiveFault>
@@ -153,7 +153,7 @@ impl<H: Copy, P: Copy> RouteWriter<H, P> {
         Ok(())
     }
 
-    /// Publishes what is drawn up, and doesn't try to get the copy before it back. The only error is 4 `Memory`.
+    /// Publishes what is prepared, and doesn't try to get the copy before it back. The only error is 4 `Memory`.
     fn publish_settled(&mut self) -> Result<(), LiveFault>
         requires { self.old.settled ≡ true }
         ensures ok { OnOk result

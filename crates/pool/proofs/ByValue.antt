@@ -5,7 +5,7 @@ use Rattle.geom.specs.declared.plan.RingPlan.{RingPlan}
 use Rattle.burst.specs.declared.tagged.Tagged.{Ghosts}
 use Rattle.fabric.specs.declared.stored.Stored.{Ghosts as StoredGhosts}
 use Rattle.fabric.specs.declared.hand.Hand.{Hand}
-use Rattle.pool_laws.specs.Asks.{Fetches}
+use Rattle.pool_laws.specs.Requests.{Fetches}
 use Rattle.pool_laws.specs.Calls.{SameAnswer}
 use Rattle.pool.specs.Calls.{GetTells}
 use Rattle.pool.specs.Locals.{cache_of, cache_size, hand_of, ring_of, view_of}

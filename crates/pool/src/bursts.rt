@@ -4,16 +4,17 @@ ghost use Rattle.ringcore_laws.specs.FreeRings.{AreSingle};
 ghost use Rattle.fabric.specs.Hands.{IsHandOf, OnRing, view};
 ghost use Rattle.fabric.specs.CacheHands.{IsCacheHandOf, Keeps, SameCacheHand, view_of_cache_hand};
 ghost use Rattle.fabric.specs.Settles.{AreOwnBuffers};
-ghost use Rattle.pool_laws.specs.Asks.{Fetches, Flushes, Sheds, Spills};
+ghost use Rattle.pool_laws.specs.Requests.{Fetches, Flushes, Sheds, Spills};
 ghost use Rattle.pool_laws.specs.Hands.{IsFreeOf};
 
+use crate::hands::carries;
 use crate::list_moves::{part, push_all, serve};
 use crate::ring_requests::{put_bulk, refill};
 use crate::set_aside::{keep_back, whole_hand};
 use crate::store::{Accepts, Gives, Store};
 use burst::{Burst, Tagged};
 use fabric::{CacheHand, Fabric, Hand, Stored};
-use pool_laws::{PoolFault, carries};
+use pool_laws::PoolFault;
 use std::sync::Wait;
 
 /// Moves the items after the first `k` of a cache into an empty list, the newest first; they are no longer set aside.

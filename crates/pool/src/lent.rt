@@ -9,12 +9,13 @@ ghost use Rattle.pool.specs.Calls.{FlushTells, GetTells, PutBackTells};
 ghost use Rattle.pool.specs.Locals.{HasSameHand, IsLocalOf, SameCache, SameRing, cache_of, cache_size, hand_of, ring_of, view_of};
 
 use crate::bursts::{empty, fetch, shed};
+use crate::hands::take_hand;
 use crate::local::Local;
 use crate::set_aside::{keep_back, whole_hand};
 use crate::store::Accepts;
 use burst::{Burst, Tagged};
 use fabric::{Fabric, StartFault, Stored};
-use pool_laws::{PoolFault, take_hand};
+use pool_laws::PoolFault;
 use ringapi::{Moved, Refusal};
 use std::sync::Wait;
 

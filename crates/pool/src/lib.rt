@@ -7,11 +7,12 @@
 //! gets and puts of the cache alone, `other_rings` those on another ring of the fabric, `opening` makes a cache, and
 //! `queries` look at it. The calls by name: `lent` with a burst that is borrowed, `values` with one by value, `slices`
 //! with a slice, `tries` with a slice and tried once. Below them, `set_aside` has the hand that sets the cached buffers
-//! aside, and `ring_requests` the requests of the free ring.
+//! aside, `ring_requests` the requests of the free ring, `hands` the hand in a cache, and `sizes` the sizes of caches.
 #![tactic(auto)]
 
 mod bursts;
 mod cached;
+mod hands;
 mod lent;
 mod list_moves;
 mod local;
@@ -21,6 +22,7 @@ mod places;
 mod queries;
 mod ring_requests;
 mod set_aside;
+mod sizes;
 mod slices;
 mod stack;
 mod stack_moves;

@@ -10,10 +10,11 @@ ghost use Rattle.pool_laws.specs.declared.faults.PoolFault.TheVariants.{BadSize}
 
 use crate::local::Local;
 use crate::set_aside::whole_hand;
+use crate::sizes::may_be;
 use crate::store::{Accepts, Store};
 use burst::{Burst, Tagged};
 use fabric::{Hand, PutItems, Stored};
-use pool_laws::{PoolFault, may_be};
+use pool_laws::PoolFault;
 
 impl<T: Tagged, const N: usize, S: Stored<T>, C: Store<T> + Drop> Local<T, N, S, C> {
     /// A cache of this size, which is possible, that has nothing.

@@ -13,13 +13,13 @@ ghost use Rattle.pool_laws.specs.Beside.{IsPutBeside, IsTakenBeside, PutOwns, Re
 ghost use Rattle.pool.specs.Locals.{IsLocalOf, SameCache, SameRing, cache_of, hand_of, view_of};
 ghost use Rattle.pool.specs.Slices.{KeepsRoom, left_by};
 
+use crate::hands::take_hand;
 use crate::local::Local;
 use crate::set_aside::{keep_back, whole_hand};
 use crate::store::{Accepts, Store};
 use burst::Tagged;
 use fabric::{CacheHand, Fabric, PutItems, StartFault, Stored, TakeItems};
 use geom::How;
-use pool_laws::take_hand;
 use ringapi::{Moved, PutAnswer, Refusal, TakeAnswer, put_own, take_into};
 use std::sync::Wait;
 

@@ -6,10 +6,10 @@ ghost use Rattle.ringcore_laws.specs.Sound.{occurrences, occurrences_in};
 ghost use Rattle.fabric.specs.Owned.{one_if, told};
 ghost use Rattle.pool.specs.Places.{AreBelow, AreOnce, ArePlaced};
 
+use crate::hands::carries;
 use crate::word_stack::MOST_PLACES;
 use arrayvec::ArrayVec;
 use burst::Word;
-use pool_laws::carries;
 
 /// Whether there is a word at a place, and carries a buffer.
 #[inline]

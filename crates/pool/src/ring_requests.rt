@@ -4,18 +4,28 @@ ghost use Rattle.ringcore_laws.specs.FreeRings.{AreSingle};
 ghost use Rattle.fabric.specs.Hands.{IsHandOf, OnRing, view};
 ghost use Rattle.fabric.specs.Settles.{AreOwnBuffers};
 ghost use Rattle.ringapi.specs.Holdings.{HasLess, HasMore};
-ghost use Rattle.pool_laws.specs.Asks.{Refills, Spills, Takes};
+ghost use Rattle.pool_laws.specs.Requests.{Refills, Spills, Takes, refusal_of};
 ghost use Rattle.pool_laws.specs.Hands.{IsFreeOf};
 
 use burst::Tagged;
-use fabric::{Fabric, Hand, PutItems, Stored, TakeItems};
+use fabric::{Fabric, Hand, PutItems, StartFault, Stored, TakeItems};
 use geom::How;
-use pool_laws::{PoolFault, refusal};
+use pool_laws::PoolFault;
 use ringapi::{PutAnswer, TakeAnswer, put_own, take_into};
 use std::sync::Wait;
 
+/// What a refused take from the free ring means to a caller that wants buffers: `Worn`, or else `Short`.
+fn refusal(fault: StartFault) -> PoolFault
+    ensures { result ≡ refusal_of fault }
+{
+    match fault {
+        StartFault::Worn => PoolFault::Worn,
+        _ => PoolFault::Short,
+    }
+}
+
 /// One bulk take of `n` items, tried until it succeeds or is refused. At a refusal the list stays as it is.
-fn ask<T: Tagged, const N: usize, S: Stored<T>, I: TakeItems<T>, R: Wait>(
+fn take_bulk<T: Tagged, const N: usize, S: Stored<T>, I: TakeItems<T>, R: Wait>(
     rt: &R,
     f: &Fabric<T, N, S>,
     hand: Hand<T, S>,
@@ -73,13 +83,13 @@ pub(crate) fn refill<T: Tagged, const N: usize, S: Stored<T>, I: TakeItems<T>, R
     ensures same { IfErr result (λ e. (view e.0).party ≡ (view hand).party) }
     ensures beside { IfOk result (λ _. I.beside into.old into.new) }
 {
-    let first = ask(rt, f, hand, ring, missing + size, into);
+    let first = take_bulk(rt, f, hand, ring, missing + size, into);
     if size == 0 {
         return first;
     }
     match first {
         Ok(hand) => Ok(hand),
-        Err((hand, _)) => ask(rt, f, hand, ring, missing, into),
+        Err((hand, _)) => take_bulk(rt, f, hand, ring, missing, into),
     }
 }
 

@@ -10,6 +10,7 @@ ghost use Rattle.pool.specs.Calls.{FlushTells, GetTells, PutBackTells};
 ghost use Rattle.pool.specs.Locals.{HasSameHand, IsLocalOf, SameCache, SameRing, cache_of, cache_size, hand_of, ring_of, view_of};
 ghost use Rattle.pool.specs.Slices.{filled, undone};
 
+use crate::hands::take_hand;
 use crate::local::Local;
 use crate::set_aside::{keep_back, whole_hand};
 use crate::store::{Accepts, Store};
@@ -17,7 +18,7 @@ use crate::word_stack::WordStack;
 use crate::words::{empty, fetch, shed};
 use burst::Word;
 use fabric::{Fabric, Front, StartFault, Stored, Words};
-use pool_laws::{PoolFault, take_hand};
+use pool_laws::PoolFault;
 use ringapi::{Moved, Refusal};
 use std::sync::Wait;
 

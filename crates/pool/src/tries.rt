@@ -9,6 +9,7 @@ ghost use Rattle.pool_laws.specs.Beside.{IsPutByHts, IsTakenByHts, Receives, Sen
 ghost use Rattle.pool.specs.WordStacks.{words_in};
 ghost use Rattle.pool.specs.Locals.{IsLocalOf, SameCache, SameRing, cache_of, hand_of};
 
+use crate::hands::take_hand;
 use crate::local::Local;
 use crate::other_rings::{put_answered, take_answered};
 use crate::set_aside::whole_hand;
@@ -17,7 +18,6 @@ use crate::word_stack::WordStack;
 use burst::Word;
 use fabric::{CacheHand, Fabric, StartFault, Stored, Words};
 use geom::How;
-use pool_laws::take_hand;
 use ringapi::{Moved, Refusal, try_put_own, try_take_slice};
 
 /// Tries once to put words of a slice.

@@ -8,10 +8,11 @@ ghost use Rattle.pool.specs.Openings.{RefusesSize, RefusesWords};
 ghost use Rattle.pool.specs.Locals.{HasHand, cache_of, cache_size, ring_of};
 
 use crate::local::Local;
+use crate::sizes::{BATCH, may_be};
 use crate::word_stack::WordStack;
 use burst::Word;
 use fabric::{Hand, Stored, Words};
-use pool_laws::{BATCH, PoolFault, may_be};
+use pool_laws::PoolFault;
 use std::alloc::Global;
 use thiserror::Error;
 

@@ -7,7 +7,7 @@ ghost use Rattle.fabric.specs.Hands.{IsHandOf, OnRing, view};
 ghost use Rattle.ringapi.specs.Holdings.{HasMore};
 ghost use Rattle.fabric.specs.CacheHands.{IsCacheHandOf, Keeps, view_of_cache_hand};
 ghost use Rattle.fabric.specs.Settles.{AreOwnBuffers};
-ghost use Rattle.pool_laws.specs.Asks.{Fetches, Flushes, Refills, Sheds, Spills};
+ghost use Rattle.pool_laws.specs.Requests.{Fetches, Flushes, Refills, Sheds, Spills};
 ghost use Rattle.pool_laws.specs.Hands.{IsFreeOf};
 ghost use Rattle.pool.specs.Slices.{filled, undone};
 ghost use Rattle.pool.specs.Spares.{EachIsSpare, SomeIsNotSpare};

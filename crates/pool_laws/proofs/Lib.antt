@@ -1,6 +1,6 @@
 pub mod Counts
 pub mod Singles
-pub mod Asking
+pub mod Requests
 pub mod Turned
 pub mod Kept
 pub mod Wholes

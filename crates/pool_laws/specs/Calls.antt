@@ -8,7 +8,7 @@ use Rattle.fabric.specs.declared.hand.Hand.{Hand}
 use Rattle.fabric.specs.declared.hand.cache_hand.CacheHand.{CacheHand}
 use Rattle.fabric.specs.Settles.{AreNotOwnBuffers, AreOwnBuffers}
 use Rattle.fabric.specs.Hands.{view}
-use Rattle.pool_laws.specs.Asks.{Fetches, Flushes, Spills}
+use Rattle.pool_laws.specs.Requests.{Fetches, Flushes, Spills}
 use Rattle.pool_laws.specs.Hands.{view_in}
 use Rattle.pool_laws.specs.Caches.{cached_after_get, cached_after_put, put_on_ring, taken_by_get, threshold}
 use Rattle.pool_laws.specs.declared.faults.PoolFault.{PoolFault}

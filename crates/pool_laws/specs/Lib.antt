@@ -1,6 +1,6 @@
 pub mod Caches
 pub mod Hands
-pub mod Asks
+pub mod Requests
 pub mod Beside
 pub mod Calls
 pub mod Faults

@@ -1,9 +1,7 @@
 //! Why a call of a pool is refused.
 ghost use Rattle.std.specs.Prelude.{◌≡◌};
-ghost use Rattle.pool_laws.specs.Asks.{refusal_of};
 ghost use Rattle.pool_laws.specs.Faults.{number_of};
 
-use fabric::StartFault;
 use thiserror::Error;
 
 /// Why a call of a pool is refused.
@@ -33,15 +31,5 @@ impl PoolFault {
         ensures { result ≡ number_of self }
     {
         self as u8
-    }
-}
-
-/// What a refused take from the free ring means to a caller that wants buffers: `Worn`, or else `Short`.
-pub fn refusal(fault: StartFault) -> PoolFault
-    ensures { result ≡ refusal_of fault }
-{
-    match fault {
-        StartFault::Worn => PoolFault::Worn,
-        _ => PoolFault::Short,
     }
 }

@@ -32,7 +32,7 @@ use Rattle.ringcore_laws.proofs.Telling.{look_seen_tells, on_some_ring, room_see
 use Rattle.ringcore_laws.proofs.Changes.{Opens, Closes, changes, grows}
 
 -- the state when the actor last asked for room
-pub record Asked (plans : List RingPlan) (pool : ℕ) (found : Option (List Actor)) (i : ℕ) (a : Actor) (s : Observed) (tail : ℕ) : Type 0 where
+pub record HadRoom (plans : List RingPlan) (pool : ℕ) (found : Option (List Actor)) (i : ℕ) (a : Actor) (s : Observed) (tail : ℕ) : Type 0 where
   pub past : List Actor
   pub is : found ≡ Some past
   pub kept : Invariant plans pool past
@@ -47,7 +47,7 @@ pub record Asked (plans : List RingPlan) (pool : ℕ) (found : Option (List Acto
 pub record LookLaw (plans : List RingPlan) (pool : ℕ) (now : List Actor) (found : Option (List Actor)) (i : ℕ) (a : Actor) (s : Observed) : Type 0 where
   pub idle : a.party.span ≡ None
   pub behind : IsBehind plans (parties_of now) s
-  pub asked : (t : ℕ) → s.tail_seen ≡ Some t → Asked plans pool found i a s t
+  pub room : (t : ℕ) → s.tail_seen ≡ Some t → HadRoom plans pool found i a s t
 
 pub record Looks (plans : List RingPlan) (pool : ℕ) (now : List Actor) (found : ℕ → Option (List Actor)) : Type 0 where
   pub each : (i : ℕ) (a : Actor) (s : Observed) → slice_get now i ≡ Some a → a.observed ≡ Some s → LookLaw plans pool now (found i) i a s
@@ -92,7 +92,7 @@ module _ (plans : List RingPlan) (pool : ℕ) (actors : List Actor) (found : ℕ
   lifted b change f i a c s same law = record {
     idle = ap (λ (p : Party Item). p.span) same ∙ law.idle;
     behind = still_behind b change s law.behind;
-    asked = λ t is. let q = law.asked t is in record {
+    room = λ t is. let q = law.room t is in record {
       past = q.past;
       is = q.is;
       kept = q.kept;
@@ -138,7 +138,7 @@ module _ (plans : List RingPlan) (pool : ℕ) (actors : List Actor) (found : ℕ
               ap (λ (v : RingPlan). base (mode_of v side) (side_of parties ring side)) same,
               position,
             ));
-        asked = λ t none. absurd (let u : None ≡ Some t = none in cc);
+        room = λ t none. absurd (let u : None ≡ Some t = none in cc);
       }
 
   -- a question for room
@@ -167,7 +167,7 @@ module _ (plans : List RingPlan) (pool : ℕ) (actors : List Actor) (found : ℕ
             idle = idle;
             behind = still_behind (after_step me (Room ring side) (Seen t)) (inl refl)
                 record { ring = old.ring; side = old.side; looked_at = old.looked_at; tail_seen = Some t } law.behind;
-            asked = λ t' same. record {
+            room = λ t' same. record {
               past = actors;
               is = refl;
               kept = k;

@@ -272,7 +272,7 @@ module _ (plans : List RingPlan) (pool : ℕ) (now : List Actor) (found : ℕ �
         subst (λ (p : RingPlan). reserve_reply p pool ring side how count l a ≡ NoRoom room) same told.2 in
         let r = reserve_tells plan pool ring side how count l a (NoRoom room) (λ e. (let u : NoSpan ≡ NoRoom room = e in cc)) reply in
         let n = no_room_tells plan side how count l (buffers_of_actor pool a) r.look.looked_at r.tail room r.answer in
-        let q = (s.looks.each i a r.look me.1 r.looked).asked r.tail r.seen in
+        let q = (s.looks.each i a r.look me.1 r.looked).room r.tail r.seen in
         let place = on_true r.look.ring ring r.look.side side r.on in
         let some = positive_count side plan.free count (buffers_of_actor pool a) n.0 in
         let at_look : slice_get plans r.look.ring ≡ Some plan = ap (slice_get plans) (sym place.0) ∙ there in

@@ -12,7 +12,7 @@ ghost use Rattle.fabric.specs.Hands.{OnRing, rings_of};
 ghost use Rattle.fabric.specs.Held.{IsHtsOf, reserved_count, span_at};
 ghost use Rattle.fabric.specs.InPlace.{IsPlacedOf, placed_view};
 ghost use Rattle.fabric.specs.Settles.{HoldsLess, HoldsMore};
-ghost use Rattle.fabric.specs.Starts.{MayAsk, RefusesCount, RefusesStart, Starts};
+ghost use Rattle.fabric.specs.Starts.{MayStart, RefusesCount, RefusesStart, Starts};
 ghost use Rattle.fabric.specs.Truths.{IsTrueRefusal};
 ghost use Rattle.fabric.specs.Views.{IsKept, IsWornAt};
 ghost use Rattle.fabric.specs.declared.hand.in_place.OpenSpan.TheVariants as open_span;
@@ -56,18 +56,7 @@ impl<T: Tagged, const N: usize, S: Stored<T>> HandInPlace<T, N, S> {
         ensures owned { IfOk result
             (λ _. HoldsLess T.numbers (placed_view self.old) (I.items items.old) (placed_view self.new)) }
     {
-        let target = fabric.ring(reserved.ring);
-        match target.advance_put(&mut self.share, reserved.range, items) {
-            Ok(range) => {
-                let rest = Reserved {
-                    ring: reserved.ring,
-                    range,
-                };
-                self.span = OpenSpan::Put(rest);
-                Ok(rest)
-            }
-            Err(fault) => Err(fault),
-        }
+        self.try_advance_put_at(fabric, &fabric.place(reserved.ring), reserved, items)
     }
 
     /// Tries once to hold the take side of a head/tail-sync ring: by bulk with `n` items, by burst with at most `n`.
@@ -94,8 +83,8 @@ impl<T: Tagged, const N: usize, S: Stored<T>> HandInPlace<T, N, S> {
             r.range.start r.range.count r.range.left (placed_view self.new).shown (placed_view self.new))) }
         ensures refused { IfErr result (λ e. (self.new.span ≡ open_span.Idle) × OnRing fabric.now ring (λ plan.
             RefusesStart T.numbers N how n ring Take plan (placed_view self.old) (placed_view self.new) e)) }
-        ensures asked { OnRing fabric.now ring
-            (λ plan. IfOk result (λ _. MayAsk T.numbers N n Take plan (placed_view self.old))
+        ensures may { OnRing fabric.now ring
+            (λ plan. IfOk result (λ _. MayStart T.numbers N n Take plan (placed_view self.old))
             × IfErr result (λ e. RefusesCount T.numbers N n Take plan (placed_view self.old) e)) }
         ensures shown { IfOk result (λ r. length (placed_view self.new).shown ≡ reserved_count r) }
         ensures opened { IfOk result
@@ -145,14 +134,7 @@ impl<T: Tagged, const N: usize, S: Stored<T>> HandInPlace<T, N, S> {
         ensures apart { AreDistinct (flat_map T.numbers (take k (placed_view self.old).shown)) }
         ensures beside { I.beside into.old into.new }
     {
-        let target = fabric.ring(reserved.ring);
-        let range = target.advance_take(&mut self.share, reserved.range, k, into);
-        let rest = Reserved {
-            ring: reserved.ring,
-            range,
-        };
-        self.span = OpenSpan::Held(rest);
-        rest
+        self.advance_take_at(fabric, &fabric.place(reserved.ring), reserved, k, into)
     }
 
     /// Takes the items at the first `k` positions of the held span, or none, into an empty list, and gives up the side:

@@ -9,7 +9,7 @@ ghost use Rattle.fabric.specs.Hands.{OnRing, rings_of};
 ghost use Rattle.fabric.specs.Held.{span_at};
 ghost use Rattle.fabric.specs.InPlace.{IsPlacedOf, placed_view};
 ghost use Rattle.fabric.specs.Settles.{HoldsLess, HoldsMore, IsCount, RefusesSettle};
-ghost use Rattle.fabric.specs.Starts.{MayAsk, RefusesCount, RefusesStart, Starts};
+ghost use Rattle.fabric.specs.Starts.{MayStart, RefusesCount, RefusesStart, Starts};
 ghost use Rattle.fabric.specs.Truths.{IsTrueRefusal, IsTrueTooEarly};
 ghost use Rattle.fabric.specs.Views.{IsKept, IsWornAt};
 ghost use Rattle.fabric.specs.declared.hand.in_place.OpenSpan.TheVariants as open_span;
@@ -49,8 +49,8 @@ impl<T: Tagged, const N: usize, S: Stored<T>> HandInPlace<T, N, S> {
             r.range.start r.range.count r.range.left [] (placed_view self.new))) }
         ensures refused { IfErr result (λ e. (self.new.span ≡ open_span.Idle) × OnRing fabric.now ring (λ plan.
             RefusesStart T.numbers N how n ring Put plan (placed_view self.old) (placed_view self.new) e)) }
-        ensures asked { OnRing fabric.now ring
-            (λ plan. IfOk result (λ _. MayAsk T.numbers N n Put plan (placed_view self.old))
+        ensures may { OnRing fabric.now ring
+            (λ plan. IfOk result (λ _. MayStart T.numbers N n Put plan (placed_view self.old))
             × IfErr result (λ e. RefusesCount T.numbers N n Put plan (placed_view self.old) e)) }
         ensures opened { IfOk result
             (λ r. (placed_view self.new).party ≡ with_open (placed_view self.old).party (span_at Put r)) }
@@ -101,8 +101,8 @@ impl<T: Word, const N: usize, S: Stored<T>> HandInPlace<T, N, S> {
         ensures refused { IfErr result (λ e. (self.new.span ≡ open_span.Idle) × (into.new ≡ into.old)
             × OnRing fabric.now ring (λ plan.
             RefusesStart T.numbers N how n ring Take plan (placed_view self.old) (placed_view self.new) e)) }
-        ensures asked { OnRing fabric.now ring
-            (λ plan. IfOk result (λ _. MayAsk T.numbers N n Take plan (placed_view self.old))
+        ensures may { OnRing fabric.now ring
+            (λ plan. IfOk result (λ _. MayStart T.numbers N n Take plan (placed_view self.old))
             × IfErr result (λ e. RefusesCount T.numbers N n Take plan (placed_view self.old) e)) }
         ensures opened { IfOk result
             (λ r. (placed_view self.new).party ≡ with_open (placed_view self.old).party (span_at Take r)) }

@@ -41,7 +41,7 @@ impl<T: Tagged, const N: usize, S: Stored<T>> HandInPlace<T, N, S> {
         requires idle { self.old.span ≡ open_span.Idle }
         requires place { IsPlaceOf fabric.now place.now }
         requires counts { HasCounts place.now Put most }
-        requires small { most < 2 ^ 20 }
+        requires small { N < most → most < 2 ^ 20 }
         ensures of { IsPlacedOf fabric.now self.new }
         ensures done { IfOk result (λ r. (self.new.span ≡ open_span.Idle) × HasMoved T.numbers fabric.now most how
             (length (I.items items.old)) (place_ring place.now) (placed_view self.old) Put r []
@@ -169,7 +169,7 @@ impl<T: Word, const N: usize, S: Stored<T>> HandInPlace<T, N, S> {
         requires idle { self.old.span ≡ open_span.Idle }
         requires place { IsPlaceOf fabric.now place.now }
         requires counts { HasCounts place.now Take most }
-        requires small { most < 2 ^ 20 }
+        requires small { N < most → most < 2 ^ 20 }
         ensures of { IsPlacedOf fabric.now self.new }
         ensures done { IfOk result (λ r. (self.new.span ≡ open_span.Idle)
             × (into.new ≡ take r.range.count into.new ++ drop r.range.count into.old)

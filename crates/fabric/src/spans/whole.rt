@@ -7,13 +7,11 @@ ghost use Rattle.fabric.specs.WholeCalls.{HasMoved, RefusesPut, RefusesTake};
 ghost use Rattle.fabric.specs.declared.hand.in_place.OpenSpan.TheVariants as open_span;
 
 use crate::fabric::Fabric;
-use crate::hand::in_place::{HandInPlace, OpenSpan, Reserved, WholeFault};
+use crate::hand::in_place::{HandInPlace, Reserved, WholeFault};
 use crate::items::PutItems;
-use crate::items::front::Front;
-use crate::items::words::Words;
 use crate::stored::Stored;
 use burst::{Tagged, Word};
-use geom::{How, Side};
+use geom::How;
 
 impl<T: Tagged, const N: usize, S: Stored<T>> HandInPlace<T, N, S> {
     /// Tries once to put the first of these words: by bulk all, by burst as many as there is room for. At most four
@@ -40,19 +38,7 @@ impl<T: Tagged, const N: usize, S: Stored<T>> HandInPlace<T, N, S> {
             (placed_view self.old) (I.items items.old) self.new.span (placed_view self.new) e
             × (I.items items.new ≡ I.items items.old)) }
     {
-        let target = fabric.ring(ring);
-        let range = match target.open_span(&mut self.share, Side::Put, items.len(), N, how) {
-            Ok(range) => range,
-            Err(fault) => return Err(WholeFault::Start(fault)),
-        };
-        let reserved = Reserved { ring, range };
-        match target.settle_put_first(&mut self.share, range, range.count, items) {
-            Ok(()) => Ok(reserved),
-            Err(fault) => {
-                self.span = OpenSpan::Put(reserved);
-                Err(WholeFault::Settle(reserved, fault))
-            }
-        }
+        self.try_put_at(fabric, &fabric.place(ring), items, N, how)
     }
 }
 
@@ -82,31 +68,6 @@ impl<T: Word, const N: usize, S: Stored<T>> HandInPlace<T, N, S> {
         ensures refused { IfErr result (λ e. RefusesTake T.numbers fabric.now N how (length into.old) ring
             (placed_view self.old) into.old into.new self.new.span (placed_view self.new) e) }
     {
-        let target = fabric.ring(ring);
-        let n = into.len();
-        let mut front = Front {
-            words: &mut *into,
-            count: 0,
-        };
-        let range = match target.open_take(&mut self.share, n, N, how, &mut front) {
-            Ok(range) => range,
-            Err(fault) => return Err(WholeFault::Start(fault)),
-        };
-        let reserved = Reserved { ring, range };
-        let count = range.count;
-        match target.settle_take(
-            &mut self.share,
-            range,
-            count,
-            &mut Words {
-                words: &into[..count],
-            },
-        ) {
-            Ok(()) => Ok(reserved),
-            Err(fault) => {
-                self.span = OpenSpan::Take(reserved);
-                Err(WholeFault::Settle(reserved, fault))
-            }
-        }
+        self.try_take_at(fabric, &fabric.place(ring), into, N, how)
     }
 }

@@ -1,4 +1,4 @@
-//! Changes of what is drawn up. Readers don't see them before `publish`.
+//! Changes of what is prepared. Readers don't see them before `publish`.
 //!
 //! Each call first goes on with the last publish (`settle`). Errors come in the order in which they are named; an error
 //! changes nothing that callers see but `settled`.

@@ -3,8 +3,8 @@ use Rattle.ringcore_laws.specs.FreeRings.{AreSingle}
 use Rattle.fabric_laws.specs.declared.view.View.{View}
 use Rattle.fabric.specs.Hands.{view}
 use Rattle.fabric.specs.CacheHands.{view_of_cache_hand}
-use Rattle.pool_laws.specs.Asks.{Spills}
-use Rattle.pool_laws.proofs.Asking.{first_own}
+use Rattle.pool_laws.specs.Requests.{Spills}
+use Rattle.pool_laws.proofs.Requests.{first_own}
 use Rattle.pool_laws.proofs.Kept.{own_kept, same_own}
 use Rattle.ringapi.proofs.Singles.{single_take}
 use Rattle.pool.proofs.bursts.shed.Goals as goal

@@ -2,9 +2,9 @@ use Rattle.std.proofs.Common.{◌≡◌, ℕ, ◌++◌, Ok, Err, List, [], lengt
 use Rattle.std.proofs.lemmas.List.{length-take, take-append-drop}
 use Rattle.fabric.specs.Hands.{view}
 use Rattle.fabric.specs.Settles.{AreOwnBuffers}
-use Rattle.pool_laws.proofs.Asking.{first_own, left_own}
+use Rattle.pool_laws.proofs.Requests.{first_own, left_own}
 use Rattle.ringapi.specs.Holdings.{HasLess}
-use Rattle.pool_laws.specs.Asks.{Spills}
+use Rattle.pool_laws.specs.Requests.{Spills}
 use Rattle.pool_laws.proofs.Turned.{poured_behind}
 use Rattle.pool.proofs.bursts.spill.Goals as goal
 

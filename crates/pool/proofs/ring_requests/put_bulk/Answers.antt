@@ -1,7 +1,7 @@
 use Rattle.std.proofs.Common.{ap, ◌∙◌}
 use Rattle.fabric.proofs.Told.{ring_at}
 use Rattle.fabric.specs.Hands.{rings_of, view}
-use Rattle.pool_laws.proofs.Asking.{kept_party, own_yours, put_all, put_count, put_holds, put_none}
+use Rattle.pool_laws.proofs.Requests.{kept_party, own_yours, put_all, put_count, put_holds, put_none}
 use Rattle.ringapi.proofs.Few.{own_few}
 use Rattle.pool.proofs.ring_requests.put_bulk.Goals as goal
 

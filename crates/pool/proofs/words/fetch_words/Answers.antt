@@ -3,7 +3,7 @@ use Rattle.std.proofs.lemmas.List.{length-take-le}
 use Rattle.ringcore_laws.specs.FreeRings.{AreSingle}
 use Rattle.ringcore_laws.specs.Sound.{occurrences_in}
 use Rattle.fabric.specs.Hands.{view}
-use Rattle.pool_laws.specs.Asks.{Refills}
+use Rattle.pool_laws.specs.Requests.{Refills}
 use Rattle.pool_laws.specs.Caches.{cached_after_get, taken_by_get}
 use Rattle.pool.specs.Stacks.{added, stacked}
 use Rattle.ringapi.proofs.Counts.{count_both}

@@ -1,6 +1,6 @@
 use Rattle.std.proofs.Common.{rules, subst, take}
 use Rattle.fabric.specs.Hands.{view}
-use Rattle.pool_laws.specs.Asks.{Refills}
+use Rattle.pool_laws.specs.Requests.{Refills}
 use Rattle.pool.proofs.words.refill_slice.Goals as goal
 
 pub returns-clause-exact : goal.returns-clause-exact

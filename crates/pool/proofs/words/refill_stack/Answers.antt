@@ -5,7 +5,7 @@ use borrow.Rule.Slice.PartMut.{put_mid}
 use Rattle.ringcore_laws.specs.FreeRings.{AreSingle}
 use Rattle.fabric.specs.Hands.{view}
 use Rattle.ringapi.specs.Holdings.{HasMore}
-use Rattle.pool_laws.specs.Asks.{Refills}
+use Rattle.pool_laws.specs.Requests.{Refills}
 use Rattle.pool.specs.Stacks.{stacked}
 use Rattle.pool.proofs.Stacks.{added_is, front_kept, part_long, pushed_part}
 use Rattle.pool.proofs.words.refill_stack.Goals as goal

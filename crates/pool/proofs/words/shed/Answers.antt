@@ -5,12 +5,12 @@ use Rattle.ringcore_laws.specs.Sound.{occurrences_in}
 use Rattle.fabric_laws.specs.declared.view.View.{View}
 use Rattle.fabric.specs.Hands.{view}
 use Rattle.fabric.specs.CacheHands.{view_of_cache_hand}
-use Rattle.pool_laws.specs.Asks.{Spills}
+use Rattle.pool_laws.specs.Requests.{Spills}
 use Rattle.pool.specs.Places.{ArePlaced}
 use Rattle.pool.specs.Stacks.{stacked}
 use Rattle.pool.specs.WordStacks.{words_in}
 use Rattle.pool.proofs.Placing.{placed_take}
-use Rattle.pool_laws.proofs.Asking.{first_own}
+use Rattle.pool_laws.proofs.Requests.{first_own}
 use Rattle.pool_laws.proofs.Kept.{same_own}
 use Rattle.ringapi.proofs.Singles.{single_take}
 use Rattle.pool.proofs.words.shed.Goals as goal

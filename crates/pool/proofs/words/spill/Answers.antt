@@ -2,7 +2,7 @@ use Rattle.std.proofs.Common.{◌≡◌, length, take, ap, sym, subst, rules, ar
 use Rattle.std.proofs.lemmas.List.{length-take}
 use Rattle.fabric.specs.Hands.{view}
 use Rattle.fabric.specs.Settles.{AreOwnBuffers}
-use Rattle.pool_laws.proofs.Asking.{first_own, left_own}
+use Rattle.pool_laws.proofs.Requests.{first_own, left_own}
 use Rattle.ringapi.specs.Holdings.{HasLess}
 use Rattle.pool.specs.Stacks.{stacked}
 use Rattle.pool.proofs.words.spill.Goals as goal

@@ -66,7 +66,7 @@ returns-in-Err-clause-exact g c plan there =
       v,
       refl,
       subst (λ n. RefusesStart tags g.row.N c.args.how n c.args.ring Put plan v (view c.in-Err.hand) c.in-Err.fault) long (r.refused.1 plan there),
-      subst (λ n. RefusesCount tags g.row.N n Put plan v c.in-Err.fault) long (r.asked plan there).1,
+      subst (λ n. RefusesCount tags g.row.N n Put plan v c.in-Err.fault) long (r.may plan there).1,
     )
 
 pub returns-in-Ok-clause-true_refusal : goal.returns-in-Ok-clause-true_refusal

@@ -35,7 +35,7 @@ returns-in-Err-clause-taken g c =
     let r = c.in-Err.ensures in
     record {
       made = search rules;
-      exact = λ plan there. (ap g.I.Items.items r.refused.1 ∙ c.requires.empty, view c.args.hand, refl, r.refused.2 plan there, (r.asked plan there).1);
+      exact = λ plan there. (ap g.I.Items.items r.refused.1 ∙ c.requires.empty, view c.args.hand, refl, r.refused.2 plan there, (r.may plan there).1);
       settled = search rules;
       true_refusal = λ plan there. (view c.args.hand, r.kept, r.true_refusal plan there);
     }

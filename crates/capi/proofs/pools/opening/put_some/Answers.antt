@@ -4,7 +4,7 @@ use Rattle.fabric.specs.Hands.{rings_of, view}
 use Rattle.fabric.proofs.Pours.{all_first}
 use Rattle.fabric.proofs.Told.{ring_at}
 use Rattle.ringapi.specs.Views.{settlement}
-use Rattle.pool_laws.proofs.Asking.{bulk_all}
+use Rattle.pool_laws.proofs.Requests.{bulk_all}
 use Rattle.capi.specs.PoolMembers.{numbers_of}
 use Rattle.capi.proofs.pools.opening.put_some.Goals as goal
 

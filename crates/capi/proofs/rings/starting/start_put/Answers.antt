@@ -11,6 +11,6 @@ returns-in-Ok-clause-started c =
     let s = c.in-Ok.ensures.started in (
       s.0,
       reserved_of c.args.f.now 4095 c.args.how c.args.n c.args.ring Put (placed_view c.args.hand.now) (span_at Put r) r.range.left []
-          (placed_view c.try_start_put.new.self) c.requires.ring s.1 refl s.2 (λ plan there. (c.in-Ok.ensures.asked plan there).0)
+          (placed_view c.try_start_put.new.self) c.requires.ring s.1 refl s.2 (λ plan there. (c.in-Ok.ensures.may plan there).0)
           c.in-Ok.ensures.opened,
     )

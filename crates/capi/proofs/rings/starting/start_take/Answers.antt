@@ -12,6 +12,6 @@ returns-in-Ok-clause-started c =
     let s = c.in-Ok.ensures.started in (
       s.0,
       reserved_of c.args.f.now 4095 c.args.how (length c.args.words.now) c.args.ring Take (placed_view c.args.hand.now) (span_at Take r)
-          r.range.left w.shown w c.requires.ring s.1 refl s.2 (λ plan there. (c.in-Ok.ensures.asked plan there).0)
+          r.range.left w.shown w c.requires.ring s.1 refl s.2 (λ plan there. (c.in-Ok.ensures.may plan there).0)
           c.in-Ok.ensures.opened,
     )

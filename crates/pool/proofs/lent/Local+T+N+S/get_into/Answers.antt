@@ -3,7 +3,7 @@ use Rattle.ringcore_laws.specs.FreeRings.{AreSingle}
 use Rattle.fabric.specs.Hands.{view}
 use Rattle.pool_laws.proofs.Kept.{later_own, same_own}
 use Rattle.pool_laws.proofs.Wholes.{free_at, free_of, hand_from, hand_own, cache_hand_from, mine_of, view_at}
-use Rattle.pool_laws.specs.Asks.{Fetches}
+use Rattle.pool_laws.specs.Requests.{Fetches}
 use Rattle.pool.proofs.lent.Local+T+N+S.get_into.Goals as goal
 
 pub fetch-requires : goal.fetch-requires

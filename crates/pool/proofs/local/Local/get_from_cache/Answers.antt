@@ -6,7 +6,7 @@ use Rattle.fabric.specs.CacheHands.{view_of_cache_hand}
 use Rattle.fabric.specs.Settles.{AreOwnBuffers}
 use Rattle.ringapi.specs.Holdings.{IsFreeRing}
 use Rattle.pool_laws.specs.Hands.{view_in}
-use Rattle.pool_laws.proofs.Asking.{first_own}
+use Rattle.pool_laws.proofs.Requests.{first_own}
 use Rattle.pool_laws.proofs.Kept.{hit_own, same_own, same_view}
 use Rattle.ringapi.proofs.Singles.{single_take}
 use Rattle.pool.proofs.local.Local.get_from_cache.Goals as goal

@@ -3,7 +3,7 @@ use Rattle.ringcore_laws.specs.FreeRings.{AreSingle}
 use Rattle.fabric.specs.Hands.{view}
 use Rattle.pool_laws.proofs.Kept.{same_own}
 use Rattle.pool_laws.proofs.Wholes.{free_at, free_of, hand_from, hand_own, cache_hand_from, mine_of, view_at}
-use Rattle.pool_laws.specs.Asks.{Flushes}
+use Rattle.pool_laws.specs.Requests.{Flushes}
 use Rattle.pool.specs.WordStacks.{words_in}
 use Rattle.pool.proofs.Reaches.{reach_kept}
 use Rattle.pool.proofs.slices.Local+T+N+S+WordStack+T.flush.Goals as goal

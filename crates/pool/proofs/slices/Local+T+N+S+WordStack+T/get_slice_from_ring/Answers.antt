@@ -3,7 +3,7 @@ use Rattle.ringcore_laws.specs.FreeRings.{AreSingle}
 use Rattle.fabric.specs.Hands.{view}
 use Rattle.pool_laws.proofs.Kept.{later_own, same_own}
 use Rattle.pool_laws.proofs.Wholes.{free_at, free_of, hand_from, hand_own, cache_hand_from, mine_of, view_at}
-use Rattle.pool_laws.specs.Asks.{Fetches}
+use Rattle.pool_laws.specs.Requests.{Fetches}
 use Rattle.pool_laws.specs.Hands.{view_in}
 use Rattle.pool.specs.WordStacks.{buffers_in, words_in}
 use Rattle.pool.proofs.Reaches.{le_of, reach_kept}

@@ -6,7 +6,7 @@ use Rattle.fabric.proofs.Told.{ring_at}
 use Rattle.fabric.specs.Hands.{rings_of}
 use Rattle.fabric_laws.specs.declared.view.View.{View}
 use Rattle.fabric.specs.Settles.{AreNotOwnBuffers, AreOwnBuffers}
-use Rattle.pool_laws.specs.Asks.{Spills}
+use Rattle.pool_laws.specs.Requests.{Spills}
 use Rattle.pool_laws.specs.Caches.{spilled}
 use Rattle.pool_laws.specs.Hands.{view_in}
 use Rattle.pool.specs.WordStacks.{buffers_in, words_in}

@@ -39,7 +39,7 @@ invariant_of-self-in-Err-settle_take g c =
                 ∙ (λ i. run (slot_at (sym plans i) (of.index i) (plan_of r c.args.fabric.now ring of.of of.index plan (ap (λ ps. slice_get ps ring) (sym known) ∙ at) i))
                 range.start (replicate range.count None)));
             many = λ _. ap length e.shown ∙ h.full refl;
-            fits = λ more. omega (arith, h.fits, c.requires.small);
+            fits = λ more. let long : g.row.N < c.args.most = omega (arith, more, h.fits) in omega (arith, h.fits, c.requires.small long);
           };
       held = λ q is. absurd (let u : open_span.Take here ≡ open_span.Held q = is in cc);
       hts = λ q is. absurd (let u : open_span.Take here ≡ open_span.Held q = is in cc);

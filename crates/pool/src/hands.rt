@@ -8,7 +8,9 @@ use burst::Tagged;
 use fabric::{CacheHand, Stored};
 
 /// Takes the hand out of a cache, for a call on a ring. Requires: it is there.
-pub fn take_hand<T: Tagged, S: Stored<T>>(hand: &mut Option<CacheHand<T, S>>) -> CacheHand<T, S>
+pub(crate) fn take_hand<T: Tagged, S: Stored<T>>(
+    hand: &mut Option<CacheHand<T, S>>,
+) -> CacheHand<T, S>
     requires here { is_some hand.old ≡ true }
     ensures { hand.old ≡ Some result }
 {
@@ -19,7 +21,7 @@ pub fn take_hand<T: Tagged, S: Stored<T>>(hand: &mut Option<CacheHand<T, S>>) ->
 }
 
 /// Whether an item that carries one buffer carries this one.
-pub fn carries<T: Tagged>(item: &T, b: u32) -> bool
+pub(crate) fn carries<T: Tagged>(item: &T, b: u32) -> bool
     requires single { (length (T.numbers item.now) == 1) ≡ true }
     ensures { occurrences b (T.numbers item.now) ≡ one_if result }
 {

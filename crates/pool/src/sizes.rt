@@ -6,11 +6,11 @@ ghost use Rattle.pool_laws.specs.Caches.{threshold};
 const MAX_CACHE: usize = 512;
 
 /// The most items that one call gets or puts.
-pub const BATCH: usize = 64;
+pub(crate) const BATCH: usize = 64;
 
 /// Whether a cache with room for `most` items can have this size: it is at most 512, and there is room for its
 /// threshold and 64 more items.
-pub fn may_be(size: usize, most: usize) -> bool
+pub(crate) fn may_be(size: usize, most: usize) -> bool
     ensures fits { result ≡ true → (size ≤ 512) × (threshold size + 64 ≤ most) }
     ensures other { result ≡ false → (512 < size) ⊎ (most < threshold size + 64) }
 {

@@ -1,9 +1,9 @@
 use Rattle.std.proofs.Common.{Err, sym, subst}
 use Rattle.fabric.proofs.Told.{ring_at}
 use Rattle.fabric.specs.Hands.{rings_of, view}
-use Rattle.pool_laws.proofs.Asking.{none_party, took, took_holds, took_none, took_single}
-use Rattle.pool.proofs.ring_requests.ask.Goals as goal
-use Rattle.pool_laws.specs.Asks.{Takes}
+use Rattle.pool_laws.proofs.Requests.{none_party, took, took_holds, took_none, took_single}
+use Rattle.pool.proofs.ring_requests.take_bulk.Goals as goal
+use Rattle.pool_laws.specs.Requests.{Takes}
 
 pub returns-in-Done-clause-exact : goal.returns-in-Done-clause-exact
 returns-in-Done-clause-exact g c plan there =

@@ -37,7 +37,7 @@ use Rattle.ringapi.proofs.Counts.{count_parts}
 use Rattle.ringapi.proofs.Moves.{had_before, moved_party}
 use Rattle.ringapi.proofs.Singles.{single_drop, single_take}
 use Rattle.ringapi.specs.Holdings.{HasLess}
-use Rattle.pool_laws.specs.Asks.{Spills, Takes, refusal_of}
+use Rattle.pool_laws.specs.Requests.{Spills, Takes, refusal_of}
 
 -- by bulk all positions are granted, or none
 pub all_granted : (n room count : ℕ) → count ≡ granted Bulk n room → 0 < count → count ≡ n
