@@ -1,5 +1,5 @@
 -- How many words a call moves at most
-use Rattle.std.proofs.Common.{◌≡◌, ℕ, ◌<◌, ◌≤◌, List, Option, arith, inl, inr, ap, refl, subst, sym}
+use Rattle.std.proofs.Common.{◌≡◌, ℕ, ◌<◌, ◌≤◌, Option, arith, length, inl, inr, ap}
 use Rattle.std.proofs.lemmas.Bool.{cases_lt}
 use Rattle.std.specs.Prelude.{None, Some, slice_get}
 use Rattle.geom.specs.declared.plan.How.{How}
@@ -15,6 +15,7 @@ use Rattle.fabric.specs.declared.hand.in_place.OpenSpan.{OpenSpan}
 use Rattle.fabric.specs.Hands.{rings_of}
 use Rattle.fabric.specs.Starts.{RefusesStart}
 use Rattle.fabric.specs.WholeCalls.{OpensNone}
+use Rattle.fabric.proofs.Told.{ring_at}
 use Rattle.capi.specs.Calls.{Refuses}
 use Rattle.capi.specs.Members.{Rings}
 use Rattle.capi.specs.Spans.{call_limit, limit_in, limit_of, room_of, start_fault, tags}
@@ -62,14 +63,16 @@ module _ (how : How) (n ring m1 m2 : ℕ) (side : Side) (plan : RingPlan) (v w :
   )
 
 pub refuses_of : (f : Rings) (most : ℕ) (how : How) (n ring : ℕ) (v : View Word64) (side : Side) (span : OpenSpan) (w : View Word64)
-    (e : StartFault) (why : Fault) (left : ℕ) → (n ≤ call_limit f ring side → n ≤ most) → why ≡ start_fault e → left ≡ room_of e
+    (e : StartFault) (why : Fault) (left : ℕ) → ring < length (rings_of f) → (n ≤ call_limit f ring side → n ≤ most) → why ≡ start_fault e → left ≡ room_of e
     → OpensNone tags f most how n ring v side span w e → Refuses f (call_limit f ring side) how n ring side v why left w
-refuses_of f most how n ring v side span w e why left from named found none = record {
-  reason = e;
-  named = named;
-  found = found;
-  refused = record {
-    found = λ plan at. refused_by how n ring most (call_limit f ring side) side plan v w from e (none.refused plan at);
-    kept = none.kept;
-  };
-}
+refuses_of f most how n ring v side span w e why left there from named found none =
+    let p = ring_at (rings_of f) ring there in
+    record {
+      reason = e;
+      named = named;
+      found = found;
+      refused = record {
+        found = λ plan at. refused_by how n ring most (call_limit f ring side) side plan v w from e (none.refused plan at).steps;
+        kept = (none.refused p.0 p.1).kept;
+      };
+    }

@@ -4,8 +4,8 @@ ghost use Rattle.geom.specs.declared.plan.Mode.TheVariants.{Hts};
 ghost use Rattle.geom.specs.declared.plan.Side.TheVariants.{Take};
 ghost use Rattle.fabric.specs.Hands.{HasPut, HasTaken, IsHandOf, OnRing, RefusesPut, RefusesTake, SamePut, SameTake};
 ghost use Rattle.fabric.specs.Hands.{rings_of, take_fabric, take_left, take_span, take_view, view};
-ghost use Rattle.fabric.specs.Starts.{RefusesCount, RefusesStart, Starts};
-ghost use Rattle.fabric.specs.Truths.{IsTrueRefusal};
+ghost use Rattle.fabric.specs.Starts.{Starts};
+ghost use Rattle.fabric.specs.Refused.{IsRefused};
 ghost use Rattle.fabric.specs.declared.hand.SettleFault.TheVariants.{BadCount, NotYet};
 
 use crate::peek::{PeekPut, PeekTakeLent};
@@ -34,10 +34,8 @@ pub fn peek_take_slice<'f, T: Word, const N: usize, S: Stored<T>>(
     ensures copied { IfOk result
         (λ p. into.new ≡ (take_view p.span).shown ++ drop (length (take_view p.span).shown) into.old) }
     ensures refused { IfErr result (λ e. IsHandOf f.now e.0 × (into.new ≡ into.old)
-        × OnRing f.now ring (λ plan. RefusesStart T.numbers N how (length into.old) ring Take plan
-        (view hand) (view e.0) e.1 × RefusesCount T.numbers N (length into.old) Take plan (view hand) e.1)) }
-    ensures true_refusal { IfErr result (λ e. OnRing f.now ring
-        (λ plan. IsTrueRefusal T.numbers ring Take plan (view hand) (view e.0) e.1)) }
+        × OnRing f.now ring (λ plan. IsRefused T.numbers N how (length into.old) ring Take plan
+        (view hand) (view e.0) e.1)) }
 {
     let n = into.len();
     let mut front = Front {

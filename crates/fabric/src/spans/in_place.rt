@@ -9,12 +9,12 @@ ghost use Rattle.fabric.specs.Hands.{OnRing, rings_of};
 ghost use Rattle.fabric.specs.Held.{span_at};
 ghost use Rattle.fabric.specs.InPlace.{IsPlacedOf, placed_view};
 ghost use Rattle.fabric.specs.Settles.{HoldsLess, HoldsMore, IsCount, RefusesSettle};
-ghost use Rattle.fabric.specs.Starts.{MayStart, RefusesCount, RefusesStart, Starts};
-ghost use Rattle.fabric.specs.Truths.{IsTrueRefusal, IsTrueTooEarly};
-ghost use Rattle.fabric.specs.Views.{IsKept, IsWornAt};
+ghost use Rattle.fabric.specs.Starts.{MayStart, Starts};
+ghost use Rattle.fabric.specs.Truths.{IsTrueTooEarly};
+ghost use Rattle.fabric.specs.Refused.{IsRefused};
+ghost use Rattle.fabric.specs.Views.{IsKept};
 ghost use Rattle.fabric.specs.declared.hand.in_place.OpenSpan.TheVariants as open_span;
 ghost use Rattle.fabric.specs.declared.hand.SettleFault.TheVariants.{NotYours};
-ghost use Rattle.fabric.specs.declared.hand.StartFault.TheVariants.{Worn};
 
 use crate::fabric::Fabric;
 use crate::hand::in_place::{HandInPlace, OpenSpan, Reserved};
@@ -48,16 +48,11 @@ impl<T: Tagged, const N: usize, S: Stored<T>> HandInPlace<T, N, S> {
             × OnRing fabric.now ring (λ plan. Starts T.numbers how n ring Put plan (placed_view self.old)
             r.range.start r.range.count r.range.left [] (placed_view self.new))) }
         ensures refused { IfErr result (λ e. (self.new.span ≡ open_span.Idle) × OnRing fabric.now ring (λ plan.
-            RefusesStart T.numbers N how n ring Put plan (placed_view self.old) (placed_view self.new) e)) }
-        ensures may { OnRing fabric.now ring
-            (λ plan. IfOk result (λ _. MayStart T.numbers N n Put plan (placed_view self.old))
-            × IfErr result (λ e. RefusesCount T.numbers N n Put plan (placed_view self.old) e)) }
+            IsRefused T.numbers N how n ring Put plan (placed_view self.old) (placed_view self.new) e)) }
+        ensures may { IfOk result (λ _. OnRing fabric.now ring
+            (λ plan. MayStart T.numbers N n Put plan (placed_view self.old))) }
         ensures opened { IfOk result
             (λ r. (placed_view self.new).party ≡ with_open (placed_view self.old).party (span_at Put r)) }
-        ensures kept { IfErr result (λ e. IsKept (placed_view self.old) (placed_view self.new)) }
-        ensures worn { IfErr result (λ e. e ≡ Worn → IsWornAt N (placed_view self.new)) }
-        ensures true_refusal { IfErr result (λ e. OnRing fabric.now ring
-            (λ plan. IsTrueRefusal T.numbers ring Put plan (placed_view self.old) (placed_view self.new) e)) }
     {
         let range = match fabric
             .ring(ring)
@@ -100,16 +95,11 @@ impl<T: Word, const N: usize, S: Stored<T>> HandInPlace<T, N, S> {
             ≡ (placed_view self.new).shown ++ drop (length (placed_view self.new).shown) into.old) }
         ensures refused { IfErr result (λ e. (self.new.span ≡ open_span.Idle) × (into.new ≡ into.old)
             × OnRing fabric.now ring (λ plan.
-            RefusesStart T.numbers N how n ring Take plan (placed_view self.old) (placed_view self.new) e)) }
-        ensures may { OnRing fabric.now ring
-            (λ plan. IfOk result (λ _. MayStart T.numbers N n Take plan (placed_view self.old))
-            × IfErr result (λ e. RefusesCount T.numbers N n Take plan (placed_view self.old) e)) }
+            IsRefused T.numbers N how n ring Take plan (placed_view self.old) (placed_view self.new) e)) }
+        ensures may { IfOk result (λ _. OnRing fabric.now ring
+            (λ plan. MayStart T.numbers N n Take plan (placed_view self.old))) }
         ensures opened { IfOk result
             (λ r. (placed_view self.new).party ≡ with_open (placed_view self.old).party (span_at Take r)) }
-        ensures kept { IfErr result (λ e. IsKept (placed_view self.old) (placed_view self.new)) }
-        ensures worn { IfErr result (λ e. e ≡ Worn → IsWornAt N (placed_view self.new)) }
-        ensures true_refusal { IfErr result (λ e. OnRing fabric.now ring
-            (λ plan. IsTrueRefusal T.numbers ring Take plan (placed_view self.old) (placed_view self.new) e)) }
     {
         let mut front = Front {
             words: into,

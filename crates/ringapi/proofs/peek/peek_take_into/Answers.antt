@@ -10,4 +10,4 @@ invariant_of-result g c = record {
 pub returns-in-Err-clause-refused : goal.returns-in-Err-clause-refused
 returns-in-Err-clause-refused g c =
     let e = c.in-Err.ensures in
-    (e.refused.0, e.refused.1 ∙ c.requires.empty, λ plan there. (e.refused.2 plan there, (e.may plan there).1))
+    (e.refused.0, e.refused.1 ∙ c.requires.empty, e.refused.2)

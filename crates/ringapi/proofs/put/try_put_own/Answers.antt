@@ -65,12 +65,13 @@ returns-in-Err-clause-exact g c plan there =
       refl,
       v,
       refl,
-      subst (λ n. RefusesStart tags g.row.N c.args.how n c.args.ring Put plan v (view c.in-Err.hand) c.in-Err.fault) long (r.refused.1 plan there),
-      subst (λ n. RefusesCount tags g.row.N n Put plan v c.in-Err.fault) long (r.may plan there).1,
+      subst (λ n. RefusesStart tags g.row.N c.args.how n c.args.ring Put plan v (view c.in-Err.hand) c.in-Err.fault) long (r.refused.1 plan there).steps,
+      subst (λ n. RefusesCount tags g.row.N n Put plan v c.in-Err.fault) long (r.refused.1 plan there).count,
     )
 
 pub returns-in-Ok-clause-true_refusal : goal.returns-in-Ok-clause-true_refusal
 returns-in-Ok-clause-true_refusal g c plan there = c.settle.ensures.true_refusal c.args.ring plan
 
 pub returns-in-Err-clause-true_refusal : goal.returns-in-Err-clause-true_refusal
-returns-in-Err-clause-true_refusal g c plan there = (view c.args.hand, c.in-Err.ensures.kept, c.in-Err.ensures.true_refusal plan there)
+returns-in-Err-clause-true_refusal g c plan there =
+    let r = c.in-Err.ensures.refused.1 plan there in (view c.args.hand, r.kept, r.others)

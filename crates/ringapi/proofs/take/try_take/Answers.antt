@@ -33,9 +33,12 @@ returns-in-Ok-clause-taken g c =
 pub returns-in-Err-clause-taken : goal.returns-in-Err-clause-taken
 returns-in-Err-clause-taken g c =
     let r = c.in-Err.ensures in
+    let w = ring_at (rings_of c.args.f.now) c.args.ring c.requires.ring in
+    let none = r.refused.2 w.0 w.1 in
     record {
       made = search rules;
-      exact = λ plan there. (ap g.I.Items.items r.refused.1 ∙ c.requires.empty, view c.args.hand, refl, r.refused.2 plan there, (r.may plan there).1);
-      settled = search rules;
-      true_refusal = λ plan there. (view c.args.hand, r.kept, r.true_refusal plan there);
+      exact = λ plan there.
+          let is = r.refused.2 plan there in (ap g.I.Items.items r.refused.1 ∙ c.requires.empty, view c.args.hand, refl, is.steps, is.count);
+      settled = (ap (λ p. p.settled) none.kept.party, none.worn);
+      true_refusal = λ plan there. let is = r.refused.2 plan there in (view c.args.hand, is.kept, is.others);
     }

@@ -21,7 +21,7 @@ returns-in-Ok c =
     let there : c.args.ring < length (rings_of f) = search rules in
     let reserved : HasReserved f 4095 c.args.how c.args.n c.args.ring Take v (span_at Take r) r.range.left w.shown w =
     reserved_of f 4095 c.args.how c.args.n c.args.ring Take v (span_at Take r) r.range.left w.shown w there found.started.1 refl found.started.2
-    (λ plan at. (found.may plan at).0) found.opened in
+    found.may found.opened in
     let held : IsHeldNow f c.args.how c.args.n c.args.ring v c.count.result c.left-member.result h.span w = record {
       r = r;
       held = found.started.0;

@@ -4,7 +4,7 @@ use Rattle.geom.specs.declared.plan.Side.TheVariants.{Take}
 use Rattle.fabric_laws.specs.Changes.{settled}
 use Rattle.fabric.specs.Hands.{rings_of, take_left, take_view, view}
 use Rattle.fabric.specs.Views.{span_of}
-use Rattle.fabric.proofs.Told.{granted_few, refused_kept, ring_at, worn_at}
+use Rattle.fabric.proofs.Told.{granted_few, ring_at}
 use Rattle.ringapi.specs.Holdings.{HasMore}
 use Rattle.ringapi.specs.Views.{by_burst}
 use Rattle.stages.specs.Judging.{until_mark}
@@ -53,12 +53,7 @@ returns-in-Err-default-Worn-clause-worn g c =
     let low : 1 < length (rings_of c.args.f.now) = omega (arith, c.requires.rings.many) in
     let known = ring_at (rings_of c.args.f.now) 1 low in
     let e = c.in-Err-default-Worn in
-    let r = e.ensures.refused in
-    let why = r.2 known.0 known.1 in (
-      r.0,
-      worn_at item_numbers 256 by_burst c.args.burst 1 Take known.0 (rings_of c.args.f.now) (view c.loop.hand) (view e.back) e.field-0-1 why.0 why.1
-          r.0.1 known.1 e.field-0-1-is,
-    )
+    let r = e.ensures.refused in (r.0, (r.2 known.0 known.1).worn e.field-0-1-is)
 
 pub loop-preserved : goal.loop-preserved
 loop-preserved g c =
@@ -69,7 +64,5 @@ loop-preserved g c =
       iterator = (tt, tt);
       hand = r.0;
       into = r.1;
-      party = (refused_kept item_numbers 256 by_burst c.args.burst 1 Take known.0 (view c.loop.hand) (view c.in-Err.back) c.in-Err.field-0-1
-          (r.2 known.0 known.1).0).party
-          ∙ c.loop.invariant.party;
+      party = (r.2 known.0 known.1).kept.party ∙ c.loop.invariant.party;
     }
