@@ -9,6 +9,7 @@ from workspace import TOP
 FUNCTION = re.compile(r"( *)(?:pub(?:\([^)]*\))? )?(?:const )?(?:unsafe )?(?:extern \S+ )?fn (\w+)")
 LABEL = re.compile(r"\s*ensures (\w+) \{")
 IN_THE_TABLE = re.compile(r"`(\w+)/(\w+)`")
+OUTSIDE_THE_GATE = re.compile(r"`mutants/(\w+)/(\w+)`")
 OF_A_CLAUSE = re.compile(r"(returns|invariant_of|loop)\b.*-clause-(\w+)$")
 
 
