@@ -15,7 +15,7 @@
     X(HK_E_KIND, "a handle of another kind, or closed")                       \
     X(HK_E_SHARED, "other handles share it")                                  \
     X(HK_E_MEMORY, "out of memory")                                           \
-    X(HK_E_PLAN, "no such rings, pool, table, port or window can be made") \
+    X(HK_E_PLAN, "invalid size or mode: no such rings, pool, table, port or window") \
     X(HK_E_WORN, "the positions of the ring are used up")                     \
     X(HK_E_PARTS, "too many handles")                                         \
     X(HK_E_NOTYOURS, "a number that the handle doesn't have, or given twice") \

@@ -83,7 +83,7 @@ enum hk_code {
     HK_E_KIND = -10,    /* a handle of another kind, or a hand whose rings were closed */
     HK_E_SHARED = -12,  /* other handles share it */
     HK_E_MEMORY = -13,  /* out of memory */
-    HK_E_PLAN = -14,    /* no such rings, pool, table, port or window can be made */
+    HK_E_PLAN = -14,    /* invalid size or mode: no such rings, pool, table, port or window */
     HK_E_WORN = -15,    /* as many words as the ring's plan allows were put */
     HK_E_PARTS = -16,   /* as many handles were made as there can be on one set of rings or one pool, 2^62 */
     HK_E_NOTYOURS = -17, /* a number that this handle of the pool doesn't have, has cached, or that is given twice */

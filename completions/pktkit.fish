@@ -18,5 +18,5 @@ complete -c pktkit -n "__fish_seen_subcommand_from run" -l in -r -F \
     -d 'The capture, a classic pcap file, or - for standard input'
 complete -c pktkit -n "__fish_seen_subcommand_from run" -l out -r -F -d 'Port 0 is written to PREFIX.0.pcap, and so on'
 complete -c pktkit -n "__fish_seen_subcommand_from run" -l workers -x -k -a 'auto (seq 0 16)' \
-    -d 'How many threads judge packets'
+    -d 'Worker threads'
 complete -c pktkit -n "__fish_seen_subcommand_from run" -l progress -d 'Shows the progress in a line on standard error'

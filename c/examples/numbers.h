@@ -2,7 +2,7 @@
 #include <hokhtura.h>
 #include <sched.h>
 
-static int64_t pass(hk_pool *pool, size_t ring) {
+static int64_t send_one(hk_pool *pool, size_t ring) {
     uint32_t number;
     int64_t code = hk_pool_try_get_bulk(pool, &number, 1);
     if (code < 0) return code;
@@ -10,6 +10,6 @@ static int64_t pass(hk_pool *pool, size_t ring) {
     return code;
 }
 
-static int64_t take_over(hk_pool *pool, size_t ring, uint32_t *number) {
+static int64_t receive_one(hk_pool *pool, size_t ring, uint32_t *number) {
     return hk_pool_try_receive_bulk(pool, ring, number, 1);
 }

@@ -50,14 +50,14 @@ errors! {
     /// before the handle is dropped: otherwise its positions stay reserved, and that side is blocked. Of a `Fib`:
     /// nothing was changed.
     Pending = 3, "not finished: an earlier call of another thread, or a reader, isn't done";
-    /// There is an open span: finish it first.
-    Open = 4, "there is an open span";
-    /// There is no open span of that side.
-    NotOpen = 5, "there is no open span of that side";
+    /// A call of this handle isn't finished, or it holds a side: finish the call, or release the side, first.
+    Open = 4, "a call is unfinished, or a side is held";
+    /// No call of that side is unfinished, and the handle doesn't hold it.
+    NotOpen = 5, "no call of that side is unfinished";
     /// There is no ring of this number.
     Ring = 6, "no ring of this number";
-    /// A count of 0, above the limit, or one that doesn't fit the open span.
-    Count = 7, "a count of 0, above the limit, or not that of the span";
+    /// A count of 0, above the limit, or one that isn't that of the unfinished call.
+    Count = 7, "a count of 0, above the limit, or not that of the unfinished call";
     /// The side is not head/tail-sync.
     Mode = 8, "the side is not head/tail-sync";
     /// A null pointer.
@@ -68,10 +68,10 @@ errors! {
     Shared = 12, "other handles share it";
     /// Out of memory.
     Memory = 13, "out of memory";
-    /// An argument is out of range: no such ring, pool, table, port or window can be made.
-    Plan = 14, "no such ring, pool, table, port or window can be made";
-    /// The ring has carried as many words as it can count: 2^63 - 1, or 2^52 - 1 with a head/tail-sync side, or as many
-    /// numbers of a pool: 2^51 - 1.
+    /// An argument is out of range: there is no such ring, pool, table, port or window.
+    Plan = 14, "invalid size or mode: no such ring, pool, table, port or window";
+    /// The ring has carried as many words as it can count: 2^63 - 1, 2^52 - 1 with a head/tail-sync side, 2^51 - 1 in a
+    /// pool. What is queued can still be taken.
     Worn = 15, "the positions of the ring are used up";
     /// The limit of 2^62 handles is reached.
     Parts = 16, "too many handles";
@@ -87,7 +87,7 @@ errors! {
     NoRoute = 23, "no such route";
     /// The number's turn has passed.
     Late = 24, "the number's turn has passed";
-    /// The number is a whole window or more ahead.
+    /// The number is a whole window or more ahead, or `u64::MAX`.
     Early = 25, "the number is a whole window or more ahead";
     /// A word with this number is already waiting.
     Double = 26, "a word with this number is already waiting";

@@ -17,7 +17,7 @@ const DROP: u32 = 0x2_0000;
 pub struct Port {
     /// The hardware address.
     pub mac: [u8; 6],
-    /// The IPv4 address and the length of the prefix, if the port has one.
+    /// The IPv4 address and the length of the prefix, if the port has one. A length of 0 counts as `None`.
     pub address: Option<(Ipv4Addr, u8)>,
 }
 
@@ -220,7 +220,7 @@ impl Forwarder {
         Ok(sent)
     }
 
-    /// What a frame is addressed to that came in through a port.
+    /// What a frame that came in by a port is addressed to.
     ///
     /// # Errors
     ///

@@ -67,8 +67,8 @@ impl<T: Word> HeldPuts<'_, T> {
     ///
     /// # Errors
     ///
-    /// `Mode` if the side isn't head/tail-sync; `Open` if an earlier guard was forgotten; `Count` if `most` is 0 or
-    /// above `MOST`; `NoRoom`; `Again`; `Worn`. The word wasn't put then, and the side isn't held.
+    /// `Mode` if the side isn't head/tail-sync; `Open` if a forgotten guard holds it; `Count` if `most` is 0 or above
+    /// `MOST`; `NoRoom`; `Again`; `Worn`. The word wasn't put then, and this guard holds nothing.
     #[inline]
     pub fn put(&mut self, word: T) -> Result<(), Error> {
         if self.left == 0 {

@@ -1,9 +1,9 @@
 //! Rings, pools of numbers, routes, forwarding of frames and reorder windows of libhokhtura.
 //!
 //! Each handle is used by one thread at a time: it is `Send` if its words are, and never `Sync`, so the compiler
-//! enforces the rule of `hokhtura.h`. What threads share, a ring, a pool or a table, is reached through a handle of
-//! each thread's own; a handle can't be shared by a reference or lie in a `static`. A `Ring` of raw pointers isn't
-//! `Send`: a `Ring` carries addresses (`pointer as usize`), or a [`Queue`] values of any `Send` type.
+//! enforces the rule of `hokhtura.h`. Threads share a ring, a pool or a table through a handle each; a `static`, or a
+//! reference for other threads, needs a `Mutex` around a handle. A `Ring` of raw pointers isn't `Send`: put addresses
+//! on it (`pointer as usize`), or use a [`Queue`], which takes any `Send` type.
 //!
 //! ```
 //! use hokhtura::Ring;
@@ -19,7 +19,7 @@
 //! # }
 //! ```
 //!
-//! Which end of a ring to use:
+//! Which mode of a side to use:
 //!
 //! | side | calls | for |
 //! |---|---|---|
@@ -27,27 +27,28 @@
 //! | `Mode::Hts` | the same, one call of the side at a time | sides that are held now and then |
 //! | `Mode::Hts`, held | [`Producer::hold`], [`Consumer::hold`] | words one by one, by one thread for a while |
 //!
-//! A put or a take reserves positions, and then publishes or frees them. No call tries either step more than 1,024
-//! times, and none waits but the iterators that say so. The rings aren't lock-free: a thread that stops in between
-//! blocks that side. Calls of others then return [`Error::Again`] (head/tail-sync) or [`Error::Pending`] (multi).
-//! Finish a pending call before its handle is dropped: otherwise its positions stay reserved forever, and later calls
-//! on that side can't finish. What a thread did before it put a word happens before the take of that word.
+//! A put or a take reserves positions, and then publishes or frees them. A call tries a step up to 1,024 times, with a
+//! pause between two tries (the get of a pool up to twice as often), and only iterators that say so wait. The rings
+//! aren't lock-free: a thread that stops in between, or a handle that is dropped with a call pending, blocks that side
+//! and soon the other. Calls of others then return [`Error::Again`] (head/tail-sync), [`Error::Pending`] (multi) or
+//! [`Error::NoRoom`] forever. What a thread did before it put a word, or put or sent a number, happens before another
+//! thread takes, gets or receives it.
 //!
 //! The crate is `no_std` and needs `alloc`. With the feature `std`, which is on by default, iterators that wait let
-//! other threads run; without it they spin. The library below it is for Linux on x86-64 (`x86-64-v2`), needs the C
-//! library, and takes the memory of rings, pools and tables from that, not from Rust's global allocator.
+//! other threads run; without it they spin. The library below it is for Linux on x86-64 (`x86-64-v2`), needs libc, and
+//! takes the memory of rings, pools and tables from that, not from Rust's global allocator.
 //!
-//! The memory orders of the library's atomics aren't explored by loom or another model checker here: every atomic
-//! step is on the proved side, which is proved for sequentially consistent atomics, and this crate has none of its
-//! own.
+//! No loom or other model checker explores the memory orders. The atomic steps of rings, pools and tables are proved,
+//! for sequentially consistent atomics; those of the library's allocator (`hk_heap.c`) and of the `Arc` in a `Queue`
+//! aren't.
 //!
 //! # Unsafe code
 //!
 //! Nearly all of it is calls of `hokhtura.h`. Each is sound because its handle came from an open, a split or a share
 //! and is freed by its drop alone; because `&mut self`, or `&self` of a type that isn't `Sync`, makes it the only call
 //! on that handle; and because an array goes to it with its own length. The other blocks turn words into bits and back
-//! ([`Word`]), and pointers on a ring into the boxes that they came from. The provenance of a pointer is exposed when
-//! it is put, so that the take may use it again.
+//! ([`Word`]), and pointers on a ring into the boxes that they came from. A pointer goes over a ring as an address. Its
+//! provenance is exposed by `into_bits`, or by the C library, which reads the words of a slice as integers.
 #![no_std]
 #![deny(missing_docs)]
 #![warn(unsafe_op_in_unsafe_fn, clippy::pedantic)]

@@ -6,7 +6,7 @@ use crate::word::Word;
 use core::fmt;
 use core::iter::FusedIterator;
 
-/// A ring of words, with this thread's hand on it. Other threads use hands that are split off.
+/// A ring of words, and one thread's handle on it. Other threads use handles that are split off.
 ///
 /// When the last handle is dropped, the words that are left on the ring are discarded. A handle that is dropped while a
 /// call of it is pending, also by unwinding, leaves its positions reserved: that side of the ring is blocked for good.
@@ -156,11 +156,11 @@ macro_rules! both {
             self.hand.left()
         }
 
-        /// Closes the ring, by its only hand, and returns the words that are left.
+        /// Closes the ring, by its only handle, and returns the words that are left.
         ///
         /// # Errors
         ///
-        /// `Shared` while there are other hands; `Open`. The hand is returned with the error.
+        /// `Shared` while there are other handles; `Open`. The handle is returned with the error.
         pub fn close(mut self) -> Result<Left<T>, (Self, Error)> {
             match self.hand.close() {
                 Ok(_) => Ok(Left { hand: self.hand }),

@@ -43,7 +43,7 @@ unsafe impl Word for usize {}
 #[cfg(target_pointer_width = "64")]
 unsafe impl Word for isize {}
 
-/// A pointer type goes over a ring as an address, whose provenance is exposed when it is put.
+/// A pointer type goes over a ring as an address. `into_bits` exposes its provenance.
 #[cfg(target_pointer_width = "64")]
 macro_rules! pointers {
     ($($kind:ty, |$word:ident| $address:expr, |$at:ident| $made:expr;)*) => {

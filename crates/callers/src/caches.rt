@@ -49,8 +49,8 @@ pub fn get_and_put<R: Wait>(
     local.put_from(rt, f, &mut list).is_ok() && local.flush(rt, f).is_ok()
 }
 
-/// The same with the numbers of the buffers, which are copied: `None` if a call was refused, else the three that were
-/// taken.
+/// Gets the numbers of three buffers, which are copied, and puts them back, and then puts all that is cached on the free
+/// ring. Returns the three numbers, or `None` if a call was refused.
 pub fn get_and_put_words<R: Wait>(
     rt: &R,
     f: &Fabric<Number, MAX_ITEMS, Slot<Number>>,

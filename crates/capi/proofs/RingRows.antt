@@ -20,7 +20,7 @@ use Rattle.capi.specs.Finishes.{DoesNotFit}
 use Rattle.capi.specs.Members.{Rings}
 use Rattle.capi.specs.Plans.{extent_asked, mode_asked, plan_asked}
 use Rattle.capi.specs.Rests.{RefusesClose}
-use Rattle.capi.specs.RingCalls.{member_view}
+use Rattle.capi.specs.RingCalls.{SameButLoads, member_view}
 use Rattle.capi.specs.Spans.{HasReserved, HasSettled, IsAsked, IsEarly, call_limit, limit_in, limit_of, room_of, start_fault}
 use Rattle.capi.specs.declared.rings.fault.Fault.TheVariants as fault
 use Rattle.capi.specs.declared.rings.member.Member.{Member}
@@ -270,3 +270,10 @@ not_shared m span was (inr (_, idle)) = cc
 without_a_span : (m : Member) → (member_view m).party.span ≡ None → RefusesClose m fault.Open → ⊥
 without_a_span m idle (inl (_, some)) = let e : false ≡ true = subst IsSome idle some in cc
 without_a_span m idle (inr (is, _)) = cc
+
+-- a look after which the member has another span, or says something else of its last call
+looks_and_opens : (m u : Member) → u.port.hand.span ≢ m.port.hand.span → SameButLoads m u → ⊥
+looks_and_opens m u other is = other is.span
+
+looks_and_tells : (m u : Member) → u.left ≢ m.left → SameButLoads m u → ⊥
+looks_and_tells m u other is = other is.left

@@ -18,8 +18,8 @@ use Rattle.fabric.specs.declared.hand.in_place.Reserved.{Reserved}
 use Rattle.fabric.specs.Advances.{RefusesAdvance}
 use Rattle.fabric.specs.Hands.{OnRing, rings_of}
 use Rattle.fabric.specs.Held.{span_at}
-use Rattle.fabric.specs.Settles.{AreNotYours, IsCount, RefusesSettle}
-use Rattle.fabric.specs.Views.{IsKept}
+use Rattle.fabric.specs.Refused.{IsUnsettled}
+use Rattle.fabric.specs.Settles.{AreNotYours, IsCount}
 use Rattle.fabric.specs.WholeCalls.{HasMoved, HasOpen, StaysOpen}
 use Rattle.fabric.proofs.Told.{ring_at}
 use Rattle.capi.specs.Calls.{Moves, Waits}
@@ -63,23 +63,22 @@ all_fit Hts k count all = omega (arith, all)
 module _ (f : Rings) (ring k : ℕ) (side : Side) (r : Reserved) (words : List Word64) (v w : View Word64) (at : r.ring ≡ ring)
     (there : ring < length (rings_of f)) (plain : ArePlain (rings_of f)) (fits : OnRing f ring (λ plan. IsCount (mode_of plan side) k r.range.count)) where
   pub early_of : (e : SettleFault)
-      → OnRing f ring (λ plan. RefusesSettle tags (mode_of plan side) plan k r.range.count r.range.start words v w e)
-      → IsKept v w → IsEarly f (span_at side r) v w
-  early_of BadCount refused kept =
+      → OnRing f ring (λ plan. IsUnsettled tags plan (span_at side r) k words v w e) → IsEarly f (span_at side r) v w
+  early_of BadCount refused =
       let p = ring_at (rings_of f) ring there in
-      absurd ((refused p.0 p.1).0 (fits p.0 p.1))
-  early_of NotYours refused kept =
+      absurd ((refused p.0 p.1).found.0 (fits p.0 p.1))
+  early_of NotYours refused =
       let p = ring_at (rings_of f) ring there in
-      absurd (yours p.0 v words (plain ring p.0 p.1) (refused p.0 p.1).1)
-  early_of (NotYet x) refused kept =
+      absurd (yours p.0 v words (plain ring p.0 p.1) (refused p.0 p.1).found.1)
+  early_of (NotYet x) refused =
       let p = ring_at (rings_of f) ring there in
       let is = refused p.0 p.1 in
       record {
-        multi = λ plan on. (refused plan (sym (ap (slice_get (rings_of f)) at) ∙ on)).0;
+        multi = λ plan on. (refused plan (sym (ap (slice_get (rings_of f)) at) ∙ on)).found.0;
         tail = x;
-        below = is.2;
-        lost = ap (λ (u : View Word64). u.lost) is.3;
-        kept = kept;
+        below = is.found.2;
+        lost = ap (λ (u : View Word64). u.lost) is.found.3;
+        kept = is.kept;
       }
 
 pub settled_of : (span : Span) (words : List Word64) (v w : View Word64) → w ≡ settled span words v → HasSettled span words v w
@@ -122,5 +121,5 @@ module _ (f : Rings) (most : ℕ) (how : How) (n ring : ℕ) (v : View Word64) (
     opened = s.opened;
     reserved = subst (λ (l : List Word64). HasReserved f (call_limit f ring side) how n ring side v (span_at side r) r.range.left l s.opened) s.shows.0
         (reserved_in s.opened s.start);
-    early = early_of f ring k side r words s.opened u s.start.at there plain (λ plan _. all (mode_of plan side)) e s.refused s.kept;
+    early = early_of f ring k side r words s.opened u s.start.at there plain (λ plan _. all (mode_of plan side)) e s.refused;
   }

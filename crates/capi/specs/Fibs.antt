@@ -8,7 +8,7 @@ use Rattle.lpm.specs.Routes.{LacksRoute, NeedsTooMany}
 use Rattle.lpm.specs.declared.fault.RouteFault.{RouteFault}
 use Rattle.lpm.specs.declared.fault.RouteFault.TheVariants as table
 use Rattle.live_routes.specs.Forwarding.{Forwarding, opening, routes_of, with_hop, with_port, with_route, without_route, without_routes}
-use Rattle.live_routes.specs.Routing.{Draws, Keeps, Routing}
+use Rattle.live_routes.specs.Routing.{Prepares, Keeps, Routing}
 use Rattle.live_routes.specs.declared.fault.LiveFault.{LiveFault}
 use Rattle.live_routes.specs.declared.fault.LiveFault.TheVariants as live
 use Rattle.live_value.specs.Lanes.{Glance}
@@ -87,7 +87,7 @@ AtFib (Some (object.Reorder w)) new outcome does = IsOther outcome (object.Reord
 -- no routes, and these next hops and ports, are published, and nothing else is prepared
 pub record IsOpened (r : State) (bits groups : ℕ) (ports : List Port) (hops : List Hop) : Type 0 where
   pub seen : r.seen ≡ only (opening bits groups hops ports)
-  pub drawn : r.drawn ≡ opening bits groups hops ports
+  pub prepared : r.prepared ≡ opening bits groups hops ports
   pub settled : r.settled ≡ true
   pub pending : r.pending ≡ 0
 
@@ -118,12 +118,12 @@ SharesAt (Err why) old new second_old second_new =
 
 -- what a call answers that adds a route, as the writer's `add` has it
 pub record IsAdded (answer : Result (Unit {0}) LiveFault) (address depth hop : ℕ) (r s : State) : Type 0 where
-  pub ok : OnOk answer (Draws r s (with_route r.drawn address depth hop))
+  pub ok : OnOk answer (Prepares r s (with_route r.prepared address depth hop))
   pub pending : (answer ≡ Err live.Pending) ↔ (s.settled ≡ false)
   pub bad_depth : (answer ≡ Err live.BadDepth) ↔ ((s.settled ≡ true) × (IsDepth depth → ⊥))
   pub bad_hop : (answer ≡ Err live.BadHop) ↔ ((s.settled ≡ true) × IsDepth depth × (2 ^ 24 ≤ hop))
   pub no_group : (answer ≡ Err live.NoGroup)
-      ↔ ((s.settled ≡ true) × IsDepth depth × (hop < 2 ^ 24) × NeedsTooMany (routes_of r.drawn) address depth hop)
+      ↔ ((s.settled ≡ true) × IsDepth depth × (hop < 2 ^ 24) × NeedsTooMany (routes_of r.prepared) address depth hop)
   pub never : ((answer ≡ Err live.NoRoute) → ⊥) × ((answer ≡ Err live.BadPort) → ⊥)
   pub err : OnErr answer (Keeps r s)
 
@@ -133,10 +133,10 @@ Adds outcome address depth hop r s =
 
 -- the same for one that removes a route
 pub record IsRemoved (answer : Result (Unit {0}) LiveFault) (address depth : ℕ) (r s : State) : Type 0 where
-  pub ok : OnOk answer (Draws r s (without_route r.drawn address depth))
+  pub ok : OnOk answer (Prepares r s (without_route r.prepared address depth))
   pub pending : (answer ≡ Err live.Pending) ↔ (s.settled ≡ false)
   pub bad_depth : (answer ≡ Err live.BadDepth) ↔ ((s.settled ≡ true) × (IsDepth depth → ⊥))
-  pub no_route : (answer ≡ Err live.NoRoute) ↔ ((s.settled ≡ true) × LacksRoute (routes_of r.drawn) address depth)
+  pub no_route : (answer ≡ Err live.NoRoute) ↔ ((s.settled ≡ true) × LacksRoute (routes_of r.prepared) address depth)
   pub never : ((answer ≡ Err live.BadHop) → ⊥) × ((answer ≡ Err live.NoGroup) → ⊥) × ((answer ≡ Err live.BadPort) → ⊥)
   pub err : OnErr answer (Keeps r s)
 
@@ -146,7 +146,7 @@ Removes outcome address depth r s =
 
 -- for one that removes all
 pub record IsCleared (answer : Result (Unit {0}) LiveFault) (r s : State) : Type 0 where
-  pub ok : OnOk answer (Draws r s (without_routes r.drawn))
+  pub ok : OnOk answer (Prepares r s (without_routes r.prepared))
   pub pending : (answer ≡ Err live.Pending) ↔ (s.settled ≡ false)
   pub others : IfErr answer (λ why. (why ≡ live.Pending) ⊎ (why ≡ live.Memory))
   pub err : OnErr answer (Keeps r s)
@@ -156,9 +156,9 @@ Clears outcome r s = (answer : Result (Unit {0}) LiveFault) × (outcome ≡ done
 
 -- for one that changes a next hop
 pub record IsHopSet (answer : Result (Unit {0}) LiveFault) (number : ℕ) (hop : Hop) (r s : State) : Type 0 where
-  pub ok : OnOk answer (Draws r s (with_hop r.drawn number hop))
+  pub ok : OnOk answer (Prepares r s (with_hop r.prepared number hop))
   pub pending : (answer ≡ Err live.Pending) ↔ (s.settled ≡ false)
-  pub bad_hop : (answer ≡ Err live.BadHop) ↔ ((s.settled ≡ true) × (length r.drawn.hops ≤ number))
+  pub bad_hop : (answer ≡ Err live.BadHop) ↔ ((s.settled ≡ true) × (length r.prepared.hops ≤ number))
   pub others : IfErr answer (λ why. (why ≡ live.Pending) ⊎ ((why ≡ live.BadHop) ⊎ (why ≡ live.Memory)))
   pub err : OnErr answer (Keeps r s)
 
@@ -168,9 +168,9 @@ SetsHop outcome number hop r s =
 
 -- for one that changes a port
 pub record IsPortSet (answer : Result (Unit {0}) LiveFault) (number : ℕ) (port : Port) (r s : State) : Type 0 where
-  pub ok : OnOk answer (Draws r s (with_port r.drawn number port))
+  pub ok : OnOk answer (Prepares r s (with_port r.prepared number port))
   pub pending : (answer ≡ Err live.Pending) ↔ (s.settled ≡ false)
-  pub bad_port : (answer ≡ Err live.BadPort) ↔ ((s.settled ≡ true) × (length r.drawn.ports ≤ number))
+  pub bad_port : (answer ≡ Err live.BadPort) ↔ ((s.settled ≡ true) × (length r.prepared.ports ≤ number))
   pub others : IfErr answer (λ why. (why ≡ live.Pending) ⊎ ((why ≡ live.BadPort) ⊎ (why ≡ live.Memory)))
   pub err : OnErr answer (Keeps r s)
 
@@ -183,9 +183,9 @@ SetsPort outcome number port r s =
 
 -- for one that publishes
 pub record IsPublished (answer : Result (Unit {0}) LiveFault) (r s : State) : Type 0 where
-  pub ok : OnOk answer ((s.seen ≡ followed r.seen r.drawn) × (s.drawn ≡ r.drawn) × (s.pending ≡ 0))
+  pub ok : OnOk answer ((s.seen ≡ followed r.seen r.prepared) × (s.prepared ≡ r.prepared) × (s.pending ≡ 0))
   pub pending : (answer ≡ Err live.Pending) → (s.settled ≡ false)
-  pub err : OnErr answer ((s.seen ≡ r.seen) × (s.drawn ≡ r.drawn) × (s.pending ≡ r.pending))
+  pub err : OnErr answer ((s.seen ≡ r.seen) × (s.prepared ≡ r.prepared) × (s.pending ≡ r.pending))
   pub why : IfErr answer (λ why. (why ≡ live.Pending) ⊎ (why ≡ live.Memory))
 
 abbrev pub Publishes : Outcome → State → State → Type 0
@@ -213,14 +213,14 @@ pub record IsGot (answer : Result ℕ RouteFault) (address depth : ℕ) (f : For
 
 abbrev pub Gets : Outcome → ℕ → ℕ → State → State → Type 0
 Gets outcome address depth r s =
-    (s ≡ r) × ((answer : Result ℕ RouteFault) × (outcome ≡ got_of answer) × IsGot answer address (depth_of depth) r.drawn)
+    (s ≡ r) × ((answer : Result ℕ RouteFault) × (outcome ≡ got_of answer) × IsGot answer address (depth_of depth) r.prepared)
 
 -- the first route that is prepared and isn't before this address and depth, or none is
 abbrev pub Walks : Outcome → ℕ → ℕ → FibRoute → FibRoute → State → State → Type 0
 Walks (Ok count) address depth before after r s =
     (s ≡ r) × (count ≡ 0)
-    × IsFirstFrom r.drawn.members (record { address = address; depth = depth_of depth })
+    × IsFirstFrom r.prepared.members (record { address = address; depth = depth_of depth })
     (record { address = after.address; depth = after.depth }) after.hop
 Walks (Err why) address depth before after r s =
     (s ≡ r) × (why ≡ fault.NoRoute) × (after ≡ before)
-    × NoneFrom r.drawn.members (record { address = address; depth = depth_of depth })
+    × NoneFrom r.prepared.members (record { address = address; depth = depth_of depth })

@@ -154,15 +154,15 @@ module _ {G : Ghosts Number} {H : StoredGhosts (Option Number) Number} {C : Type
     pub reply : Received f how ring (length before) l m (Ok moved) shown
 
   -- numbers go to a ring, or nothing is changed
-  abbrev pub PassesOn : List Number → Outcome → Type 0
-  PassesOn items (Ok count) = HasSent items count
-  PassesOn items (Err why) = IsSame l m × (IsBadCount (length items) why
+  abbrev pub SendsTo : List Number → Outcome → Type 0
+  SendsTo items (Ok count) = HasSent items count
+  SendsTo items (Err why) = IsSame l m × (IsBadCount (length items) why
       ⊎ ((reason : Refusal) × (why ≡ refusal_fault reason) × Sent f how ring (cache_of l) items l m (Err reason)))
 
   -- numbers come from a ring, or nothing is changed
-  abbrev pub TakesOver : List Number → List Number → Outcome → Type 0
-  TakesOver before after (Ok count) = HasReceived before after count
-  TakesOver before after (Err why) = (after ≡ before) × IsSame l m × (IsBadCount (length before) why
+  abbrev pub ReceivesFrom : List Number → List Number → Outcome → Type 0
+  ReceivesFrom before after (Ok count) = HasReceived before after count
+  ReceivesFrom before after (Err why) = (after ≡ before) × IsSame l m × (IsBadCount (length before) why
       ⊎ ((reason : StartFault) × (why ≡ start_fault reason) × Received f how ring (length before) l m (Err reason) []))
 
 -- 1 if the handle has a number, cached or not, and 0 if it hasn't

@@ -6,7 +6,7 @@ use Rattle.geom.specs.declared.plan.Side.TheVariants.{Take}
 use Rattle.pool.specs.Locals.{SameCache, SameRing, cache_of, view_of}
 use Rattle.capi.specs.Codes.{Outcome}
 use Rattle.capi.specs.Counts.{Looks}
-use Rattle.capi.specs.PoolCalls.{Flushes, Gets, PassesOn, Puts, TakesOver, TellsOwner}
+use Rattle.capi.specs.PoolCalls.{Flushes, Gets, SendsTo, Puts, ReceivesFrom, TellsOwner}
 use Rattle.capi.specs.PoolMembers.{numbers_of}
 use Rattle.capi.specs.declared.pools.member.Number.{Number}
 use Rattle.capi.specs.declared.rings.fault.Fault.TheVariants as fault
@@ -35,11 +35,11 @@ FlushesCache p q outcome = SamePool p q × Flushes p.fabric.value p.local q.loca
 -- ring 0 of the fabric is the free ring, so that these have the numbers from 1 on
 abbrev pub SendsNumbers : ℕ → How → List Number → PoolMember → PoolMember → Outcome → Type 0
 SendsNumbers ring how items p q outcome =
-    OnPoolRing ring p q outcome ⊤ (PassesOn p.fabric.value how (ring + 1) p.local q.local items outcome)
+    OnPoolRing ring p q outcome ⊤ (SendsTo p.fabric.value how (ring + 1) p.local q.local items outcome)
 
 abbrev pub ReceivesNumbers : ℕ → How → List Number → List Number → PoolMember → PoolMember → Outcome → Type 0
 ReceivesNumbers ring how before after p q outcome =
-    OnPoolRing ring p q outcome (after ≡ before) (TakesOver p.fabric.value how (ring + 1) p.local q.local before after outcome)
+    OnPoolRing ring p q outcome (after ≡ before) (ReceivesFrom p.fabric.value how (ring + 1) p.local q.local before after outcome)
 
 -- how many numbers are queued on a ring, or how many more it takes
 abbrev pub CountsNumbers : ℕ → Side → PoolMember → PoolMember → Outcome → Type 0

@@ -146,7 +146,7 @@ fn pending_at(alloc: Global, h: &mut Handle) -> Result<u32, Fault>
 
 fn count_at(alloc: Global, h: &mut Handle) -> Result<u32, Fault>
     ensures { AtFib h.old.value h.new.value result
-        (λ r s. (s ≡ r) × (result ≡ Ok (count_of (map_of.len r.drawn.members)))) }
+        (λ r s. (s ≡ r) × (result ≡ Ok (count_of (map_of.len r.prepared.members)))) }
 {
     let Some(mut slot) = borrow(alloc, h) else {
         return Err(Fault::Empty);
@@ -186,8 +186,8 @@ fn walk_at(
 }
 
 /// Opens a forwarding table without routes, with these ports and next hops: the first level of the routes has 2^`bits`
-/// entries, 16 or 24, and they may have `groups` groups. Both copies are whole, or both are sparse. Nothing is drawn
-/// up.
+/// entries, 16 or 24, and they may have `groups` groups. Both copies are whole, or both are sparse. Nothing is
+/// prepared.
 #[unsafe(no_mangle)]
 pub extern "C" fn hkx_fib_open(
     alloc: Global,
@@ -291,7 +291,7 @@ pub extern "C" fn hkx_fib_pending(alloc: Global, h: &mut Handle) -> i64
 #[unsafe(no_mangle)]
 pub extern "C" fn hkx_fib_count(alloc: Global, h: &mut Handle) -> i64
     ensures { Answers result (λ outcome. AtFib h.old.value h.new.value outcome
-        (λ r s. (s ≡ r) × (outcome ≡ Ok (count_of (map_of.len r.drawn.members))))) }
+        (λ r s. (s ≡ r) × (outcome ≡ Ok (count_of (map_of.len r.prepared.members))))) }
 {
     answer(count_at(alloc, h))
 }

@@ -218,7 +218,7 @@ pub(crate) fn pending(slot: &mut Option<Object>) -> Result<u32, Fault>
 /// How many routes are prepared.
 pub(crate) fn count(slot: &mut Option<Object>) -> Result<u32, Fault>
     ensures { AtFib slot.old slot.new result
-        (λ r s. (s ≡ r) × (result ≡ Ok (count_of (map_of.len r.drawn.members)))) }
+        (λ r s. (s ≡ r) × (result ≡ Ok (count_of (map_of.len r.prepared.members)))) }
 {
     match slot {
         Some(Object::Fib(writer)) => Ok(count_of(writer.fib().len())),

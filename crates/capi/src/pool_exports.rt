@@ -11,7 +11,8 @@ use crate::handle::Handle;
 use crate::keeping::{borrow, with_object};
 use crate::object::Object;
 use crate::pools::{
-    Number, count_free, count_on, flush_numbers, get_into, pass_on, put_numbers, take_over,
+    Number, count_free, count_on, flush_numbers, get_into, put_numbers, receive_numbers,
+    send_numbers,
 };
 use crate::rings::{Fault, answer, how, side_of};
 use std::alloc::Global;
@@ -52,7 +53,7 @@ pub extern "C" fn hkx_pool_send(
 ) -> i64
     ensures { Answers result (AtPool h.old.value h.new.value (SendsNumbers ring (how_of bulk) items.now)) }
 {
-    with_object!(alloc, h, Pool(pool) => pass_on(pool, ring, items, how(bulk)))
+    with_object!(alloc, h, Pool(pool) => send_numbers(pool, ring, items, how(bulk)))
 }
 
 /// Takes numbers over from a ring of the pool.
@@ -68,7 +69,7 @@ pub extern "C" fn hkx_pool_receive(
         (λ outcome. AtPool h.old.value h.new.value (ReceivesNumbers ring (how_of bulk) into.old into.new) outcome
         × IfErr outcome (λ _. into.new ≡ into.old)) }
 {
-    with_object!(alloc, h, Pool(pool) => take_over(pool, ring, into, how(bulk)))
+    with_object!(alloc, h, Pool(pool) => receive_numbers(pool, ring, into, how(bulk)))
 }
 
 /// How many numbers are queued on a ring of the pool, or how many more there is room for.

@@ -60,7 +60,7 @@ fn drain_from(window: &mut Window<u64>, words: &mut [u64]) -> u32
     words.len() as u32
 }
 
-/// The same for any number of places. Errors: `Count` if there are more than `MOST`.
+/// Moves the words whose turn it is to the front of an array. Errors: `Count` if it has more than `MOST` places.
 pub(crate) fn drain(window: &mut Window<u64>, words: &mut [u64]) -> Result<u32, Fault>
     ensures { Drains result MOST words.old words.new window.old window.new }
 {

@@ -12,7 +12,7 @@ use crate::rings::{Fault, answer};
 use crate::route_tables::{add, look_up, look_up_in, made, remove, shared};
 use std::alloc::Global;
 
-/// The same table in a second handle.
+/// Gives a second handle the table that a handle has.
 fn share_at(alloc: Global, h: &mut Handle, second: &mut Handle) -> Result<u32, Fault>
     ensures { Shares result h.old.value h.new.value second.old.value second.new.value }
 {

@@ -9,7 +9,7 @@ use thiserror::Error;
 /// The first bytes of a modified pcap file, big-endian.
 const MODIFIED_BIG: [u8; 4] = [0xa1, 0xb2, 0xcd, 0x34];
 
-/// The same, little-endian.
+/// The first bytes of a modified pcap file, little-endian.
 const MODIFIED_LITTLE: [u8; 4] = [0x34, 0xcd, 0xb2, 0xa1];
 
 /// Those of a pcapng file, the same in both byte orders.

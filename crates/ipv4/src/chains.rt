@@ -43,7 +43,7 @@ pub fn forward(chain: &mut Chain, table: &Table, ports: &Ports, wire: usize) -> 
     forward_prefetched(chain, table, ports, wire, None)
 }
 
-/// `forward`, where an earlier lookup of the frame's destination saves one.
+/// `forward`, reusing an earlier lookup of the frame's destination.
 ///
 /// A header that is in the first segment is read and written there; any other is gathered and written back.
 #[inline]

@@ -62,8 +62,8 @@ pub fn verdict_along(frame: &[u8], wire: usize, way: Option<Way>) -> Verdict
     }
 }
 
-/// The same verdict, and the frame is rewritten if it is sent. Requires: `wire` is at least the number of bytes. Takes
-/// no memory.
+/// The verdict of `verdict_along`, and the frame is rewritten if it is sent. Requires: `wire` is at least the number of
+/// bytes. Takes no memory.
 #[inline]
 pub fn forward_along(frame: &mut [u8], wire: usize, way: Option<Way>) -> Verdict
     requires { length frame.old ≤ wire }

@@ -13,7 +13,7 @@ pub record Routing (H P : Type 0) : Type 0 where
   -- what was published, oldest first
   pub seen : Past (Forwarding H P)
   -- what the next publish will publish
-  pub drawn : Forwarding H P
+  pub prepared : Forwarding H P
   -- whether it can be changed: both copies are the writer's, but for what readers have
   pub settled : Bool
   -- how many changes readers don't see yet
@@ -24,8 +24,8 @@ routing_code {H} {P} h p =
     code_by (Past (Forwarding H P)
     × (Forwarding H P × (Bool
     × ℕ))) (coded× (seen_code h p) (coded× (forwarding_code h p) (coded× coded_bool coded_ℕ)))
-    (λ r. (r.seen, (r.drawn, (r.settled, r.pending))))
-    (λ c. record { seen = c.0; drawn = c.1.0; settled = c.1.1.0; pending = c.1.1.1 })
+    (λ r. (r.seen, (r.prepared, (r.settled, r.pending))))
+    (λ c. record { seen = c.0; prepared = c.1.0; settled = c.1.1.0; pending = c.1.1.1 })
     (λ _. refl)
 
 abbrev pub or_else : {X : Type 0} → X → Option X → X
@@ -34,8 +34,8 @@ or_else d (Some x) = x
 
 module _ {H P : Type 0} where
   -- what is prepared: the copy that the writer has, if it has all changes
-  abbrev pub drawn_of : Past (Forwarding H P) → Option (Forwarding H P) → Bool → Forwarding H P
-  drawn_of seen spare ready = if ready then or_else seen.latest spare else seen.latest
+  abbrev pub prepared_of : Past (Forwarding H P) → Option (Forwarding H P) → Bool → Forwarding H P
+  prepared_of seen spare ready = if ready then or_else seen.latest spare else seen.latest
 
   -- the second copy, which is the writer's, or is still behind readers
   abbrev pub second : Option (Forwarding H P) → Option (Forwarding H P) → Option (Forwarding H P)
@@ -54,18 +54,18 @@ module _ {H P : Type 0} where
     pub apart : IsSome spare → p.behind ≡ None
 
   -- one change more is prepared
-  abbrev pub drew : Routing H P → Forwarding H P → Routing H P
-  drew r f = record r { drawn = f; pending = r.pending + 1 }
+  abbrev pub with_prepared : Routing H P → Forwarding H P → Routing H P
+  with_prepared r f = record r { prepared = f; pending = r.pending + 1 }
 
-  -- a call drew up one change
-  pub record Draws (old new : Routing H P) (f : Forwarding H P) : Type 0 where
-    pub drawn : new.drawn ≡ f
+  -- a call prepared one change
+  pub record Prepares (old new : Routing H P) (f : Forwarding H P) : Type 0 where
+    pub prepared : new.prepared ≡ f
     pub seen : new.seen ≡ old.seen
     pub settled : new.settled ≡ true
     pub pending : new.pending ≡ old.pending + 1
 
   -- a call changed nothing that is published or prepared
   pub record Keeps (old new : Routing H P) : Type 0 where
-    pub drawn : new.drawn ≡ old.drawn
+    pub prepared : new.prepared ≡ old.prepared
     pub seen : new.seen ≡ old.seen
     pub pending : new.pending ≡ old.pending

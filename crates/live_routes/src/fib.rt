@@ -78,7 +78,7 @@ impl<H: Copy, P: Copy> Fib<H, P> {
         self.table.lookup(addr)
     }
 
-    /// The same for a burst of addresses: at each index of `hops` what `lookup` returns for the address at that index.
+    /// Looks up a burst of addresses: at each index of `hops` is then what `lookup` returns for the address there.
     /// Takes no memory.
     pub fn lookup_burst(&self, addresses: &[u32], hops: &mut [NextHop])
         requires { length addresses.now ≡ length hops.old }

@@ -18,7 +18,7 @@ use std::marker::Model;
 mod changing;
 
 /// The one writer. Contracts see what was published, oldest first (`seen`), what the next publish will publish
-/// (`drawn`), whether it can be changed (`settled`), and how many changes readers don't see yet (`pending`).
+/// (`prepared`), whether it can be changed (`settled`), and how many changes readers don't see yet (`pending`).
 #[derive(Drop)]
 pub struct RouteWriter<H: Copy, P: Copy> {
     publisher: Publisher<Fib<H, P>>,
@@ -32,7 +32,7 @@ pub struct RouteWriter<H: Copy, P: Copy> {
 
 impl<H: Copy, P: Copy> Model for RouteWriter<H, P> {
     ghost use Rattle.std.specs.Prelude.{length, if◌then◌else◌};
-    ghost use Rattle.live_routes.specs.Routing.{Routing, routing_code, IsRouting, drawn_of};
+    ghost use Rattle.live_routes.specs.Routing.{Routing, routing_code, IsRouting, prepared_of};
 
     ghost Value = { Routing H P };
 
@@ -40,7 +40,7 @@ impl<H: Copy, P: Copy> Model for RouteWriter<H, P> {
 
     ghost view = { λ w. record {
       seen = w.publisher.seen;
-      drawn = drawn_of w.publisher.seen w.spare w.is_ready;
+      prepared = prepared_of w.publisher.seen w.spare w.is_ready;
       settled = w.is_ready;
       pending = if w.is_ready then length w.log.items else 0;
     } };
@@ -61,7 +61,7 @@ impl<H: Copy, P: Copy> RouteWriter<H, P> {
     ) -> Result<RouteWriter<H, P>, AllocError>
         requires { (bits ≡ 16) ⊎ (bits ≡ 24) }
         ensures seen { IfOk result (λ w. w.seen ≡ only (opening bits groups hops.now ports.now)) }
-        ensures drawn { IfOk result (λ w. w.drawn ≡ opening bits groups hops.now ports.now) }
+        ensures prepared { IfOk result (λ w. w.prepared ≡ opening bits groups hops.now ports.now) }
         ensures settled { IfOk result (λ w. (w.settled ≡ true) × (w.pending ≡ 0)) }
     {
         let first = Fib::new(alloc, form, bits, groups, hops, ports)?;
@@ -101,7 +101,7 @@ impl<H: Copy, P: Copy> RouteWriter<H, P> {
 
     /// What the next publish will publish.
     pub fn fib(&self) -> &Fib<H, P>
-        ensures { result.now ≡ self.now.drawn }
+        ensures { result.now ≡ self.now.prepared }
     {
         match (&self.spare, self.is_ready) {
             (Some(fib), true) => fib,
@@ -138,10 +138,10 @@ impl<H: Copy, P: Copy> RouteWriter<H, P> {
     /// copy before it back for the writer. Errors: 7 `Pending` where the publish before isn't settled, 4 `Memory`. An
     /// error changes nothing that callers see but `settled`.
     pub fn publish(&mut self) -> Result<(), LiveFault>
-        ensures ok { OnOk result ((self.new.seen ≡ followed self.old.seen self.old.drawn)
-            × (self.new.drawn ≡ self.old.drawn) × (self.new.pending ≡ 0)) }
+        ensures ok { OnOk result ((self.new.seen ≡ followed self.old.seen self.old.prepared)
+            × (self.new.prepared ≡ self.old.prepared) × (self.new.pending ≡ 0)) }
         ensures pending { (result ≡ Err LiveFault.Pending) → (self.new.settled ≡ false) }
-        ensures err { OnErr result ((self.new.seen ≡ self.old.seen) × (self.new.drawn ≡ self.old.drawn)
+        ensures err { OnErr result ((self.new.seen ≡ self.old.seen) × (self.new.prepared ≡ self.old.prepared)
             × (self.new.pending ≡ self.old.pending)) }
         ensures why { IfErr result (λ fault. (fault ≡ LiveFault.Pending) ⊎ (fault ≡ LiveFault.Memory)) }
     {
@@ -158,8 +158,8 @@ impl<H: Copy, P: Copy> RouteWriter<H, P> {
         requires { self.old.settled ≡ true }
         ensures ok { OnOk result
             (self.new ≡ record {
-              seen = followed self.old.seen self.old.drawn;
-              drawn = self.old.drawn;
+              seen = followed self.old.seen self.old.prepared;
+              prepared = self.old.prepared;
               settled =
                   false;
               pending = 0;

@@ -19,7 +19,7 @@ pub type Slot<T> = Option<Arc<T, Global>>;
 pub enum Role {
     /// The lane is new, and has no reader yet.
     Opens,
-    /// The same, with the empty slot.
+    /// The lane is new, has no reader yet, and this end has the empty slot.
     Holds,
     /// The writer, with the other slot. The reader takes this one next.
     Writes(u64),

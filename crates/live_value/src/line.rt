@@ -35,7 +35,8 @@ impl<T: Drop> Line<T> {
     }
 }
 
-/// The same for each line. Whether the value before is back from all readers.
+/// Shows each reader what was published last, if it isn't shown yet. Whether the value before it is back from all
+/// readers.
 pub fn catch_up<T: Drop>(
     lines: &mut [Line<T>],
     shown: &Arc<T, Global>,

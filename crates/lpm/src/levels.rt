@@ -55,7 +55,7 @@ impl Levels {
         Ok(Levels::below(alloc, bits, limit, first))
     }
 
-    /// The same with a first level in blocks, of which one is written.
+    /// Entries without a route, and no groups. The first level is in blocks, of which one is written.
     pub fn sparse(alloc: Global, bits: u8, limit: u32) -> Result<Levels, AllocError>
         requires { (bits ≡ 16) ⊎ (bits ≡ 24) }
         ensures { IfOk result (λ l. l ≡ no_routes bits limit) }

@@ -106,7 +106,8 @@ impl PackedEntry {
             Some(self.number())
         }
     }
-    /// The same as a result of a burst lookup: the entry without its depth.
+
+    /// The hop of the longest match, as a result of a burst lookup: the entry without its depth.
     pub fn next_hop(self) -> NextHop
         ensures { result ≡ hop_of self }
     {

@@ -1,4 +1,4 @@
-//! Where segments come from. There is no other way to make one, so a number names the same buffer for ever.
+//! Where segments come from. There is no other way to make one, so a number names the same buffer forever.
 ghost use Rattle.std.specs.Prelude.{◌≡◌, ◌≤◌, IfOk};
 ghost use Rattle.std.specs.List.{range_with_len};
 ghost use Rattle.burst.specs.Numbers.{AreDistinct};

@@ -146,7 +146,7 @@ impl<R: Read> Reader<R> {
         }
     }
 
-    /// The same, before a record.
+    /// The head of the next record, if there is one, while none is pending.
     fn read_head(&mut self) -> Result<Option<Head>, CapFault>
         requires between { state_of self.old ≡ Between }
         ensures file { IsSameFile self.old self.new }

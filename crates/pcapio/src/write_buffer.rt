@@ -85,7 +85,7 @@ impl WriteBuffer {
         Ok(())
     }
 
-    /// The same, if there is too little room.
+    /// Adds bytes to what is waiting, if there is too little room: what is waiting is written first.
     fn add_past<W: Write>(&mut self, device: &mut Counted<W>, bytes: &[u8]) -> Result<(), Failed>
         ensures ok { OnOk result (Adds W.contents self.old device.old self.new device.new bytes.now) }
         ensures begins { OnErr result (BeginsToAdd W.contents self.old device.old device.new bytes.now) }

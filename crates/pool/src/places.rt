@@ -141,7 +141,7 @@ fn has_several<T: Word>(words: &[T], at: &[u16], item: &T) -> bool
     has_any_of(words, at, out.as_slice())
 }
 
-/// The same, where most items carry one.
+/// Whether one of these words carries a buffer that an item carries. Most items carry one, which is tested first.
 #[inline]
 fn has_one<T: Word>(words: &[T], at: &[u16], item: &T) -> bool
     requires placed { ArePlaced T.numbers at.now words.now }

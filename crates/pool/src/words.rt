@@ -163,7 +163,7 @@ fn fetch_words<T: Word, const N: usize, S: Stored<T>, R: Wait>(
     }
 }
 
-/// The same with a cache: the words that refill it get their places.
+/// Fills a slice with words from a cache, which is refilled first. The words that refill it get their places.
 #[inline(never)]
 pub(crate) fn fetch<T: Word, const N: usize, S: Stored<T>, R: Wait>(
     rt: &R,

@@ -157,7 +157,7 @@ pub fn try_take_slice<'f, T: Word, const N: usize, S: Stored<T>>(
     try_take(f, hand, ring, n, how, &mut front)
 }
 
-/// The same, tried until it is finished.
+/// Takes as many words as a slice has places, or at most so many, and tries until it is finished.
 fn take_front<'f, T: Word, const N: usize, S: Stored<T>, R: Wait>(
     rt: &R,
     f: &'f Fabric<T, N, S>,

@@ -74,7 +74,7 @@ impl World {
         self.exists(actor, step)
     }
 
-    /// The same for each entry of a list. Takes no memory.
+    /// Whether the actors and the rings of all steps of a list exist. Takes no memory.
     pub fn has_all(&self, entries: &[(usize, Step)]) -> bool
         ensures { IsTrue result ↔ StepsExist self.now entries.now }
     {
@@ -111,6 +111,7 @@ impl World {
             × AgreesWith self.new (followed_by h events) × IsRight (followed_by h events)) }
         ensures memory { OnErr result ((h : History) → AgreesWith self.old h → AgreesWith self.new h) }
     {
+        // Named, since the proof of `ok` speaks of it.
         let reply = self.step_once(actor, step)?;
         Ok(reply)
     }
@@ -129,6 +130,7 @@ impl World {
             × AgreesWith self.new (followed_by h events) × IsRight (followed_by h events)) }
         ensures memory { OnErr result (LeavesBeginning self.old self.new entries.items) }
     {
+        // Named, since the proof of `ok` speaks of them.
         let replies = self.run_all(entries)?;
         Ok(replies)
     }

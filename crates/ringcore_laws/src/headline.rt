@@ -1,5 +1,5 @@
 //! The laws of the protocol, each the contract of a function without a body: what holds for every list of atomic steps
-//! of any number of actors, in any interleaving and wherever any actor stops for ever, and which changes of the parties
+//! of any number of actors, in any interleaving and wherever any actor stops forever, and which changes of the parties
 //! keep it.
 
 ghost use Rattle.std.specs.Prelude.{◌≡◌, ◌≢◌, ◌<◌, ◌≤◌, ◌+◌, ◌++◌, ◌∷◌, [], ℕ, List, None, Some, false, length, slice_get, slice_index, slice_index_or, slice_set, take, true};
@@ -102,7 +102,7 @@ pub fn a_right_history_is_that_of_its_steps()
         → IsRun plans pool actors events → events ≡ history_of plans pool actors (steps_of events) }
 {}
 
-/// The same for given histories: if each reply is the one to its step, the history is sound throughout.
+/// A history is sound throughout if each of its replies is the one to its step.
 pub fn every_history_is_sound()
     ensures { (plans : List RingPlan) (actors : ℕ) (gifts : List ℕ) (events : List Event)
         → AllFitAny plans (length gifts)

@@ -74,8 +74,7 @@ impl Settings {
         ensures { Gives shown result (settings_in text.now) }
     {
         let tree = tree(alloc, text)?;
-        let settings = Settings::of_tree(alloc, &tree)?;
-        Ok(settings)
+        Settings::of_tree(alloc, &tree)
     }
 
     /// The settings of a tree.

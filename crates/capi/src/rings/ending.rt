@@ -67,7 +67,8 @@ fn empty(rest: &mut Rest, ring: usize, words: &mut [Word64]) -> u32
     words.len() as u32
 }
 
-/// The same with the tests. Errors: `Ring`; `Count`.
+/// Takes the words that are left on a ring, the oldest first, once its number and theirs were tested. Errors: `Ring`;
+/// `Count`.
 pub fn drain(rest: &mut Rest, ring: usize, words: &mut [Word64]) -> Result<u32, Fault>
     ensures { DrainsRest result MOST ring words.old words.new rest.old rest.new }
 {

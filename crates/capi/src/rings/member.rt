@@ -13,7 +13,7 @@ use std::sync::Arc;
 /// The largest number of words in a call on a head/tail-sync side, which its word has room to count.
 pub const MOST: usize = 4095;
 
-/// The same on a multi side: no ring holds more words.
+/// The largest number of words in a call on a multi side: no ring holds more.
 pub const MOST_ON_MULTI: usize = 1_048_575;
 
 /// Rings of words.

@@ -21,7 +21,7 @@ const MAX_WORKERS: usize = 16;
 /// What `--workers` takes besides numbers.
 const AUTO: &str = "auto";
 
-/// The same, as all that clap accepts.
+/// The words that clap accepts for `--workers`, besides numbers.
 const AUTO_ALONE: &[&str] = &[AUTO];
 
 /// What a command line requests.
@@ -172,7 +172,7 @@ fn run_command<'a>(alloc: Global, workers: ValueParser<'a>) -> Result<Command<'a
         .value_parser(workers)
         .hide_possible_values(true)
         .default_value("1")
-        .help("How many threads judge packets, 0 to 16, or auto; with 0 one thread does all");
+        .help("Worker threads, 0 to 16, or auto; with 0 one thread does all");
     let progress = Arg::new(alloc, "progress")
         .long("progress")
         .action(ArgAction::SetTrue)

@@ -8,11 +8,9 @@ ghost use Rattle.fabric_laws.specs.Changes.{settled};
 ghost use Rattle.fabric.specs.Hands.{OnRing, rings_of};
 ghost use Rattle.fabric.specs.Held.{span_at};
 ghost use Rattle.fabric.specs.InPlace.{IsPlacedOf, placed_view};
-ghost use Rattle.fabric.specs.Settles.{HoldsLess, HoldsMore, IsCount, RefusesSettle};
+ghost use Rattle.fabric.specs.Settles.{HoldsLess, HoldsMore, IsCount};
 ghost use Rattle.fabric.specs.Starts.{MayStart, Starts};
-ghost use Rattle.fabric.specs.Truths.{IsTrueTooEarly};
-ghost use Rattle.fabric.specs.Refused.{IsRefused};
-ghost use Rattle.fabric.specs.Views.{IsKept};
+ghost use Rattle.fabric.specs.Refused.{IsRefused, IsUnsettled};
 ghost use Rattle.fabric.specs.declared.hand.in_place.OpenSpan.TheVariants as open_span;
 ghost use Rattle.fabric.specs.declared.hand.SettleFault.TheVariants.{NotYours};
 
@@ -141,11 +139,8 @@ impl<T: Tagged, const N: usize, S: Stored<T>> HandInPlace<T, N, S> {
             × (I.items items.new ≡ I.left (I.items items.old) 0)) }
         ensures refused { IfErr result (λ e. (self.new.span ≡ self.old.span)
             × (I.items items.new ≡ I.items items.old) × OnRing fabric.now reserved.ring
-            (λ plan. RefusesSettle T.numbers plan.put plan (length (I.items items.old)) reserved.range.count
-            reserved.range.start (I.items items.old) (placed_view self.old) (placed_view self.new) e)) }
-        ensures kept { IfErr result (λ e. IsKept (placed_view self.old) (placed_view self.new)) }
-        ensures true_refusal { IfErr result
-            (λ e. IsTrueTooEarly T.numbers (span_at Put reserved) (placed_view self.old) e) }
+            (λ plan. IsUnsettled T.numbers plan (span_at Put reserved) (length (I.items items.old)) (I.items items.old)
+            (placed_view self.old) (placed_view self.new) e)) }
         ensures owned { IfOk result
             (λ _. HoldsLess T.numbers (placed_view self.old) (I.items items.old) (placed_view self.new)) }
     {
@@ -183,13 +178,10 @@ impl<T: Tagged, const N: usize, S: Stored<T>> HandInPlace<T, N, S> {
             × (I.items items.new ≡ I.left (I.items items.old) k)) }
         ensures refused { IfErr result (λ e. (self.new.span ≡ self.old.span) × (I.items items.new ≡ I.items items.old)
             × ((placed_view self.new).shown ≡ (placed_view self.old).shown) × OnRing fabric.now reserved.ring
-            (λ plan. RefusesSettle T.numbers plan.take plan k reserved.range.count
-            reserved.range.start [] (placed_view self.old) (placed_view self.new) e)) }
-        ensures kept { IfErr result (λ e. IsKept (placed_view self.old) (placed_view self.new)) }
+            (λ plan. IsUnsettled T.numbers plan (span_at Take reserved) k [] (placed_view self.old)
+            (placed_view self.new) e)) }
         ensures apart { IfOk result (λ _. AreDistinct (flat_map T.numbers (take k (I.items items.old)))) }
         ensures named { IfErr result (λ e. e ≡ NotYours → ⊥) }
-        ensures true_refusal { IfErr result
-            (λ e. IsTrueTooEarly T.numbers (span_at Take reserved) (placed_view self.old) e) }
         ensures owned { IfOk result
             (λ _. HoldsMore T.numbers (placed_view self.old) (take k (I.items items.old)) (placed_view self.new)) }
     {
@@ -219,11 +211,8 @@ impl<T: Tagged, const N: usize, S: Stored<T>> HandInPlace<T, N, S> {
             ≡ settled (span_at Take reserved) (placed_view self.old).shown (placed_view self.old))) }
         ensures refused { IfErr result (λ e. (self.new.span ≡ self.old.span)
             × ((placed_view self.new).shown ≡ (placed_view self.old).shown) × OnRing fabric.now reserved.ring
-            (λ plan. RefusesSettle T.numbers plan.take plan reserved.range.count reserved.range.count
-            reserved.range.start [] (placed_view self.old) (placed_view self.new) e)) }
-        ensures kept { IfErr result (λ e. IsKept (placed_view self.old) (placed_view self.new)) }
-        ensures true_refusal { IfErr result
-            (λ e. IsTrueTooEarly T.numbers (span_at Take reserved) (placed_view self.old) e) }
+            (λ plan. IsUnsettled T.numbers plan (span_at Take reserved) reserved.range.count []
+            (placed_view self.old) (placed_view self.new) e)) }
     {
         let target = fabric.ring(reserved.ring);
         match target.settle_all_taken(&mut self.share, reserved.range) {

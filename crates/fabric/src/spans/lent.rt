@@ -5,8 +5,6 @@ ghost use Rattle.fabric.specs.Hands.{RefusesPut, RefusesTake, HasPut, HasTaken, 
 ghost use Rattle.fabric.specs.Hands.{put_span, put_view, take_left, take_span, take_view, view};
 ghost use Rattle.fabric.specs.Settles.{HoldsLess, HoldsMore};
 ghost use Rattle.burst.specs.Numbers.{AreDistinct};
-ghost use Rattle.fabric.specs.Truths.{IsTrueTooEarly};
-ghost use Rattle.fabric.specs.Views.{IsKept};
 ghost use Rattle.fabric.specs.declared.hand.SettleFault.TheVariants.{NotYours};
 ghost use Rattle.geom.specs.declared.plan.Mode.TheVariants.{Hts};
 
@@ -53,9 +51,6 @@ impl<'f, T: Tagged, const N: usize, S: Stored<T>> PutOpen<'f, T, N, S> {
             × (I.items items.new ≡ I.left (I.items items.old) 0)) }
         ensures refused { IfErr result (λ e. SamePut self.entry e.0 × (I.items items.new ≡ I.items items.old)
             × RefusesPut T.numbers self.entry (I.items items.old) e.0 e.1) }
-        ensures kept { IfErr result (λ e. IsKept (put_view self.entry) (put_view e.0)) }
-        ensures true_refusal { IfErr result
-            (λ e. IsTrueTooEarly T.numbers (put_span self.entry) (put_view self.entry) e.1) }
         ensures owned { IfOk result (λ h. HoldsLess T.numbers (put_view self.entry) (I.items items.old) (view h)) }
     {
         let PutOpen {
@@ -82,9 +77,6 @@ impl<'f, T: Tagged, const N: usize, S: Stored<T>> PutOpen<'f, T, N, S> {
             × (I.items items.new ≡ I.after (I.items items.old) k)) }
         ensures refused { IfErr result (λ e. SamePut self.entry e.0 × (I.items items.new ≡ I.items items.old)
             × RefusesPut T.numbers self.entry (take k (I.items items.old)) e.0 e.1) }
-        ensures kept { IfErr result (λ e. IsKept (put_view self.entry) (put_view e.0)) }
-        ensures true_refusal { IfErr result
-            (λ e. IsTrueTooEarly T.numbers (put_span self.entry) (put_view self.entry) e.1) }
         ensures owned { IfOk result
             (λ h. HoldsLess T.numbers (put_view self.entry) (take k (I.items items.old)) (view h)) }
     {
@@ -158,11 +150,8 @@ impl<'f, T: Tagged, const N: usize, S: Stored<T>> TakeOpenLent<'f, T, N, S> {
             × (I.items items.new ≡ I.left (I.items items.old) k)) }
         ensures refused { IfErr result (λ e. SameTake self.entry e.0 × (I.items items.new ≡ I.items items.old)
             × RefusesTake T.numbers self.entry k e.0 e.1) }
-        ensures kept { IfErr result (λ e. IsKept (take_view self.entry) (take_view e.0)) }
         ensures apart { IfOk result (λ _. AreDistinct (flat_map T.numbers (take k (I.items items.old)))) }
         ensures named { IfErr result (λ e. e.1 ≡ NotYours → ⊥) }
-        ensures true_refusal { IfErr result
-            (λ e. IsTrueTooEarly T.numbers (take_span self.entry) (take_view self.entry) e.1) }
         ensures owned { IfOk result
             (λ h. HoldsMore T.numbers (take_view self.entry) (take k (I.items items.old)) (view h)) }
         ensures beside { (before : I) → I.beside before items.old → I.beside before items.new }

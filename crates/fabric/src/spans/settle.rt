@@ -15,11 +15,11 @@ ghost use Rattle.fabric_laws.specs.Refusals.{WasEarlier};
 ghost use Rattle.burst.specs.Items.{somes};
 ghost use Rattle.fabric.specs.Rings.{IsSameSeat, IsSeated, slots_of};
 ghost use Rattle.fabric.specs.Hands.{rings_of};
-ghost use Rattle.fabric.specs.Settles.{HoldsLess, HoldsMore, IsCount, RefusesSettle};
-ghost use Rattle.fabric.specs.Truths.{IsTrueTooEarly};
+ghost use Rattle.fabric.specs.Refused.{IsUnsettled};
+ghost use Rattle.fabric.specs.Settles.{HoldsLess, HoldsMore, IsCount};
 ghost use Rattle.fabric.specs.declared.hand.SettleFault.TheVariants.{NotYours};
 ghost use Rattle.fabric.specs.Slots.{values};
-ghost use Rattle.fabric.specs.Views.{IsKept, span_of};
+ghost use Rattle.fabric.specs.Views.{span_of};
 
 use crate::hand::{SettleFault, Share};
 use crate::items::{Items, PutItems};
@@ -163,12 +163,9 @@ impl<T: Tagged, const N: usize, S: Stored<T>> Ring<'_, T, N, S> {
             × (share.new.seat.me.0 ≡ settled (span_of self.now.index Put range.start range.count) (I.items items.old)
             share.old.seat.me.0) × (share.new.seat.me.1 ≡ []) × (I.items items.new ≡ I.left (I.items items.old) 0)) }
         ensures refused { IfErr result (λ e. (share.new.seat.me.1 ≡ share.old.seat.me.1)
-            × (I.items items.new ≡ I.items items.old) × RefusesSettle T.numbers
-            self.now.shape.plan.put self.now.shape.plan (length (I.items items.old)) range.count range.start
-            (I.items items.old) share.old.seat.me.0 share.new.seat.me.0 e) }
-        ensures kept { IfErr result (λ e. IsKept share.old.seat.me.0 share.new.seat.me.0) }
-        ensures true_refusal { IfErr result (λ e. IsTrueTooEarly T.numbers
-            (span_of self.now.index Put range.start range.count) share.old.seat.me.0 e) }
+            × (I.items items.new ≡ I.items items.old) × IsUnsettled T.numbers self.now.shape.plan
+            (span_of self.now.index Put range.start range.count) (length (I.items items.old)) (I.items items.old)
+            share.old.seat.me.0 share.new.seat.me.0 e) }
         ensures owned { IfOk result
             (λ _. HoldsLess T.numbers share.old.seat.me.0 (I.items items.old) share.new.seat.me.0) }
     {
@@ -186,7 +183,8 @@ impl<T: Tagged, const N: usize, S: Stored<T>> Ring<'_, T, N, S> {
         Err(SettleFault::NotYet(tail))
     }
 
-    /// The same with the first `k` items of a list alone; the others stay in it.
+    /// Tries once to publish the first `k` items of a list alone; the others stay in it. At a refusal the span stays
+    /// open.
     #[inline(always)]
     pub(crate) fn settle_put_first<I: PutItems<T>>(
         &self,
@@ -205,12 +203,9 @@ impl<T: Tagged, const N: usize, S: Stored<T>> Ring<'_, T, N, S> {
             (take k (I.items items.old)) share.old.seat.me.0) × (share.new.seat.me.1 ≡ [])
             × (I.items items.new ≡ I.after (I.items items.old) k)) }
         ensures refused { IfErr result (λ e. (share.new.seat.me.1 ≡ share.old.seat.me.1)
-            × (I.items items.new ≡ I.items items.old) × RefusesSettle T.numbers
-            self.now.shape.plan.put self.now.shape.plan k range.count range.start
-            (take k (I.items items.old)) share.old.seat.me.0 share.new.seat.me.0 e) }
-        ensures kept { IfErr result (λ e. IsKept share.old.seat.me.0 share.new.seat.me.0) }
-        ensures true_refusal { IfErr result (λ e. IsTrueTooEarly T.numbers
-            (span_of self.now.index Put range.start range.count) share.old.seat.me.0 e) }
+            × (I.items items.new ≡ I.items items.old) × IsUnsettled T.numbers self.now.shape.plan
+            (span_of self.now.index Put range.start range.count) k (take k (I.items items.old))
+            share.old.seat.me.0 share.new.seat.me.0 e) }
         ensures owned { IfOk result
             (λ _. HoldsLess T.numbers share.old.seat.me.0 (take k (I.items items.old)) share.new.seat.me.0) }
     {
@@ -220,7 +215,7 @@ impl<T: Tagged, const N: usize, S: Stored<T>> Ring<'_, T, N, S> {
         self.settle_part(share, range, k, items)
     }
 
-    /// The same if items are left.
+    /// Tries once to publish the first `k` items of a list, if there are more.
     #[inline(always)]
     fn settle_part<I: PutItems<T>>(
         &self,
@@ -240,12 +235,9 @@ impl<T: Tagged, const N: usize, S: Stored<T>> Ring<'_, T, N, S> {
             (take k (I.items items.old)) share.old.seat.me.0) × (share.new.seat.me.1 ≡ [])
             × (I.items items.new ≡ I.after (I.items items.old) k)) }
         ensures refused { IfErr result (λ e. (share.new.seat.me.1 ≡ share.old.seat.me.1)
-            × (I.items items.new ≡ I.items items.old) × RefusesSettle T.numbers
-            self.now.shape.plan.put self.now.shape.plan k range.count range.start
-            (take k (I.items items.old)) share.old.seat.me.0 share.new.seat.me.0 e) }
-        ensures kept { IfErr result (λ e. IsKept share.old.seat.me.0 share.new.seat.me.0) }
-        ensures true_refusal { IfErr result (λ e. IsTrueTooEarly T.numbers
-            (span_of self.now.index Put range.start range.count) share.old.seat.me.0 e) }
+            × (I.items items.new ≡ I.items items.old) × IsUnsettled T.numbers self.now.shape.plan
+            (span_of self.now.index Put range.start range.count) k (take k (I.items items.old))
+            share.old.seat.me.0 share.new.seat.me.0 e) }
         ensures owned { IfOk result
             (λ _. HoldsLess T.numbers share.old.seat.me.0 (take k (I.items items.old)) share.new.seat.me.0) }
     {
@@ -350,15 +342,12 @@ impl<T: Tagged, const N: usize, S: Stored<T>> Ring<'_, T, N, S> {
             (take k (I.items items.old)) share.old.seat.me.0) × (share.new.seat.me.1 ≡ [])
             × (I.items items.new ≡ I.left (I.items items.old) k)) }
         ensures refused { IfErr result (λ e. (share.new.seat.me.1 ≡ share.old.seat.me.1)
-            × (I.items items.new ≡ I.items items.old) × RefusesSettle T.numbers
-            self.now.shape.plan.take self.now.shape.plan k range.count range.start [] share.old.seat.me.0
+            × (I.items items.new ≡ I.items items.old) × IsUnsettled T.numbers self.now.shape.plan
+            (span_of self.now.index Take range.start range.count) k [] share.old.seat.me.0
             share.new.seat.me.0 e) }
-        ensures kept { IfErr result (λ e. IsKept share.old.seat.me.0 share.new.seat.me.0) }
         ensures shown { IfErr result (λ e. share.new.seat.me.0.shown ≡ share.old.seat.me.0.shown) }
         ensures named { IfErr result (λ e. e ≡ NotYours → ⊥) }
         ensures apart { IfOk result (λ _. AreDistinct (flat_map T.numbers (take k (I.items items.old)))) }
-        ensures true_refusal { IfErr result (λ e. IsTrueTooEarly T.numbers
-            (span_of self.now.index Take range.start range.count) share.old.seat.me.0 e) }
         ensures owned { IfOk result
             (λ _. HoldsMore T.numbers share.old.seat.me.0 (take k (I.items items.old)) share.new.seat.me.0) }
         ensures beside { (before : I) → I.beside before items.old → I.beside before items.new }

@@ -4,9 +4,8 @@ ghost use Rattle.std.specs.List.{flat_map};
 ghost use Rattle.geom.specs.declared.plan.Side.TheVariants.{Take};
 ghost use Rattle.fabric_laws.specs.Changes.{settled};
 ghost use Rattle.fabric.specs.Rings.{IsSameSeat, IsSeated, slots_of};
-ghost use Rattle.fabric.specs.Settles.{RefusesSettle};
-ghost use Rattle.fabric.specs.Truths.{IsTrueTooEarly};
-ghost use Rattle.fabric.specs.Views.{IsKept, span_of};
+ghost use Rattle.fabric.specs.Refused.{IsUnsettled};
+ghost use Rattle.fabric.specs.Views.{span_of};
 
 use crate::hand::{SettleFault, Share};
 use crate::ring::{Positions, Ring};
@@ -32,13 +31,10 @@ impl<T: Tagged, const N: usize, S: Stored<T>> Ring<'_, T, N, S> {
         ensures done { IfOk result (λ _. (share.new.seat.me.0 ≡ settled
             (span_of self.now.index Take range.start range.count) share.old.seat.me.0.shown share.old.seat.me.0)
             × (share.new.seat.me.1 ≡ [])) }
-        ensures refused { IfErr result (λ e. (share.new.seat.me.1 ≡ share.old.seat.me.1) × RefusesSettle T.numbers
-            self.now.shape.plan.take self.now.shape.plan range.count range.count range.start [] share.old.seat.me.0
-            share.new.seat.me.0 e) }
-        ensures kept { IfErr result (λ e. IsKept share.old.seat.me.0 share.new.seat.me.0) }
+        ensures refused { IfErr result (λ e. (share.new.seat.me.1 ≡ share.old.seat.me.1) × IsUnsettled T.numbers
+            self.now.shape.plan (span_of self.now.index Take range.start range.count) range.count []
+            share.old.seat.me.0 share.new.seat.me.0 e) }
         ensures shown { IfErr result (λ e. share.new.seat.me.0.shown ≡ share.old.seat.me.0.shown) }
-        ensures true_refusal { IfErr result (λ e. IsTrueTooEarly T.numbers
-            (span_of self.now.index Take range.start range.count) share.old.seat.me.0 e) }
     {
         match self.commit(&mut share.seat, Side::Take, range, range.count) {
             None => Ok(()),

@@ -93,6 +93,7 @@ impl<R: Read> Reader<R> {
         let Some(_) = self.head()? else {
             return Ok(None);
         };
+        // Named, since the proof of `record` speaks of it.
         let found = self.read_record(alloc)?;
         Ok(found)
     }

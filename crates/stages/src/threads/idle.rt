@@ -12,7 +12,7 @@ const LONGEST: u64 = 10_000;
 /// How many pauses are spins, each twice as long as the one before.
 const SPINS: u32 = 7;
 
-/// How many pauses the thread that the others wait for makes before it sleeps. On Linux they take some milliseconds.
+/// How many pauses the sink makes before it sleeps. On Linux they take some milliseconds.
 const YIELDS: u32 = 8192;
 
 /// How many sleeps a long wait has: together they take about a millisecond.

@@ -25,9 +25,9 @@ returns c =
       | in-Some w ↦ elim w.match-deref_mut.branch [
         | in-Some-Pool w' ↦
             let p = w'.in-Some-Pool.pool in
-            let q = w'.take_over-outcome.new.pool in
+            let q = w'.receive_numbers-outcome.new.pool in
             let moved : does p q outcome = subst (λ (z : How × (List Number × Outcome)). ReceivesNumbers c.args.ring z.0 before z.1.0 p q z.1.1)
-            (λ i. (w'.how.ensures i, (sym (w.into-is ∙ w'.into-is) i, sym (w.outcome-is ∙ w'.outcome-is) i))) w'.take_over-outcome.ensures in (
+            (λ i. (w'.how.ensures i, (sym (w.into-is ∙ w'.into-is) i, sym (w.outcome-is ∙ w'.outcome-is) i))) w'.receive_numbers-outcome.ensures in (
               at_one pool_in does h g outcome (object.Pool p) (object.Pool q) p q (search rules) (search rules) (search rules) (search rules) moved,
               received_none c.args.ring (how_of c.args.bulk) before after p q outcome moved,
             )

@@ -21,9 +21,9 @@ returns c =
       | in-Some w ↦ elim w.match-deref_mut.branch [
         | in-Some-Pool w' ↦
             let p = w'.in-Some-Pool.pool in
-            let q = w'.pass_on-outcome.new.pool in
+            let q = w'.send_numbers-outcome.new.pool in
             let moved : does p q outcome = subst (λ (z : How × Outcome). SendsNumbers c.args.ring z.0 c.args.items.now p q z.1)
-            (λ i. (w'.how.ensures i, sym (w.outcome-is ∙ w'.outcome-is) i)) w'.pass_on-outcome.ensures in
+            (λ i. (w'.how.ensures i, sym (w.outcome-is ∙ w'.outcome-is) i)) w'.send_numbers-outcome.ensures in
             at_one pool_in does h g outcome (object.Pool p) (object.Pool q) p q (search rules) (search rules) (search rules) (search rules) moved
         | in-Some-deref_mut w' ↦
             at_other pool_in does h g outcome w'.in-Some-deref_mut.field-0 (search rules) (search rules) (search rules) (search rules)

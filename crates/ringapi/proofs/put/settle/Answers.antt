@@ -17,7 +17,7 @@ unreachable-requires g c =
     let first = take k items in
     let long = length-take-le (put_span o).count items c.requires.fits in
     only_early g.T.Tagged.numbers plan.put plan (length first) (put_span o).count (put_span o).start first (put_view o) (put_view c.in-Err.span) c.in-Err.fault
-    (ap (λ n. length (take n items)) c.count.ensures ∙ long) (c.in-Err.ensures.refused).2
+    (ap (λ n. length (take n items)) c.count.ensures ∙ long) c.in-Err.ensures.refused.2.found
     (subst (λ n. AreYours g.T.Tagged.numbers plan (put_view o) (take n items)) (sym c.count.ensures) c.requires.yours)
     c.in_default.not-NotYet
 
@@ -28,7 +28,6 @@ returns-in-NotYet-clause-true_refusal g c ring plan =
     let r = c.in-Err.ensures.refused in
     let early = subst (RefusesPut tags o (take c.count.result (g.I.Items.items c.args.list.now)) c.in-Err.span) c.in-NotYet.is r.2 in (
       put_view o,
-      early.3,
-      subst (λ (s : Span). IsTrueTooEarly tags s (put_view o) (NotYet c.in-NotYet.tail)) (sym r.0.1)
-          (subst (IsTrueTooEarly tags (put_span o) (put_view o)) c.in-NotYet.is c.in-Err.ensures.true_refusal),
+      early.found.3,
+      subst (λ (s : Span). IsTrueTooEarly tags s (put_view o) (NotYet c.in-NotYet.tail)) (sym r.0.1) early.others,
     )

@@ -16,9 +16,8 @@ returns-in-NotYet-clause-true_refusal g c ring plan =
     let r = c.in-Err.ensures.refused in
     let early = subst (RefusesTake tags o c.count.result c.in-Err.span) c.in-NotYet.is r.2 in (
       take_view o,
-      early.3,
-      subst (λ (s : Span). IsTrueTooEarly tags s (take_view o) (NotYet c.in-NotYet.tail)) (sym r.0.1)
-          (subst (IsTrueTooEarly tags (take_span o) (take_view o)) c.in-NotYet.is c.in-Err.ensures.true_refusal),
+      early.found.3,
+      subst (λ (s : Span). IsTrueTooEarly tags s (take_view o) (NotYet c.in-NotYet.tail)) (sym r.0.1) early.others,
     )
 
 pub returns-in-Ok-clause-settled : goal.returns-in-Ok-clause-settled

@@ -13,5 +13,5 @@ returns-in-Err-clause-early c =
       refl,
       found.refused.0,
       early_of c.args.f.now r.ring (length c.args.words.now) Put r c.args.words.now (placed_view c.args.hand.now)
-          (placed_view c.try_settle_put.new.self) refl there c.requires.plain c.requires.count c.in-Err._fault found.refused.2 found.kept,
+          (placed_view c.try_settle_put.new.self) refl there c.requires.plain c.requires.count c.in-Err._fault found.refused.2,
     )

@@ -14,5 +14,5 @@ returns-in-Err-clause-early c =
       found.refused.0,
       found.refused.2,
       early_of c.args.f.now r.ring c.args.k Take r [] (placed_view c.args.hand.now)
-          (placed_view c.try_settle_take.new.self) refl there c.requires.plain c.requires.count c.in-Err._fault found.refused.3 found.kept,
+          (placed_view c.try_settle_take.new.self) refl there c.requires.plain c.requires.count c.in-Err._fault found.refused.3,
     )

@@ -15,7 +15,7 @@ returns-in-Err-clause-early c =
       refl,
       found.refused.0,
       early_of c.args.f.now r.ring n Take r [] (placed_view c.args.hand.now) (placed_view c.try_settle_all_taken.new.self) refl there
-          c.requires.plain (λ plan at. all_fit (mode_of plan Take) n n refl) c.in-Err._fault found.refused.2 found.kept,
+          c.requires.plain (λ plan at. all_fit (mode_of plan Take) n n refl) c.in-Err._fault found.refused.2,
     )
 
 pub try_settle_all_taken-requires : goal.try_settle_all_taken-requires

@@ -1,4 +1,4 @@
-use Rattle.std.proofs.Common.{◌≡◌, ◌<◌, ◌++◌, List, None, Option, Some, ap, append-nil, arith, length, map, refl, replicate, rules, subst, sym, ℕ, ◌∙◌}
+use Rattle.std.proofs.Common.{◌≡◌, ◌<◌, ◌++◌, List, [], None, Option, Some, ap, append-nil, arith, length, map, refl, replicate, rules, subst, sym, ℕ, ◌∙◌}
 use Rattle.atomic_table.specs.Table.{Me}
 use Rattle.geom.specs.declared.plan.Side.TheVariants.{Take}
 use Rattle.ringcore_laws.specs.Party.{with_settled}
@@ -9,10 +9,12 @@ use Rattle.fabric.specs.Owned.{IsRow, marked}
 use Rattle.fabric.specs.Hands.{rings_of}
 use Rattle.fabric.specs.Rings.{slots_of}
 use Rattle.fabric.specs.Views.{span_of}
+use Rattle.fabric.specs.declared.hand.SettleFault.TheVariants.{NotYet}
 use Rattle.fabric.specs.declared.ring.Positions.{Positions}
 use Rattle.fabric.specs.declared.ring.Ring.{Ring}
 use Rattle.fabric.proofs.Holding.{take_row}
 use Rattle.fabric.proofs.Settling.{by_step, count_all, drop_some, ready_take}
+use Rattle.fabric.proofs.Told.{unsettled}
 use Rattle.fabric.proofs.Turns.{all_dropped, all_taken}
 use Rattle.fabric.proofs.ring.Ring.settle_all_taken.Goals as goal
 
@@ -74,3 +76,14 @@ invariant_of-share g c =
       well = subst (λ w. IsHeldOnce tags w.pool w.party) (sym early.2) h.well;
       row = subst (λ w. IsRow tags w.pool w.party h.owned) (sym early.2) h.row;
     })
+
+pub returns-in-Some-clause-refused : goal.returns-in-Some-clause-refused
+returns-in-Some-clause-refused g c =
+    let r = c.args.self.now in
+    let range = c.args.range in
+    let early = c.in-Some.ensures.early in (
+      early.3,
+      unsettled g.T.Tagged.numbers r.shape.plan (span_of r.index Take range.start range.count) range.count [] c.args.share.now.seat.me.0
+          c.commit.new.seat.me.0 (NotYet c.in-Some.tail)
+          (early.0, refl, early.1, early.2, record { owned = λ b. omega arith; single = λ free. refl }) c.in-Some.ensures.true_refusal,
+    )

@@ -1,4 +1,4 @@
-//! Numbers that are passed on to other handles by rings, and taken over from them.
+//! Numbers that are sent to other handles over rings, and received from them.
 ghost use Rattle.capi.specs.Same.{ReceivesNumbers, SendsNumbers};
 
 use crate::pools::member::{MOST_NUMBERS, Number, PoolMember};
@@ -6,9 +6,14 @@ use crate::pools::tries::{Tries, receive, refused, send};
 use crate::rings::{Fault, fault_of};
 use geom::How;
 
-/// Puts numbers on a ring, from which another handle takes them over: by bulk all, by burst as many of the first ones
+/// Puts numbers on a ring, from which another handle receives them: by bulk all, by burst as many of the first ones
 /// as there is room for. Errors: `Ring`; `Count`; those of the last try.
-pub fn pass_on(pool: &mut PoolMember, ring: usize, items: &[Number], how: How) -> Result<u32, Fault>
+pub fn send_numbers(
+    pool: &mut PoolMember,
+    ring: usize,
+    items: &[Number],
+    how: How,
+) -> Result<u32, Fault>
     ensures { SendsNumbers ring how items.now pool.old pool.new result }
 {
     if ring >= pool.rings {
@@ -29,7 +34,7 @@ pub fn pass_on(pool: &mut PoolMember, ring: usize, items: &[Number], how: How) -
 
 /// Takes numbers of a ring to the front of an array, or leaves it as it is: by bulk the array is filled, by burst with
 /// as many as are queued. Errors: `Ring`; `Count`; those of the last try.
-pub fn take_over(
+pub fn receive_numbers(
     pool: &mut PoolMember,
     ring: usize,
     into: &mut [Number],
