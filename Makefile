@@ -20,7 +20,7 @@ help:
 	@echo 'make try        keeps a pktkit without proofs in $(TRIED), for pktkit ring and the other commands: the same'
 	@echo 'make compare    the same by one thread, and that each port has the same bytes; after make run: 1 to 2 minutes'
 	@echo 'make build      proves pktkit and what it stands on, and builds it: 35 to 75 minutes, then what has changed'
-	@echo 'make lib        proves the C library and what it stands on, and leaves it in out/c: 20 to 50 minutes'
+	@echo 'make lib        proves the C library and what it stands on, and leaves it in out/c: 30 to 70 minutes'
 	@echo 'make router     builds the router of docs/ROUTER.md over the C library, which is made if it is not there'
 	@echo 'make dpdk       builds the driver of rte_mempool of docs/DPDK.md over the C library, as make router: seconds'
 	@echo 'make try-dpdk   runs DPDK'"'"'s own tests over the driver and the headers for its programs: 10 minutes'

@@ -136,8 +136,8 @@ enum hk_mode {
 /* One ring of a set. exact = 1: it holds `size` words, 1 to 2^20 - 1, as with RING_F_EXACT_SZ. exact = 0: it has `size`
  * slots, a power of two from 2 to 2^20, and holds size - 1 words. `put` and `take` are the modes of its two sides.
  * `last` is the number of words after which the ring ends: a put returns HK_E_WORN then, and what is queued can still
- * be taken. 0 stands for the most that the modes allow, which a greater number may not exceed: 2^63 - 1 if both are
- * HK_MULTI (2,900 years at 100 million words a second), else 2^52 - 1 (14 years at ten million). `reserved` is 0. */
+ * be taken. 0 stands for the most that the modes allow, and `last` may not exceed that: 2^63 - 1 if both are HK_MULTI
+ * (2,900 years at 100 million words a second), else 2^52 - 1 (14 years at ten million). `reserved` is 0. */
 typedef struct hk_ring_plan {
     uint32_t size;
     uint32_t exact;
@@ -156,10 +156,10 @@ HK_API HK_CHECKED int64_t hk_hand_open(hk_hand **out, const hk_ring_plan *plans,
  * other threads were splitting hands of these rings each of the 1,024 times that the call tried. HK_E_NULL, HK_E_KIND,
  * HK_E_OPEN, HK_E_AGAIN, HK_E_PARTS, HK_E_MEMORY. */
 HK_API HK_CHECKED int64_t hk_hand_split(hk_hand *hand, hk_hand **out);
-/* Frees a hand, and with the last one the rings; null is allowed. As each of the calls that free, it frees a handle of
- * another kind, too. A span that the hand has open stays reserved forever: no word of an open put comes out, and none
- * that an open take showed comes out any more. From then on the calls of other threads on that side return HK_E_AGAIN
- * if it is head/tail-sync, and if it is multi HK_E_PENDING, or HK_E_NOROOM once no position is left. */
+/* Frees a hand, and with the last one the rings; null is allowed. Like every call that frees, it frees a handle of any
+ * kind. A span that the hand has open stays reserved forever: no word of an open put comes out, and none that an open
+ * take showed comes out any more. From then on the calls of other threads on that side return HK_E_AGAIN if it is
+ * head/tail-sync, and if it is multi HK_E_PENDING, or HK_E_NOROOM once no position is left. */
 HK_API void hk_hand_free(hk_hand *hand);
 
 /* Puts n words on a ring, 1 to HK_MOST, or to HK_MOST_ON_MULTI on a multi side: by bulk all of them or none, by burst
@@ -178,7 +178,7 @@ HK_API HK_CHECKED int64_t hk_ring_try_put_burst(hk_hand *hand, size_t ring, cons
  * hk_ring_finish_take with the same n until it returns a count. */
 HK_API HK_CHECKED int64_t hk_ring_try_take_bulk(hk_hand *hand, size_t ring, uint64_t *words, size_t n);
 HK_API HK_CHECKED int64_t hk_ring_try_take_burst(hk_hand *hand, size_t ring, uint64_t *words, size_t n);
-/* Puts a word on a ring, which is passed by value: what hk_ring_try_put_bulk does with n = 1, in less time. Returns 1.
+/* Puts a word, passed by value, on a ring: what hk_ring_try_put_bulk does with n = 1, in less time. Returns 1.
  * HK_E_NULL, HK_E_KIND, HK_E_RING, HK_E_OPEN, HK_E_NOROOM, HK_E_WORN, HK_E_AGAIN: nothing was put. HK_E_PENDING: call
  * hk_ring_finish_put with this word and n = 1. */
 HK_API HK_CHECKED int64_t hk_ring_try_put_one(hk_hand *hand, size_t ring, uint64_t word);
@@ -257,11 +257,11 @@ HK_API HK_CHECKED int64_t hk_hand_drain(hk_hand *hand, size_t ring, uint64_t *wo
 /* A handle on a pool of the numbers 0 to n - 1, which may stand for buffers, as with rte_mempool. Each handle has a
  * cache of its own in front of the free ring, which all handles of the pool share.
  *
- * Each number is in one place at any time: free; on a ring of the pool; or with one handle, in its cache or got by its
- * caller. A call accepts only numbers that its handle has and that aren't cached, so none is put twice or by another
- * handle. The sides of all rings of a pool are head/tail-sync, so no call is pending: if other threads come first, a
- * call tries a ring 1,024 times at most, the first try included, and then returns HK_E_AGAIN. A get that found too few
- * numbers on the free ring to fill the cache too asks the ring once more, for those that it needs, with as many tries.
+ * Each number is in one place at any time: free; on a ring of the pool; or with one handle, in its cache or got by
+ * its caller. A call accepts only numbers that its handle has and that aren't cached, so none is put twice or by
+ * another handle. The sides of all rings of a pool are head/tail-sync, so no call is pending: if other threads come
+ * first, a call tries a ring 1,024 times at most, the first try included, and then returns HK_E_AGAIN. If the free ring
+ * has too few numbers to fill the cache too, a get asks it once more, with as many tries, only for those that it needs.
  * A ring of a pool ends after 2^51 - 1 numbers (7 years at ten million a second): calls that put numbers on it return
  * HK_E_WORN then. If a call returns a code, nothing was changed: no number, no cache, no array. */
 typedef struct hk_pool hk_pool;
@@ -275,15 +275,15 @@ HK_API HK_CHECKED int64_t hk_pool_open(hk_pool **out, uint32_t n, uint32_t cache
  * `hk_hand_split`. HK_E_NULL, HK_E_KIND, HK_E_AGAIN, HK_E_PARTS, HK_E_MEMORY. */
 HK_API HK_CHECKED int64_t hk_pool_split(hk_pool *pool, hk_pool **out);
 /* Frees a handle, and with the last one the pool; null is allowed. What is cached is first put on the free ring, by one
- * hk_pool_try_flush. If that returns HK_E_AGAIN or HK_E_WORN, these numbers are lost to the other handles: where other
- * threads use the pool meanwhile, flush before, until it succeeds. Numbers that the handle got or received, and that
+ * hk_pool_try_flush. If that returns HK_E_AGAIN or HK_E_WORN, these numbers are lost to the other handles: if other
+ * threads use the pool meanwhile, first flush until it succeeds. Numbers that the handle got or received, and that
  * weren't put back, are lost to the others in any case. */
 HK_API void hk_pool_free(hk_pool *pool);
 
 /* Gets n numbers, 1 to HK_POOL_MOST, all or none: from the cache, the newest first; if it has too few, the others from
- * the free ring, the oldest first. If n is at most 512, as many more as the cache's size then go from that ring to the
- * cache, if it has them, too. Returns n. HK_E_NULL, HK_E_KIND, HK_E_COUNT. HK_E_NOROOM: the free ring has too few;
- * numbers may be in the caches of other handles. HK_E_AGAIN. */
+ * the free ring, the oldest first. If n is at most 512, the cache is then filled to its size from that ring, if the
+ * ring has enough. Returns n. HK_E_NULL, HK_E_KIND, HK_E_COUNT. HK_E_NOROOM: the free ring has too few; numbers may be
+ * in the caches of other handles. HK_E_AGAIN. */
 HK_API HK_CHECKED int64_t hk_pool_try_get_bulk(hk_pool *pool, uint32_t *numbers, size_t n);
 /* Puts n numbers back, 1 to HK_POOL_MOST, all or none: into the cache; if that would pass one and a half times its
  * size, they go to the free ring, and the cache stays as it is. Returns n. HK_E_NULL, HK_E_KIND, HK_E_COUNT.
@@ -309,7 +309,7 @@ HK_API HK_CHECKED int64_t hk_pool_try_send_burst(hk_pool *pool, size_t ring, con
  * queued, or for a burst none. HK_E_AGAIN. */
 HK_API HK_CHECKED int64_t hk_pool_try_receive_bulk(hk_pool *pool, size_t ring, uint32_t *numbers, size_t n);
 HK_API HK_CHECKED int64_t hk_pool_try_receive_burst(hk_pool *pool, size_t ring, uint32_t *numbers, size_t n);
-/* How many numbers are queued on a ring of the pool, 0 to rings - 1, and how many more it takes, as found by one look.
+/* How many numbers are queued on a ring of the pool, 0 to rings - 1, and how many more fit, as found by one look.
  * Others may send or receive meanwhile. HK_E_NULL, HK_E_KIND, HK_E_RING. */
 HK_API int64_t hk_pool_ring_count(const hk_pool *pool, size_t ring);
 HK_API int64_t hk_pool_ring_room(const hk_pool *pool, size_t ring);
@@ -347,8 +347,8 @@ HK_API void hk_routes_free(hk_routes *routes);
 
 /* The writer's handle on a forwarding table: routes to the numbers of next hops, the next hops, and the ports. One
  * thread at a time changes it. Readers see no change before hk_fib_publish, and then see all changes at once. No call
- * waits: a change, or hk_fib_publish, that can't be made yet, since a reader may still use the version before the last
- * one, is refused with HK_E_PENDING and changes nothing; call again. There are two copies of the routes. */
+ * waits: while a reader may still use the version before the last one, changes and hk_fib_publish are refused with
+ * HK_E_PENDING and change nothing; call again. There are two copies of the routes. */
 typedef struct hk_fib hk_fib;
 
 /* A reader's handle, for one thread at a time. It looks addresses up and forwards frames. Each call uses one version of
@@ -392,8 +392,8 @@ typedef struct hk_fib_route {
 HK_API HK_CHECKED int64_t hk_fib_open(hk_fib **out, uint32_t bits, uint32_t groups, const hk_port *ports,
                                       size_t port_count, const hk_next_hop *hops, size_t hop_count);
 /* [memory] The same, with the first level of both copies written when the table is made, 4 bytes for each entry in each
- * copy. hk_fib_open's table takes memory only for the parts of it that a route covers; this one answers lookups of
- * routed addresses a little faster. Codes as above. */
+ * copy. hk_fib_open's table takes memory only for the parts of it that a route covers; a lookup in this one has a
+ * branch less. Codes as above. */
 HK_API HK_CHECKED int64_t hk_fib_open_whole(hk_fib **out, uint32_t bits, uint32_t groups, const hk_port *ports,
                                             size_t port_count, const hk_next_hop *hops, size_t hop_count);
 /* [memory] Makes a reader, which may go to another thread. HK_E_NULL, HK_E_KIND, HK_E_MEMORY. */
@@ -413,12 +413,12 @@ HK_API HK_CHECKED int64_t hk_fib_set_hop(hk_fib *fib, uint32_t number, const hk_
  * HK_E_PLAN: a depth above 32; HK_E_PENDING, HK_E_COUNT: there is no such number; HK_E_MEMORY. */
 HK_API HK_CHECKED int64_t hk_fib_set_port(hk_fib *fib, uint32_t number, const hk_port *port);
 /* [memory] Publishes all prepared changes at once, as a new version. Each reader sees it from its next call on, or, if
- * it holds the version before, from the first one after hk_forward_release. HK_E_NULL, HK_E_KIND; HK_E_PENDING: the last
+ * it holds a version, from its first call after hk_forward_release. HK_E_NULL, HK_E_KIND; HK_E_PENDING: the last
  * version isn't settled; HK_E_MEMORY. */
 HK_API HK_CHECKED int64_t hk_fib_publish(hk_fib *fib);
 /* [memory] Settles the last version: takes back the copy that readers had before, and repeats the changes in it. Each
  * call that prepares a change does so first. HK_OK: changes can be made. HK_E_NULL, HK_E_KIND; HK_E_PENDING: a reader
- * is still in a call that uses the version before, or holds that; HK_E_MEMORY. Call again. */
+ * still uses the previous version in a call, or holds it; HK_E_MEMORY. Call again. */
 HK_API HK_CHECKED int64_t hk_fib_settle(hk_fib *fib);
 /* How many changes readers don't see yet. HK_E_NULL, HK_E_KIND. */
 HK_API HK_CHECKED int64_t hk_fib_pending(const hk_fib *fib);
@@ -435,11 +435,11 @@ HK_API HK_CHECKED int64_t hk_fib_walk(const hk_fib *fib, uint32_t address, uint3
 HK_API void hk_fib_free(hk_fib *fib);
 
 /* Holds the last version: the calls of this handle use it until hk_forward_release, and cost less, since none of them
- * has to take the table and give it back. A version that is held already stays. While a reader holds the version before
- * the last one, hk_fib_settle returns HK_E_PENDING. So release every few bursts and before the thread waits or sleeps,
+ * has to take the table and give it back. If one is held already, it stays. While a reader holds the version before the
+ * last one, hk_fib_settle returns HK_E_PENDING. So release every few bursts and before the thread waits or sleeps,
  * where DPDK's programs report a quiescent state to rte_rcu_qsbr. HK_E_NULL, HK_E_KIND. */
 HK_API HK_CHECKED int64_t hk_forward_hold(hk_forward *forward);
-/* Lets go the version that is held, if one is: the next call uses the last one. HK_E_NULL, HK_E_KIND. */
+/* Releases the held version, if any: the next call uses the one published last. HK_E_NULL, HK_E_KIND. */
 HK_API HK_CHECKED int64_t hk_forward_release(hk_forward *forward);
 /* The next hop's number of the longest published route that covers an address. HK_E_NULL, HK_E_KIND, HK_E_NOROUTE. */
 HK_API HK_CHECKED int64_t hk_forward_lookup(hk_forward *forward, uint32_t address);
@@ -456,9 +456,9 @@ HK_API HK_CHECKED int64_t hk_forward_lookup_bulk(hk_forward *forward, const uint
  * the next hop and that of the port it leaves through, a time to live one less, and a correct checksum; every other
  * byte is as it was, and so an 802.1Q tag is kept. The caller sends it, or drops it.
  *
- * What a router does beside this is the caller's: hk_forward_class tells which frames are for the router itself and
- * which must not be forwarded; the drops tell what ICMP is due for (RFC 1812 section 4.3.3); the caller compares the
- * length of a frame with the MTU of the port that it leaves through. */
+ * The rest of a router is up to the caller: hk_forward_class tells which frames are for the router itself and which
+ * must not be forwarded; the reasons say when ICMP is due (RFC 1812 section 4.3.3); the caller compares the length of a
+ * frame with the MTU of the port that it leaves through. */
 
 /* A frame: `held` bytes of it are there, at an address that isn't null, and it had `wire` bytes, at least `held`. */
 typedef struct hk_frame {
@@ -498,9 +498,9 @@ HK_API HK_CHECKED int64_t hk_forward_burst(hk_forward *forward, const hk_frame *
                                            uint32_t *HK_RESTRICT verdicts, size_t n);
 /* The verdict on a frame, which stays as it is. HK_E_NULL; HK_E_COUNT: `wire` is below `held`; HK_E_KIND. */
 HK_API HK_CHECKED int64_t hk_forward_verdict(hk_forward *forward, const uint8_t *bytes, size_t held, size_t wire);
-/* What a frame is addressed to that came in through a port, 0 to the number of ports - 1: the sum of the HK_TO_ bits
- * that hold. Those of the IPv4 destination are 0 if the frame has no IPv4 packet; nothing else of its header is tested.
- * HK_E_NULL, HK_E_KIND; HK_E_COUNT: there is no such port. */
+/* What a frame received on a port, 0 to the number of ports - 1, is addressed to: the sum of the HK_TO_ bits that hold.
+ * Those of the IPv4 destination are 0 if the frame has no IPv4 packet; nothing else of its header is tested. HK_E_NULL,
+ * HK_E_KIND; HK_E_COUNT: there is no such port. */
 HK_API HK_CHECKED int64_t hk_forward_class(hk_forward *forward, size_t port, const uint8_t *bytes, size_t held);
 /* Frees a reader's handle; null is allowed. */
 HK_API void hk_forward_free(hk_forward *forward);

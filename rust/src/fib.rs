@@ -59,7 +59,7 @@ impl Fib {
     }
 
     /// The same, with the first level of both copies written when the table is made, 4 bytes for each entry in each
-    /// copy. Lookups of routed addresses are a little faster.
+    /// copy. A lookup has a branch less.
     ///
     /// # Errors
     ///
