@@ -30,7 +30,7 @@ help:
 	@echo 'make deb        the same as Debian packages, in out: seconds'
 	@echo 'make uninstall  removes these again: at once'
 	@echo 'make test       the merge gate: every proof from nothing, mutants, tests, programs, documents: some hours'
-	@echo 'make bench      measures one part beside its yardstick, NAME=$(NAME): minutes, on a quiet machine'
+	@echo 'make bench      measures one part against its yardstick, NAME=$(NAME): minutes, on a quiet machine'
 	@echo
 	@echo 'Minutes are of one processor; several work side by side where there are several. What can be set, as in'
 	@echo 'make run WORKERS=0: CONFIG IN OUT WORKERS of run and compare, PREFIX DESTDIR of install, NAME of bench'
@@ -126,6 +126,6 @@ dist:
 deb:
 	@tools/make-deb
 
-# Measures one part beside its yardstick: make bench NAME=run
+# Measures one part against its yardstick: make bench NAME=run
 bench:
 	bench/run $(NAME)

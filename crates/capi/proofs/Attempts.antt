@@ -15,7 +15,6 @@ use Rattle.fabric_laws.specs.declared.view.View.{View}
 use Rattle.fabric_laws.specs.Kinds.{IsHeldOnce}
 use Rattle.fabric.specs.declared.hand.StartFault.{StartFault}
 use Rattle.fabric.specs.declared.hand.cache_hand.CacheHand.{CacheHand}
-use Rattle.fabric.specs.CacheHands.{IsCacheHandOf}
 use Rattle.fabric.specs.Hands.{view}
 use Rattle.fabric.specs.Settles.{AreOwnBuffers}
 use Rattle.fabric.specs.Views.{IsKept}
@@ -29,13 +28,13 @@ use Rattle.ringapi.proofs.Moves.{moved_party}
 use Rattle.pool.specs.declared.local.Local.{Local}
 use Rattle.pool.specs.declared.store.Store.{Ghosts as StoreGhosts}
 use Rattle.pool_laws.specs.Beside.{Receives, Sends, unsent_of}
-use Rattle.pool_laws.specs.Hands.{IsIn, IsSameIn, view_in}
+use Rattle.pool_laws.specs.Hands.{IsSameIn, view_in}
 use Rattle.pool.specs.Locals.{HasSameHand, cache_of, hand_of, view_of}
 use Rattle.pool_laws.proofs.Requests.{bulk_all}
 use Rattle.pool.proofs.Shown.{whole_shown}
 use Rattle.ringapi.proofs.Counts.{count_both}
 use Rattle.ringapi.proofs.Singles.{single_both}
-use Rattle.capi.specs.PoolMembers.{NumberRings, SuitsCache, numbers_of}
+use Rattle.capi.specs.PoolMembers.{NumberRings, numbers_of}
 use Rattle.capi.specs.Tries.{Filled, IsPartOf, Received, Sent}
 use Rattle.capi.specs.declared.pools.member.Number.{Number}
 
@@ -225,27 +224,6 @@ module _ {G : Ghosts Number} {H : StoredGhosts (Option Number) Number} where
 
   pub same_view : {C : Type 0} {K : StoreGhosts C Number} (l m : Local Number 4096 (Option Number) C G H K) → HasSameHand l m → view_of m ≡ view_of l
   same_view l m is = same_view_in l.hand m.hand is
-
-  same_in : (f : NumberRings) (o p : Option (CacheHand Number (Option Number) G H)) → IsSameIn o p → IsIn f o → IsIn f p
-  same_in f None p is mine = absurd is
-  same_in f (Some k) None is mine = absurd is
-  same_in f (Some k) (Some m) is mine = subst (λ s. (s.table_id ≡ f.table.shared.table_id) × (s.me.0.plans ≡ f.plan.rings.items)
-      × (s.me.0.pool ≡ f.plan.buffers)) (sym is) mine
-
-  pub same_local : {C : Type 0} {K : StoreGhosts C Number} (f : NumberRings) (l m : Local Number 4096 (Option Number) C G H K) → HasSameHand l m → IsIn f l.hand → IsIn f m.hand
-  same_local f l m is mine = same_in f l.hand m.hand is mine
-
-  in_from : (f : NumberRings) (o : Option (CacheHand Number (Option Number) G H)) → is_some o ≡ true
-      → ((k : CacheHand Number (Option Number) G H) → o ≡ Some k → IsCacheHandOf f k) → IsIn f o
-  in_from f None here suits = absurd (let z : false ≡ true = here in cc)
-  in_from f (Some k) here suits = suits k refl
-
-  -- a cache that suits the rings is of these rings
-  pub suits_local : {C : Type 0} {K : StoreGhosts C Number} (f : NumberRings) (l : Local Number 4096 (Option Number) C G H K) → SuitsCache f l → IsIn f l.hand
-  suits_local f l suits = in_from f l.hand l.here suits
-
-  pub local_suits : {C : Type 0} {K : StoreGhosts C Number} (f : NumberRings) (l : Local Number 4096 (Option Number) C G H K) → IsIn f l.hand → SuitsCache f l
-  local_suits f l mine k is = subst (λ o. IsIn f o) is mine
 
 -- for puts and takes that are tried again
 pub ruleset sent_again = (sent_later, then_kept, view_kept)

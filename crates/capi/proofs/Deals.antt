@@ -38,9 +38,6 @@ module _ (n : ℕ) (cache taken : List Number) (short : length cache < n) where
       then ∙ (ap (λ l. l ++ drop (n - length cache) taken) empty
       ∙ ap (λ k. take k cache ++ drop (n - length cache) taken) (sym none))
 
-  pub dealt_none : (later : List Number) → later ≡ cached_after_get (length cache) cache [] → later ≡ []
-  dealt_none later is = is ∙ ap (λ k. take k cache ++ drop k []) (same_left (length cache))
-
 -- all that was cached, the oldest first again
 pub turned_back : (n : ℕ) (cache got : List Number) → n ≡ length cache → got ≡ taken_by_get n cache [] → reverse got ≡ cache
 turned_back n cache got all is =

@@ -1,11 +1,10 @@
 -- Worked cases of counts that calls on a pool of numbers take, and of sends, receives and looks that are none
-use Rattle.std.proofs.Common.{◌≡◌, ◌≢◌, ◌++◌, ℕ, List, [], ◌∷◌, arith, drop, inl, inr, length, refl, sym, ◌∙◌, Option, Ok}
+use Rattle.std.proofs.Common.{◌≡◌, ◌≢◌, ◌++◌, ℕ, List, [], ◌∷◌, arith, drop, inl, inr, length, refl, sym, Option}
 use Rattle.geom.specs.declared.plan.How.{How}
 use Rattle.geom.specs.declared.plan.Side.TheVariants.{Put, Take}
 use Rattle.burst.specs.declared.tagged.Tagged.{Ghosts}
 use Rattle.fabric_laws.specs.Changes.{loaded}
 use Rattle.fabric_laws.specs.declared.view.View.{View}
-use Rattle.fabric.specs.Hands.{OnRing}
 use Rattle.fabric.specs.declared.stored.Stored.{Ghosts as StoredGhosts}
 use Rattle.ringapi.specs.Views.{by_bulk, by_burst}
 use Rattle.pool.specs.Locals.{SameCache, SameRing}

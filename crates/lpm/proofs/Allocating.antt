@@ -2,7 +2,7 @@
 use Rattle.std.proofs.Common.{◌≡◌, ◌≢◌, ℕ, zero, suc, ◌+◌, ◌*◌, ◌<◌, ◌≤◌, ◌^◌, true, false, List, [], ◌∷◌, ◌++◌, length, get_or, set, refl, sym, ap, ◌∙◌, subst}
 use Rattle.std.proofs.Common.{inl, inr, arith}
 use Rattle.std.proofs.lemmas.Bool.{cases_lt, cases_eq}
-use Rattle.std.proofs.lemmas.List.{length-set, length-append, length_push, get_or_append_left, get_or_push}
+use Rattle.std.proofs.lemmas.List.{length-set, length_push, get_or_append_left, get_or_push}
 use Rattle.std.proofs.Math.Nat.{pow-le-pow_right}
 use Rattle.std.specs.List.{count_by}
 use Rattle.std.proofs.lemmas.List.Sums.{count_by-le-length}
@@ -157,32 +157,9 @@ module _ {bits limit cap : ℕ} {first groups : List TableEntry} {free : List �
     room = omega (arith, allocated.room, made_kept);
   }
 
-distributed : (n m : ℕ) → (n + 0 + 1) * m ≡ (n + 0) * m + m
-distributed n m = omega arith
-
 single : (x k : ℕ) → k < 1 → get_or (x ∷ []) k 0 ≡ x
 single x zero h = refl
 single x (suc k) h = absurd (omega arith)
-
--- memory for one more group, if none is free
-module _ {bits limit cap : ℕ} {first groups : List TableEntry} (allocated : GroupsAreAllocated bits limit first groups [] cap)
-    (room : count_by is_group first < limit) (fewer : count_by is_group first < 2 ^ bits) (more : List TableEntry)
-    (whole : length more ≡ size_of bits)
-    (cap' : ℕ) (capacity : made_of first [] + 1 ≤ cap') where
-  pub allocated_made : GroupsAreAllocated bits limit first (groups ++ more) (made_of first [] ∷ []) cap'
-  allocated_made = record {
-    form = allocated.form;
-    whole = allocated.whole;
-    made = length-append groups more ∙ omega (arith, allocated.made, whole, distributed (count_by is_group first) (size_of bits));
-    within = omega arith;
-    fits = omega arith;
-    named = λ j e. omega (arith, allocated.named j e);
-    alone = allocated.alone;
-    idle = λ k h. omega (arith, single (made_of first []) k h);
-    once = λ k l h m same. omega arith;
-    unnamed = λ k j h e same. omega (arith, single (made_of first []) k h, allocated.named j e);
-    room = omega arith;
-  }
 
 -- if some entry names no group, fewer than all do
 pub fewer_groups : (es : List TableEntry) (i : ℕ) → i < length es → is_group (get_or es i (entry_of 0 0)) ≡ false → count_by is_group es < length es

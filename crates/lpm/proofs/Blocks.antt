@@ -118,16 +118,6 @@ module _ {numbers : List ℕ} {blocks : List TableEntry} {cap : ℕ} (are : AreN
               ∙ sym (entries_at numbers us blocks k within) ∙ sym (get_or-set_other before i k e (entry_of 0 0) other)
         ])
 
-    pub blocks_set : AreNumbered numbers (set blocks (place_in numbers i) e) cap
-    blocks_set = record {
-      empty = λ k h. get_or-set_other blocks (place_in numbers i) k e (entry_of 0 0) (λ same. omega arith) ∙ are.empty k h;
-      made = length-set blocks (place_in numbers i) e ∙ are.made;
-      within = are.within;
-      alone = are.alone;
-      room = are.room;
-      few = are.few;
-    }
-
   -- a block that shared the first one gets its own
   module _ (c : ℕ) (there : c < length numbers) (shared : get_or numbers c 0 ≡ 0) (cap' : ℕ) (capacity : cap ≤ cap') where
     pub own_opened : own_of (set numbers c (own_of numbers + 1)) ≡ own_of numbers + 1
@@ -353,15 +343,6 @@ module _ {offsets : List ℕ} {uniform blocks : List TableEntry} {cap : ℕ} (ar
       → entries_of (numbers_of offsets) uniform (set blocks place e) ≡ set (entries_of (numbers_of offsets) uniform blocks) i e
   entries_written is = ap (λ n. entries_of (numbers_of offsets) uniform (set blocks n e)) at
       ∙ entries_set are.numbered i (omega (arith, fits, numbers_length offsets)) own_number e uniform (are.cleared (i / 256) own_number) is
-
-  pub are_written : AreBlocks offsets uniform (set blocks place e) cap
-  are_written = record {
-    numbered = subst (λ n. AreNumbered (numbers_of offsets) (set blocks n e) cap) (sym at)
-        (blocks_set are.numbered i (omega (arith, fits, numbers_length offsets)) own_number e);
-    exact = are.exact;
-    each = are.each;
-    cleared = are.cleared;
-  }
 
 -- a block with one entry for all of its addresses
 module _ {offsets : List ℕ} {blocks : List TableEntry} {cap : ℕ} (c : ℕ) (there : c < length offsets)

@@ -8,7 +8,7 @@ use Rattle.std.specs.List.{count_by}
 use Rattle.lpm.specs.TableEntry.{TableEntry, entry_of, is_group, overwritten}
 use Rattle.lpm.specs.Prefixes.{size_of}
 use Rattle.lpm.specs.Allocated.{GroupsAreAllocated, made_of}
-use Rattle.lpm.specs.TwoLevels.{TwoLevels, first_at, grouped_at, entry_at, OverwritesWithin, OverwritesEntries, KeepsGroups}
+use Rattle.lpm.specs.TwoLevels.{TwoLevels, first_at, grouped_at, entry_at, OverwritesEntries}
 use Rattle.lpm.proofs.Overwritten.{overwritten-covered, overwritten-deeper}
 use Rattle.lpm.proofs.LevelReads.{entry_at-plain}
 
@@ -72,9 +72,6 @@ module _ (es : List TableEntry) (i : ℕ) (c : TableEntry) (fits : i < length es
 -- a write of an entry that names no group, by one that names none
 module _ (es : List TableEntry) (i : ℕ) (c : TableEntry) (fits : i < length es) (was : is_group (get_or es i (entry_of 0 0)) ≡ false)
     (is : is_group c ≡ false) where
-  pub count_plain : count_by is_group (set es i c) ≡ count_by is_group es
-  count_plain = omega (arith, count_written es i c fits, ap one_if was, ap one_if is)
-
   pub kinds_plain : (j : ℕ) → is_group (get_or (set es i c) j (entry_of 0 0)) ≡ is_group (get_or es j (entry_of 0 0))
   kinds_plain j = elim (cases_eq j i) [
     | inl same ↦ subst (λ k. is_group (get_or (set es i c) k (entry_of 0 0)) ≡ is_group (get_or es k (entry_of 0 0))) (sym same)
@@ -97,16 +94,6 @@ module _ (es : List TableEntry) (i : ℕ) (c : TableEntry) (fits : i < length es
   allocated_plain = allocated_alike es (set es i c) (length-set es i c) kinds_plain groups_plain
 
 module _ (p : TwoLevels) (i d : ℕ) (c : TableEntry) where
-  -- a whole group
-  pub entry_within : (q : TwoLevels) → OverwritesWithin p q i 0 (size_of p.bits) d c → OverwritesEntries p q i (i + 1) d c
-  entry_within q w = record {
-    inside = λ j low fits_j fits h k.
-        let same : i ≡ j = omega arith in
-        subst (λ n. entry_at q n low ≡ overwritten d c (entry_at p n low)) same (w.inside low fits (omega arith) fits);
-    below = λ j low fits_j fits h. w.others j low fits_j fits (λ e. omega arith);
-    above = λ j low fits_j fits h. w.others j low fits_j fits (λ e. omega arith);
-  }
-
   -- an entry that is deeper
   pub entry_deeper : is_group (first_at p i) ≡ false → d < (first_at p i).depth → OverwritesEntries p p i (i + 1) d c
   entry_deeper plain deep = record {
@@ -139,13 +126,4 @@ module _ (p : TwoLevels) (i d : ℕ) (c : TableEntry) where
           (now ∙ sym (overwritten-covered d c (entry_at p i low) (subst (λ (e : TableEntry). e.depth ≤ d) (sym was) covered)));
       below = λ j low fits_j fits h. others_written j low (λ e. omega arith);
       above = λ j low fits_j fits h. others_written j low (λ e. omega arith);
-    }
-
-    pub keeps_written : KeepsGroups p (record p { first = set p.first i c })
-    keeps_written = record {
-      bits = refl;
-      limit = refl;
-      free = refl;
-      kinds = kinds_plain p.first i c fits_i plain is;
-      used = count_plain p.first i c fits_i plain is;
     }

@@ -1,11 +1,9 @@
 -- Prefixes as the keys of a search tree and of a finite map: both find the same hop.
-use Rattle.std.proofs.Common.{◌≡◌, ℕ, true, cond, Option, Some, None, List, [], ◌∷◌, ◌&&◌, eqb, refl, sym, ap, ◌∙◌}
+use Rattle.std.proofs.Common.{◌≡◌, ℕ, cond, Option, Some, None, List, [], ◌∷◌, refl, sym, ap, ◌∙◌}
 use Rattle.std.specs.declared.cmp.Ordering.TheVariants.{Less, Equal, Greater}
 use Rattle.std.specs.declared.cmp.Ordering.{Ordering}
 use Rattle.std.specs.Ordering.{nat_cmp, is_eq, eq_by_cmp, ordering_then}
 use Rattle.std.specs.Cmp.{IsTotalOrder, nat_cmp_total, on_total, then_total, eq_by_cmp_equiv}
-use Rattle.std.proofs.lemmas.Bool.{and_parts}
-use borrow.Author.Tests.{eqb-true}
 use Rattle.std.specs.FinMap as map
 use Rattle.std.specs.FinMap.{IsAntisymmetric, nat_cmp-IsAntisymmetric, find, from_entries, get-from_entries, get-insert, get-remove, same_map}
 use Rattle.std.specs.Map.{lookup}
@@ -53,9 +51,3 @@ pub remove-tree : (m n : tree.BTreeMap Prefix ℕ) (k : Prefix) → tree.Updates
 remove-tree m n k u = same_map prefix_total prefix_antisymmetric _ _ (λ q.
     get-tree n q ∙ u.0 q ∙ flipped k q None _ ∙ ap (cond (eq_by_cmp prefix_cmp q k) None) (sym (get-tree m q))
     ∙ sym (get-remove prefix_total _ k q))
-
--- what follows from a derived test of two prefixes
-pub same_prefix : (p q : Prefix) → (eqb p.address q.address && eqb p.depth q.depth) ≡ true → p ≡ q
-same_prefix p q e =
-    let parts = and_parts _ _ e in
-    λ i. record { address = eqb-true p.address q.address parts.0 i; depth = eqb-true p.depth q.depth parts.1 i }

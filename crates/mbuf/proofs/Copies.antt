@@ -154,12 +154,3 @@ of_shape (b ∷ chain) =
       length-replicate {A = ℕ} (length b.bytes) 0,
       of_shape chain,
     )
-
--- chains with the same shape have packets of the same length
-pub length_of_shape : (one other : List Buffer) → shape_of one ≡ shape_of other → length (bytes_of one) ≡ length (bytes_of other)
-length_of_shape one other e = of_shape one ∙ ap (λ (l : List Buffer). length (bytes_of l)) e ∙ sym (of_shape other)
-
-pub length_of_filled : (n : ℕ) (new old : List Buffer) → shape_of new ≡ filled (zeros n) old → n ≤ space_of old → length (bytes_of new) ≡ n
-length_of_filled n new old e fits =
-    let long : length (zeros n) ≡ n = length-replicate {A = ℕ} n 0 in
-    of_shape new ∙ ap (λ (l : List Buffer). length (bytes_of l)) e ∙ ap length (bytes_of-filled (zeros n) old (omega arith)) ∙ long

@@ -174,11 +174,6 @@ next_apart next ns distinct below b = elim (eqb_tells next b) [
     counted : times b (ns ++ next ∷ []) ≡ times b ns + is_id b next
     counted = sum_by-append (is_id b) ns (next ∷ []) ∙ omega arith
 
-pub next_below : (next : ℕ) (ns : List ℕ) → All (λ n. n < next) ns → All (λ n. n < next + 1) (ns ++ next ∷ [])
-next_below next ns below =
-    All-append (λ n. n < next + 1) ns (next ∷ []) (All-weaker (λ n. n < next) (λ n. n < next + 1) (λ n less. omega arith) ns below)
-    (All-cons (λ n. n < next + 1) next [] (omega arith) (All-nil (λ n. n < next + 1)))
-
 pub ids_add : (next : ℕ) (live : List Share) (share : Share) → share.id ≡ next → HasIds next live → HasIds (next + 1) (live ++ share ∷ [])
 ids_add next live share e is = record {
   distinct = subst AreDistinct (sym longer) (next_apart next (ids live) is.distinct below);

@@ -1,8 +1,8 @@
 -- A copy of a whole file: its header and then its records.
-use Rattle.std.proofs.Common.{◌≡◌, ℕ, ◌≤◌, List, Bool, Option, Some, None, IfSome, OnErr, Result, Ok, Err, length, drop, refl, sym, ◌∙◌, subst}
+use Rattle.std.proofs.Common.{◌≡◌, ℕ, List, Bool, Option, Some, None, IfSome, OnErr, Result, Ok, Err, drop, refl, sym, ◌∙◌, subst}
 use Rattle.std.specs.Io.KnownBytes.{Appends, append_known}
 use Rattle.std.proofs.KnownBytes.{Appends-trans}
-use Rattle.pcapio_laws.specs.Capture.{Packet, End, Bad, AreRecords, end_of, HasHeader, Capture, IsCapture, IsRefused}
+use Rattle.pcapio_laws.specs.Capture.{Packet, End, AreRecords, end_of, HasHeader, Capture, IsCapture, IsRefused}
 use Rattle.pcapio_laws.specs.Text.{file_header, file_text}
 use Rattle.pcapio_laws.specs.declared.fault.CapFault.{CapFault}
 use Rattle.pcapio_laws.specs.declared.fault.CapFault.TheVariants.{NotPcap, BadVersion, BadLink, BadRecord, Read, Write, Memory}
@@ -53,28 +53,6 @@ begins-captured space order resolution said (Some x) rest old text told same hea
     let one = one_magic x order o resolution r header.magic h.magic in
     let part = subst Q behind begins packets end (subst (λ it. AreRecords it (drop 24 x) packets end) (sym one.0) records) in
     begins-after old text told (file_header r) (copied_text space packets) (subst (λ it. Appends old text (file_header it)) (same ∙ one.1) opened) part
-
-pub endless-captured : (order : ByteOrder) (resolution : Resolution) (a rest : Option (List ℕ)) (n : ℕ)
-    → IfSome a (λ bytes. HasHeader bytes order resolution) → IfSome a (λ bytes. rest ≡ Some (drop 24 bytes))
-    → IfSome rest (λ bytes. (packets : List Packet) × (end : End) × AreRecords order bytes packets end × (n ≤ length packets))
-    → IfSome a (λ bytes. (o : ByteOrder) × (r : Resolution) × HasHeader bytes o r × (packets : List Packet) × (end : End)
-    × AreRecords o (drop 24 bytes) packets end × (n ≤ length packets))
-endless-captured order resolution None rest n header behind endless = tt
-endless-captured order resolution (Some x) rest n header behind endless =
-    let Q : Option (List ℕ) → Type 0 =
-    λ v. IfSome v (λ bytes. (packets : List Packet) × (end : End) × AreRecords order bytes packets end × (n ≤ length packets)) in
-    let all = subst Q behind endless in
-    (order, resolution, header, all.0, all.1, all.2, all.3)
-
-pub bad-captured : (order : ByteOrder) (resolution : Resolution) (a rest : Option (List ℕ))
-    → IfSome a (λ bytes. HasHeader bytes order resolution) → IfSome a (λ bytes. rest ≡ Some (drop 24 bytes))
-    → IfSome rest (λ bytes. (packets : List Packet) × AreRecords order bytes packets Bad)
-    → IfSome a (λ bytes. IsRefused bytes BadRecord)
-bad-captured order resolution None rest header behind bad = tt
-bad-captured order resolution (Some x) rest header behind bad =
-    let Q : Option (List ℕ) → Type 0 = λ v. IfSome v (λ bytes. (packets : List Packet) × AreRecords order bytes packets Bad) in
-    let found = subst Q behind bad in
-    record { order = order; resolution = resolution; packets = found.0; header = header; records = found.1 }
 
 -- why a copy stopped, for the records and for the file
 pub stopped : (fault : CapFault) (a : Option (List ℕ)) (B F V G W : Type 0) → StopsBy fault B F V → (B → IfSome a (λ known. IsRefused known BadRecord))

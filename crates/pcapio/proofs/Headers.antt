@@ -6,8 +6,7 @@ use Rattle.std.specs.Io.KnownBytes.{Keeps, prepend_known}
 use Rattle.pcapio_laws.specs.declared.fault.CapFault.{CapFault}
 use Rattle.pcapio_laws.specs.declared.fault.CapFault.TheVariants.{NotPcap, BadVersion, BadLink, BadRecord, Read, Write, Memory}
 use Rattle.pcapio_laws.specs.declared.format.ByteOrder.{ByteOrder}
-use Rattle.pcapio_laws.specs.declared.format.Resolution.{Resolution}
-use Rattle.pcapio_laws.specs.Capture.{field, short_field, HasVersion, HasHeader, IsRefused, IsNotPcap, Short, Other, IsBadVersion, IsBadLink}
+use Rattle.pcapio_laws.specs.Capture.{field, short_field, HasVersion, IsRefused, IsNotPcap, Short, Other, IsBadVersion, IsBadLink}
 use Rattle.pcapio.specs.Reader.{Refuses}
 use Rattle.pcapio_laws.proofs.Fields.{short_field-front, field-front}
 
@@ -32,15 +31,6 @@ module _ (xs ys : List ℕ) (whole : 24 ≤ length xs) where
 
   version-back : (order : ByteOrder) → HasVersion (xs ++ ys) order → HasVersion xs order
   version-back order h = (sym (major-front order) ∙ h.0, sym (minor-front order) ∙ h.1)
-
-  pub header-front : (order : ByteOrder) (resolution : Resolution) → HasHeader xs order resolution → HasHeader (xs ++ ys) order resolution
-  header-front order resolution h =
-      record {
-        whole = longer;
-        magic = magic-front ∙ h.magic;
-        version = version-front order h.version;
-        link = ap (λ n. n % 2 ^ 16) (link-front order) ∙ h.link;
-      }
 
   not_pcap-front : IsNotPcap xs → IsNotPcap (xs ++ ys)
   not_pcap-front (Short h) = absurd (omega arith)

@@ -1,5 +1,5 @@
 -- A record whose bytes were lent from the reader's buffer.
-use Rattle.std.proofs.Common.{◌≡◌, ℕ, ◌+◌, ◌≤◌, List, [], ◌∷◌, length, take, drop, Option, None, Some, IfSome, refl, sym, ap, ◌∙◌, subst, arith}
+use Rattle.std.proofs.Common.{◌≡◌, ℕ, ◌+◌, ◌≤◌, List, length, take, drop, Option, None, Some, IfSome, refl, sym, ap, ◌∙◌, subst, arith}
 use Rattle.std.proofs.lemmas.List.{drop-drop, length-take-le, length-drop}
 use Rattle.std.proofs.lemmas.Option.{none-some, same_Some}
 use Rattle.std.specs.Io.KnownBytes.{Consumes, prepend_known}
@@ -7,7 +7,7 @@ use Rattle.std.specs.Option.{ForSome}
 use mathlib.Core.HLevel.{is_prop→PathP}
 use Rattle.pcapio_laws.specs.declared.format.ByteOrder.{ByteOrder}
 use Rattle.pcapio.specs.BufferLends.{consumed}
-use Rattle.pcapio.specs.Lent.{IsBuffered, after_lent, buffered_of, TakesLent}
+use Rattle.pcapio.specs.Lent.{IsBuffered, after_lent, TakesLent}
 use Rattle.pcapio.specs.ReadBuffer.{items}
 use Rattle.pcapio.specs.Reader.{TakesRecord, pending_of}
 use Rattle.pcapio.specs.ReaderState.{head_of, captured_of}
@@ -76,8 +76,3 @@ taken_lent {R} remaining r head bytes ws at whole is same =
       state = refl;
       device = refl;
     }
-
--- a worked case: of the bytes 9, 8, 7 and 6 that were read, the first was consumed, and the last is room for more
-pub two_to_come : {R : Type 0} (r : Reader R) → r.ahead.buffer.items ≡ 9 ∷ 8 ∷ 7 ∷ 6 ∷ [] → r.ahead.start ≡ 1 → r.ahead.end ≡ 3
-    → buffered_of r ≡ 8 ∷ 7 ∷ []
-two_to_come r bytes start end = rw (bytes, start, end) refl

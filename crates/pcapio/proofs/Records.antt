@@ -1,17 +1,16 @@
 -- Records in the bytes that are still to come.
-use Rattle.std.proofs.Common.{◌≡◌, ℕ, ◌+◌, ◌<◌, ◌≤◌, max, nat_lt, Bool, true, List, [], ◌∷◌, ◌++◌, length, take, drop, Option, Some, None, IfSome, refl, sym}
-use Rattle.std.proofs.Common.{ap, ◌∙◌, arith, subst, inl, inr, length-append, take-append-drop}
-use Rattle.std.proofs.lemmas.List.{append-nil, length-drop, length-take-le, drop_at}
-use Rattle.std.proofs.lemmas.Bool.{lt-ltb}
-use Rattle.std.specs.Io.KnownBytes.{Keeps, Consumes, IsAtEnd, prepend_known}
+use Rattle.std.proofs.Common.{◌≡◌, ℕ, ◌+◌, ◌<◌, ◌≤◌, max, Bool, true, List, ◌++◌, length, take, drop, Option, Some, None, IfSome, sym}
+use Rattle.std.proofs.Common.{ap, ◌∙◌, arith, subst, inr, length-append, take-append-drop}
+use Rattle.std.proofs.lemmas.List.{length-drop, length-take-le, drop_at}
+use Rattle.std.specs.Io.KnownBytes.{Keeps, Consumes, prepend_known}
 use Rattle.std.proofs.KnownBytes.{Consumes-trans}
 use Rattle.pcapio_laws.specs.declared.format.ByteOrder.{ByteOrder}
 use Rattle.pcapio_laws.proofs.Fields.{field-front}
 use Rattle.pcapio.specs.declared.record.Head.{Head}
-use Rattle.pcapio_laws.specs.Capture.{field, captured, IsRecord, IsBad, Packet}
+use Rattle.pcapio_laws.specs.Capture.{field, captured, IsRecord, Packet}
 use Rattle.pcapio.specs.Record.{IsHead, packet_of, view}
 use Rattle.pcapio.specs.declared.record.Record.{Record}
-use Rattle.pcapio.specs.Reader.{TakesRecord, EndsSo, IsBadAhead}
+use Rattle.pcapio.specs.Reader.{TakesRecord, EndsSo}
 use Rattle.pcapio.proofs.Windows.{prepend_known-dropped, kept-Consumes}
 
 pub head-front : (order : ByteOrder) (xs ys : List ℕ) (head : Head) → IsHead order xs head → IsHead order (xs ++ ys) head
@@ -35,24 +34,6 @@ pub head-ahead : (order : ByteOrder) (a d : Option (List ℕ)) (xs : List ℕ) (
 head-ahead order None d xs head k h = tt
 head-ahead order (Some x) None xs head k h = absurd k
 head-ahead order (Some x) (Some y) xs head k h = subst (λ bytes. IsHead order bytes head) k (head-front order xs y head h)
-
-pub bad-ahead : (order : ByteOrder) (a d : Option (List ℕ)) (xs : List ℕ) → Keeps a (prepend_known xs d) → IsBad order xs → IsBadAhead order a
-bad-ahead order None d xs k h = tt
-bad-ahead order (Some x) None xs k h = absurd k
-bad-ahead order (Some x) (Some y) xs k h =
-    let whole = h.0 in
-    subst (IsBad order) k (omega (arith, length-append xs y), subst (λ n. 262144 < n) (sym (field-front order 8 xs y (omega arith))) h.1)
-
-short_end : (order : ByteOrder) (xs : List ℕ) → length xs < 16 → EndsSo order (Some xs) (nat_lt 0 (length xs))
-short_end order [] h = refl
-short_end order (x ∷ xs) h = subst (EndsSo order (Some (x ∷ xs))) (sym (lt-ltb 0 (length (x ∷ xs)) (omega arith))) (inl (omega arith, h))
-
-pub ends-short : (order : ByteOrder) (a d : Option (List ℕ)) (xs : List ℕ) → Keeps a (prepend_known xs d) → length xs < 16 → IsAtEnd d
-    → EndsSo order a (nat_lt 0 (length xs))
-ends-short order None d xs k h e = tt
-ends-short order (Some x) None xs k h e = absurd k
-ends-short order (Some x) (Some y) xs k h e =
-    subst (λ bytes. EndsSo order (Some bytes) (nat_lt 0 (length xs))) (sym (append-nil xs) ∙ (ap (λ l. xs ++ l) (sym e) ∙ k)) (short_end order xs h)
 
 -- a field of the header, if the bytes continue with others
 field-header : (order : ByteOrder) (offset : ℕ) (xs ys : List ℕ) → 16 ≤ length xs → offset + 4 ≤ 16

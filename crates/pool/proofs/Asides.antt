@@ -3,15 +3,13 @@ use Rattle.std.proofs.Common.{◌≡◌, ℕ, ◌<◌, ◌≤◌, ◌++◌, inl,
 use Rattle.burst.specs.declared.tagged.Tagged.{Ghosts}
 use Rattle.geom.specs.declared.plan.RingPlan.{RingPlan}
 use Rattle.ringcore_laws.specs.declared.party.Party.{Party}
-use Rattle.ringcore_laws.specs.FreeRings.{AreSingle}
 use Rattle.ringcore_laws.specs.Moves.{Owns}
 use Rattle.ringcore_laws.specs.Sound.{holds, occurrences_in}
 use Rattle.ringcore_laws.proofs.RingLaws.{below_or_not}
-use Rattle.fabric_laws.specs.declared.view.View.{View}
 use Rattle.fabric.specs.declared.stored.Stored.{Ghosts as StoredGhosts}
 use Rattle.fabric.specs.declared.hand.cache_hand.CacheHand.{CacheHand}
-use Rattle.fabric.specs.CacheHands.{AreNotSpare, AreSpare, Keeps, KeepsMore, KeepsNoMore, spare, view_of_cache_hand}
-use Rattle.fabric.specs.Settles.{AreNotOwnBuffers, AreNotYours, AreOwnBuffers, AreYours}
+use Rattle.fabric.specs.CacheHands.{AreNotSpare, AreSpare, Keeps, spare, view_of_cache_hand}
+use Rattle.fabric.specs.Settles.{AreNotYours, AreOwnBuffers, AreYours}
 use Rattle.ringapi.proofs.Counts.{count_both}
 use Rattle.ringapi.proofs.Singles.{single_both, single_later}
 use Rattle.pool.specs.Asides.{AreApart, set_aside_of}
@@ -21,13 +19,6 @@ module _ {T : Type 0} (tags : T → List ℕ) where
   pub aside_le : (aside : Bool) (cache : List T) (b : ℕ) → occurrences_in tags b (set_aside_of aside cache) ≤ occurrences_in tags b cache
   aside_le true cache b = omega arith
   aside_le false cache b = omega arith
-
-  pub aside_single : (aside : Bool) (cache : List T) → AreSingle tags cache → AreSingle tags (set_aside_of aside cache)
-  aside_single true cache single = single
-  aside_single false cache single = refl
-
-  pub aside_own : (aside : Bool) (v : View T) (cache : List T) → AreOwnBuffers tags v cache → AreOwnBuffers tags v (set_aside_of aside cache)
-  aside_own aside v cache own = ((λ b. omega (arith, own.0 b, aside_le aside cache b)), aside_single aside cache own.1)
 
 module _ {T : Type 0} {S : Type 0} {G : Ghosts T} {H : StoredGhosts S T} (k : CacheHand T S G H) where
   -- items that are spare and apart from the cache are the hand's beside it
@@ -67,22 +58,6 @@ module _ {T : Type 0} {S : Type 0} {G : Ghosts T} {H : StoredGhosts S T} (k : Ca
   not_yours plan aside cache items keeps other = elim other [
     | inl more ↦ inl (more.0, lacks_beside aside cache items more.0 keeps more.1)
     | inr odd ↦ inr (odd.0, λ single. odd.1 (single_later G.numbers cache items single))
-  ]
-
-  -- the same of a free ring, of items that were set aside for a moment
-  pub own_beside : (l : CacheHand T S G H) (aside : Bool) (cache items : List T) → Keeps G.numbers k (set_aside_of aside cache)
-      → AreOwnBuffers G.numbers (view_of_cache_hand k) cache → AreApart G.numbers aside cache items → KeepsMore G.numbers k items l
-      → AreOwnBuffers G.numbers (view_of_cache_hand k) (cache ++ items)
-  own_beside l aside cache items keeps own apart more = (
-    owned_beside aside cache items keeps own.0 apart (λ b. omega (arith, more.1 b)),
-    single_both G.numbers cache items own.1 more.0,
-  )
-
-  pub not_own : (l : CacheHand T S G H) (aside : Bool) (cache items : List T) → Keeps G.numbers k (set_aside_of aside cache)
-      → KeepsNoMore G.numbers k items l → AreNotOwnBuffers G.numbers (view_of_cache_hand k) (cache ++ items)
-  not_own l aside cache items keeps none = elim none.1 [
-    | inl more ↦ inl (more.0, lacks_beside aside cache items more.0 keeps more.1)
-    | inr odd ↦ inr (λ single. odd (single_later G.numbers cache items single))
   ]
 
   -- where nothing is set aside: each buffer of the items is spare, and with the cache they carry none twice

@@ -13,9 +13,6 @@ use Rattle.pool_laws.specs.Hands.{IsIn, view_in}
 pub le_of : (p m : ℕ) → nat_le p m ≡ true → p ≤ m
 le_of p m le = grind (arith, nat_tests, le)
 
-pub of_le : (p m : ℕ) → p ≤ m → nat_le p m ≡ true
-of_le p m le = grind (arith, nat_tests, le)
-
 module _ {T : Type 0} {S : Type 0} {G : Ghosts T} {H : StoredGhosts S T} {N : ℕ} (f : Fabric T N S) where
   -- all hands of a fabric have its pool
   pub pool_in : (o : Option (CacheHand T S G H)) → IsIn f o → (view_in o).pool ≡ pool_of f

@@ -24,10 +24,6 @@ module _ {I X E : Type 0} (beside : I → I → Type 0) (before later : I) where
   room_kept (Ok x) kept = kept
   room_kept (Err e) kept = tt
 
-  pub all_kept : (result : Result X E) → KeepsRoom beside before result later → IfErr result (λ _. later ≡ before)
-  all_kept (Ok x) kept = tt
-  all_kept (Err e) kept = kept
-
 -- words that are at the front of a slice, with how many
 pub shown_front : {T X E : Type 0} (A : Type 0) (result : Result X E) (count : ℕ) (words before : List T)
     → IfOk result (λ _. A × (drop count words ≡ drop count before) × (count ≤ length words))

@@ -1,6 +1,6 @@
 -- A stack of words in an array, as runs of words are written into it, read out of it and moved in it
 use Rattle.std.proofs.Common.{◌≡◌, ℕ, ◌+◌, ◌-◌, ◌≤◌, ◌<◌, ◌++◌, ◌∷◌, List, [], length, slice_set, take, drop, reverse, refl, sym, ap, ◌∙◌, arith}
-use Rattle.std.proofs.lemmas.List.{drop-take, drop_all, drop_at, length-drop, length-take-le, take-take, take_at}
+use Rattle.std.proofs.lemmas.List.{drop-take, drop_at, length-drop, length-take-le, take-take, take_at}
 use Rattle.std.proofs.Math.Seq.{drop-append-add, paste, take-append-add}
 use Rattle.std.proofs.lemmas.List.Edits.{take-paste}
 use Rattle.std.proofs.lemmas.Slice.{take-put_mid}
@@ -69,10 +69,6 @@ module _ {T : Type 0} (before behind after : List T) (is : after ≡ before ++ b
 
   pub front_kept : after ≡ before ++ added before after
   front_kept = is ∙ ap (λ l. before ++ l) (sym added_is)
-
--- what comes after a list that is unchanged
-pub added_none : {T : Type 0} → (before after : List T) → after ≡ before → added before after ≡ []
-added_none before after is = ap (drop (length before)) is ∙ drop_all (length before) before (omega arith)
 
 -- a get that the cache can't serve: what it gives, and what is left
 module _ {T : Type 0} (n : ℕ) (cache taken all : List T) (short : length cache < n) (is : all ≡ cache ++ taken) where

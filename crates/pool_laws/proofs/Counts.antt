@@ -1,12 +1,12 @@
 -- How often a buffer stands in what a get gives and keeps, and in what a put moves and keeps
-use Rattle.std.proofs.Common.{◌≡◌, ℕ, ◌+◌, ◌-◌, ◌++◌, List, length, take, drop, reverse, arith}
+use Rattle.std.proofs.Common.{◌≡◌, ℕ, ◌+◌, ◌-◌, List, length, take, drop, reverse, arith}
 use Rattle.std.specs.Prelude.{◌<◌, ◌≤◌, nat_lt, if◌then◌else◌}
 use Rattle.std.specs.List.{sum_by}
 use Rattle.std.proofs.lemmas.Bool.Decides.{nat_tests}
 use Rattle.std.proofs.lemmas.List.Sums.{sum_by-append}
 use Rattle.ringcore_laws.specs.Sound.{occurrences, occurrences_in}
-use Rattle.ringapi.proofs.Counts.{count_both, count_parts, sum_parts, sum_turned}
-use Rattle.pool_laws.specs.Caches.{cached_after_get, cached_after_put, put_on_ring, spilled, taken_by_get}
+use Rattle.ringapi.proofs.Counts.{sum_parts, sum_turned}
+use Rattle.pool_laws.specs.Caches.{cached_after_get, taken_by_get}
 
 -- a sum over the items
 module _ {T : Type 0} (f : T → ℕ) where
@@ -29,13 +29,6 @@ module _ {T : Type 0} (tags : T → List ℕ) (b : ℕ) where
       → occurrences_in tags b (taken_by_get n cache taken) + occurrences_in tags b (cached_after_get n cache taken)
       ≡ occurrences_in tags b cache + occurrences_in tags b taken
   count_get n cache taken = sum_get (λ x. occurrences b (tags x)) n cache taken
-
-  -- nor does a put
-  pub count_put : (size : ℕ) (cache list : List T)
-      → occurrences_in tags b (put_on_ring size cache list) + occurrences_in tags b (cached_after_put size cache list)
-      ≡ occurrences_in tags b cache + occurrences_in tags b list
-  count_put size cache list =
-      omega (arith, count_both tags b cache list, count_parts tags b (spilled size (cache ++ list)) (cache ++ list))
 
 -- a put moves nothing to the ring up to the threshold, and else all but so many
 pub spilled_none : (size most long : ℕ) → long ≤ most → (if nat_lt most long then long - size else 0) ≡ 0

@@ -1,20 +1,15 @@
 -- What the calls of a pool keep: its ring is free, and its cache the hand's own
-use Rattle.std.proofs.Common.{◌≡◌, ℕ, ◌++◌, inl, inr, List, take, drop, reverse, sym, ap, ◌∙◌, subst, arith}
+use Rattle.std.proofs.Common.{◌≡◌, ℕ, ◌++◌, inl, inr, List, take, drop, reverse, sym, ap, subst, arith}
 use Rattle.burst.specs.declared.tagged.Tagged.{Ghosts}
 use Rattle.fabric.specs.declared.stored.Stored.{Ghosts as StoredGhosts}
-use Rattle.geom.specs.declared.plan.RingPlan.{RingPlan}
 use Rattle.ringcore_laws.specs.FreeRings.{AreSingle}
 use Rattle.ringcore_laws.specs.Sound.{holds, occurrences_in}
 use Rattle.fabric_laws.specs.declared.view.View.{View}
 use Rattle.fabric.specs.declared.hand.cache_hand.CacheHand.{CacheHand}
-use Rattle.fabric.specs.CacheHands.{AreKept, Keeps, KeepsLess, KeepsMore, KeepsNoMore, SameCacheHand, view_of_cache_hand}
+use Rattle.fabric.specs.CacheHands.{AreKept, Keeps, KeepsLess, KeepsNoMore, SameCacheHand, view_of_cache_hand}
 use Rattle.fabric.specs.Settles.{AreNotOwnBuffers, AreOwnBuffers}
-use Rattle.ringapi.specs.Holdings.{IsFreeRing}
 use Rattle.ringapi.proofs.Counts.{count_both, count_parts, count_turned}
-use Rattle.ringapi.proofs.Singles.{single_both, single_later, single_poured}
-
-pub free_kept : (before after rings : List RingPlan) (ring : ℕ) → before ≡ rings → after ≡ rings → IsFreeRing before ring → IsFreeRing after ring
-free_kept before after rings ring was is free = subst (λ p. IsFreeRing p ring) (was ∙ sym is) free
+use Rattle.ringapi.proofs.Singles.{single_later, single_poured}
 
 module _ {T : Type 0} {S : Type 0} {G : Ghosts T} {H : StoredGhosts S T} (tags : T → List ℕ) where
   -- what a cache_hand keeps back is the hand's own
@@ -23,25 +18,6 @@ module _ {T : Type 0} {S : Type 0} {G : Ghosts T} {H : StoredGhosts S T} (tags :
 
   pub same_view : (k l : CacheHand T S G H) → SameCacheHand k l → view_of_cache_hand l ≡ view_of_cache_hand k
   same_view k l same = ap (λ s. s.me.0) same
-
-  -- it keeps a list back beside the cache
-  pub more_kept : (k l : CacheHand T S G H) (cache list : List T) → SameCacheHand k l → Keeps tags k cache → KeepsMore tags k list l → Keeps tags l (cache ++ list)
-  more_kept k l cache list same keeps more b =
-      omega (arith, keeps b, more.1 b, count_both tags b cache list, ap (λ (v : View T). holds tags b v.party) (same_view k l same))
-
-  pub more_own : (k l : CacheHand T S G H) (cache list : List T) → Keeps tags k cache → AreSingle tags cache → KeepsMore tags k list l
-      → AreOwnBuffers tags (view_of_cache_hand k) (cache ++ list)
-  more_own k l cache list keeps single more =
-      ((λ b. omega (arith, keeps b, more.1 b, count_both tags b cache list)), single_both tags cache list single more.0)
-
-  pub added_kept : (k l : CacheHand T S G H) (cache list : List T) → SameCacheHand k l → Keeps tags k cache → KeepsMore tags k list l → AreKept tags l list
-  added_kept k l cache list same keeps more b =
-      omega (arith, keeps b, more.1 b, ap (λ (v : View T). holds tags b v.party) (same_view k l same))
-
-  -- it doesn't
-  pub none_kept : (k l : CacheHand T S G H) (cache list : List T) → SameCacheHand k l → Keeps tags k cache → KeepsNoMore tags k list l → Keeps tags l cache
-  none_kept k l cache list same keeps none b =
-      omega (arith, keeps b, none.0 b, ap (λ (v : View T). holds tags b v.party) (same_view k l same))
 
   pub none_own : (k l : CacheHand T S G H) (cache list : List T) → Keeps tags k cache → KeepsNoMore tags k list l
       → AreNotOwnBuffers tags (view_of_cache_hand k) (cache ++ list)
@@ -73,19 +49,6 @@ module _ {T : Type 0} {S : Type 0} {G : Ghosts T} {H : StoredGhosts S T} (tags :
         count_turned tags b (drop n cache),
         count_parts tags b n cache,
         ap (λ (v : View T). holds tags b v.party) (same_view k l same),
-      )
-
-  -- it kept a list back, and has it free again
-  pub back_kept : (k l m : CacheHand T S G H) (cache list : List T) → SameCacheHand k l → SameCacheHand l m → Keeps tags k cache → KeepsMore tags k list l
-      → KeepsLess tags l list m → Keeps tags m cache
-  back_kept k l m cache list same again keeps more less b =
-      omega (
-        arith,
-        keeps b,
-        more.1 b,
-        less b,
-        ap (λ (v : View T). holds tags b v.party) (same_view k l same),
-        ap (λ (v : View T). holds tags b v.party) (same_view l m again),
       )
 
 module _ {T : Type 0} (tags : T → List ℕ) where

@@ -1,6 +1,6 @@
 -- What a hand has after a put or a take on another ring, beside the buffers that it keeps back
 use Rattle.std.specs.Prelude.{⊤}
-use Rattle.std.proofs.Common.{◌≡◌, ℕ, ◌+◌, ◌-◌, ◌++◌, inl, inr, List, [], Some, Result, Ok, Err, length, refl, take, ap, subst, sym, ◌∙◌, arith}
+use Rattle.std.proofs.Common.{◌≡◌, ℕ, ◌+◌, ◌-◌, ◌++◌, List, [], Some, Result, Err, length, refl, take, ap, subst, sym, ◌∙◌, arith}
 use Rattle.geom.specs.declared.plan.How.{How}
 use Rattle.geom.specs.declared.plan.Mode.TheVariants.{Hts, Multi}
 use Rattle.geom.specs.declared.plan.RingPlan.{RingPlan}
@@ -11,13 +11,12 @@ use Rattle.burst.specs.declared.tagged.Tagged.{Ghosts}
 use Rattle.fabric.specs.declared.stored.Stored.{Ghosts as StoredGhosts}
 use Rattle.fabric_laws.specs.declared.view.View.{View}
 use Rattle.fabric_laws.specs.Kinds.{IsHeldOnce}
-use Rattle.fabric.specs.declared.fabric.Fabric.{Fabric}
 use Rattle.fabric.specs.declared.hand.Hand.{Hand}
 use Rattle.fabric.specs.declared.hand.StartFault.{StartFault}
 use Rattle.fabric.specs.declared.hand.cache_hand.CacheHand.{CacheHand}
-use Rattle.fabric.specs.Hands.{IsHandOf, view}
-use Rattle.fabric.specs.CacheHands.{IsCacheHandFor, IsCacheHandOf, Keeps, SameCacheHand, SparesTheSame, view_of_cache_hand}
-use Rattle.fabric.specs.Settles.{AreNotYours, AreOwnBuffers, AreYours}
+use Rattle.fabric.specs.Hands.{view}
+use Rattle.fabric.specs.CacheHands.{view_of_cache_hand}
+use Rattle.fabric.specs.Settles.{AreOwnBuffers, AreYours}
 use Rattle.fabric.proofs.Holding.{holds_put, holds_take}
 use Rattle.fabric.proofs.Told.{refused_kept}
 use Rattle.ringapi.specs.declared.answers.Moved.{Moved}
@@ -27,8 +26,8 @@ use Rattle.ringapi.specs.declared.answers.Refusal.{Refusal}
 use Rattle.ringapi.specs.declared.answers.Refusal.TheVariants.{Start, NotYours}
 use Rattle.ringapi.specs.declared.answers.TakeAnswer.{TakeAnswer}
 use Rattle.ringapi.specs.declared.answers.TakeAnswer.TheVariants as taken
-use Rattle.ringapi.specs.Puts.{IsPutOf, IsUnfinishedPut, PutHasTold, left_of}
-use Rattle.ringapi.specs.Takes.{IsTakeOf, IsUnfinishedTake, TakeHasTold}
+use Rattle.ringapi.specs.Puts.{IsUnfinishedPut, PutHasTold, left_of}
+use Rattle.ringapi.specs.Takes.{IsUnfinishedTake, TakeHasTold}
 use Rattle.ringapi.proofs.Tries.{starts_kept}
 use Rattle.ringapi.proofs.Yours.{not_both}
 use Rattle.pool_laws.specs.Beside.{IsPutBeside, IsTakenBeside, PutOwns, Receives, Sends, TakeOwns, unsent_of}
@@ -45,11 +44,6 @@ yours_later tags plan v w cache items is yours = record {
 }
 
 module _ {T : Type 0} {S : Type 0} {G : Ghosts T} {H : StoredGhosts S T} (tags : T → List ℕ) where
-  -- a cache_hand that was asked keeps back what it kept
-  pub asked_keeps : (k l : CacheHand T S G H) (cache : List T) → SameCacheHand k l → SparesTheSame k l → Keeps tags k cache → Keeps tags l cache
-  asked_keeps k l cache same spares keeps b =
-      omega (arith, keeps b, spares b, ap (λ s. holds tags b s.me.0.party) same)
-
   module _ (how : How) (most ring : ℕ) (plan : RingPlan) (v : View T) (h : Hand T S G H) where
     -- what is cached is the hand's own after items beside it were put
     pub sent_own : (k : CacheHand T S G H) (cache items rest : List T) (m : Moved) → v ≡ view_of_cache_hand k → AreSingle tags cache
@@ -186,30 +180,9 @@ module _ {T : Type 0} {S : Type 0} {G : Ghosts T} {H : StoredGhosts S T} (tags :
         (h, subst (λ w. TakeHasTold {N = most} tags how n ring plan w (taken.Refused h why) items) is told, ap (λ s. s.me.0) same.0)
     receives_beside v k l n items (taken.Open o tail) result is told same = absurd same
 
-hand_here : {T : Type 0} {S : Type 0} {G : Ghosts T} {H : StoredGhosts S T} {N : ℕ} (f : Fabric T N S) (h : Hand T S G H) (k : CacheHand T S G H)
-    → IsHandOf f h → IsCacheHandFor h k → IsCacheHandOf f k
-hand_here f h k here same = (
-  ap (λ s. s.table_id) same ∙ here.0,
-  ap (λ s. s.me.0.plans) same ∙ here.1,
-  ap (λ s. s.me.0.pool) same ∙ here.2,
-)
-
 -- what a put from a slice leaves, by its answer and by what a cache returns
 pub left_unsent : {T : Type 0} {S : Type 0} {G : Ghosts T} {H : StoredGhosts S T} {N : ℕ} (answer : PutAnswer T N S G H) (k : CacheHand T S G H)
     (result : Result Moved Refusal) (items : List T) → IsPutBeside answer k result → left_of answer items ≡ unsent_of result items
 left_unsent (put.Done h moved) k result items same = ap (λ r. unsent_of r items) (sym same.1)
 left_unsent (put.Refused h why) k result items same = ap (λ r. unsent_of r items) (sym same.1)
 left_unsent (put.Open o tail) k result items same = absurd same
-
--- the hand of an answer, as one that sets buffers aside, is of the same fabric
-pub put_here : {T : Type 0} {S : Type 0} {G : Ghosts T} {H : StoredGhosts S T} {N : ℕ} (f : Fabric T N S) (ring : ℕ) (answer : PutAnswer T N S G H)
-    (k : CacheHand T S G H) (result : Result Moved Refusal) → IsPutOf f ring answer → IsPutBeside answer k result → IsCacheHandOf f k
-put_here f ring (put.Done h moved) k result made same = hand_here f h k made same.0
-put_here f ring (put.Refused h why) k result made same = hand_here f h k made same.0
-put_here f ring (put.Open o tail) k result made same = absurd same
-
-pub take_here : {T : Type 0} {S : Type 0} {G : Ghosts T} {H : StoredGhosts S T} {N : ℕ} (f : Fabric T N S) (ring : ℕ) (answer : TakeAnswer T N S G H)
-    (k : CacheHand T S G H) (result : Result Moved StartFault) → IsTakeOf f ring answer → IsTakenBeside answer k result → IsCacheHandOf f k
-take_here f ring (taken.Done h moved) k result made same = hand_here f h k made same.0
-take_here f ring (taken.Refused h why) k result made same = hand_here f h k made same.0
-take_here f ring (taken.Open o tail) k result made same = absurd same

@@ -21,7 +21,6 @@ use Rattle.ringapi.specs.declared.answers.TakeAnswer.TheVariants as taken
 use Rattle.ringapi.specs.declared.answers.PutAnswer.TheVariants as put
 use Rattle.ringapi.specs.declared.answers.Refusal.{Refusal}
 use Rattle.ringapi.specs.declared.answers.Refusal.TheVariants.{Start, NotYours}
-use Rattle.ringapi.specs.declared.answers.PutAnswer.{PutAnswer}
 use Rattle.ringapi.specs.Puts.{IsUnfinishedPut, PutHasTold}
 use Rattle.ringapi.proofs.Yours.{not_both}
 use Rattle.fabric.specs.Settles.{AreOwnBuffers, AreYours}
@@ -30,7 +29,6 @@ use Rattle.ringapi.specs.Views.{IsMoved, by_bulk}
 use Rattle.ringapi.proofs.Tries.{starts_kept}
 use Rattle.fabric.proofs.Told.{refused_kept}
 use Rattle.fabric.proofs.Pours.{all_first, none_behind}
-use Rattle.std.proofs.lemmas.List.{length-drop}
 use Rattle.ringcore_laws.specs.FreeRings.{AreSingle, buffers_had}
 use Rattle.std.specs.Prelude.{true}
 use Rattle.ringapi.proofs.Counts.{count_parts}
@@ -109,14 +107,6 @@ module _ {T : Type 0} {S : Type 0} {G : Ghosts T} {H : StoredGhosts S T} (tags :
       (told.2.1, subst (λ l. PutHasTold {N = most} tags by_bulk ring plan v items (put.Refused h (Start Worn)) l) told.2.1 told)
   put_none v h (Start BadCount) items rest yours free few some fit final told =
       absurd (told.2.5 (some, fit, λ side free_too. omega (arith, few, had_before tags most by_bulk (length items) ring Put plan v told.0 told.2.2 told.2.3)))
-
-  -- what it leaves is no longer than what it had
-  pub put_rest : (v : View T) (answer : PutAnswer T most S G H) (items rest : List T)
-      → PutHasTold {N = most} tags by_bulk ring plan v items answer rest → length rest ≤ length items
-  put_rest v (put.Done h m) items rest told = omega (arith, ap length told.2.1, length-drop m.count items)
-  put_rest v (put.Refused h (Start e)) items rest told = omega (arith, ap length told.2.1)
-  put_rest v (put.Refused h NotYours) items rest told = omega (arith, ap length told.2.1)
-  put_rest v (put.Open o tail) items rest told = omega (arith, ap length told.2.1)
 
   -- what was put is the hand's own no more
   pub put_holds : (v : View T) (h : Hand T S G H) (items : List T) → Spills tags most ring plan v items (Ok h)

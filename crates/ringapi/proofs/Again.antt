@@ -81,11 +81,6 @@ module _ {T : Type 0} {S : Type 0} {G : Ghosts T} {H : StoredGhosts S T} (N : �
       ∙ starts_kept tags N how (length items) ring Put plan v told.0 is.2 is.3) is.0
   refused_yours h NotYours rest open_still told = absurd open_still
 
-  pub had_is : (h : Hand T S G H) (why : Refusal) (had : List T) → IsUnfinishedPut (refused_as N h why)
-      → PutHasTold tags how ring plan v items (refused_as N h why) had → had ≡ items
-  had_is h (Start e) had open_still told = told.2.1
-  had_is h NotYours had open_still told = told.2.1
-
   pub put_again : (h : Hand T S G H) (why : Refusal) (had rest : List T) (answer : PutAnswer T N S G H) → IsUnfinishedPut (refused_as N h why)
       → PutHasTold tags how ring plan v items (refused_as N h why) had → PutTells tags how ring plan (view h) had [] [] answer rest
       → PutHasTold tags how ring plan v items answer rest

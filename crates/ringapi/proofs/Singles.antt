@@ -65,9 +65,6 @@ module _ {T : Type 0} (tags : T → List ℕ) where
   single_both items more one two =
       from_none (items ++ more) (omega (arith, sum_by-append odd items more, none_odd items one, none_odd more two))
 
-  pub single_first : (items more : List T) → AreSingle tags (items ++ more) → AreSingle tags items
-  single_first items more all = from_none items (omega (arith, sum_by-append odd items more, none_odd (items ++ more) all))
-
   pub single_later : (items more : List T) → AreSingle tags (items ++ more) → AreSingle tags more
   single_later items more all = from_none more (omega (arith, sum_by-append odd items more, none_odd (items ++ more) all))
 

@@ -1,6 +1,5 @@
 -- What a take answers, by what its start and its settle did
-use Rattle.std.proofs.Common.{◌≡◌, ℕ, ◌<◌, List, [], ◌∷◌, length, take, slice_get, Some, sym, refl, ap, ◌∙◌, subst}
-use Rattle.std.proofs.Math.Seq.{take-length}
+use Rattle.std.proofs.Common.{◌≡◌, ℕ, ◌<◌, List, [], ◌∷◌, length, slice_get, Some, sym, refl, ap, ◌∙◌, subst}
 use Rattle.geom.specs.declared.plan.How.{How}
 use Rattle.geom.specs.declared.plan.Mode.{Mode}
 use Rattle.geom.specs.declared.plan.RingPlan.{RingPlan}
@@ -40,13 +39,6 @@ module _ {T : Type 0} {S : Type 0} {G : Ghosts T} {H : StoredGhosts S T} {N : �
   pub plan_of : (o : TakeOpenLent T N S G H) (f : Fabric T N S) (ring : ℕ) → take_fabric o ≡ f → (take_span o).ring ≡ ring
       → slice_get (rings_of f) ring ≡ Some o.ring.shape.plan
   plan_of o f ring same at = (λ i. slice_get (rings_of (sym same i)) (sym at i)) ∙ o.ring.in_plan.0
-
-  -- all items of a span
-  pub all_of : (o : TakeOpenLent T N S G H) (items : List T) (k : ℕ) → items ≡ (take_view o).shown → k ≡ (take_span o).count
-      → (length items ≡ k) × (take k items ≡ items)
-  all_of o items k shows all =
-      let long : length items ≡ k = ap length shows ∙ (o.many ∙ sym all) in
-      (long, ap (λ n. take n items) (sym long) ∙ take-length items)
 
   -- a settle keeps the fabric
   pub settled_of : (tags : T → List ℕ) (f : Fabric T N S) (ring : ℕ) (o : TakeOpenLent T N S G H) (items : List T) (answer : TakeAnswer T N S G H) (rest : List T)
@@ -139,7 +131,3 @@ module _ {T : Type 0} {S : Type 0} {G : Ghosts T} {H : StoredGhosts S T} (N : �
   -- a take that was refused moved nothing
   pub none_shown : (h : Hand T S G H) (e : StartFault) (had : List T) → TakeHasTold tags how n ring plan v (refused_take h e) had → had ≡ []
   none_shown h e had told = told.2.0
-
-  -- an open span shows its items
-  pub span_shown : (o : TakeOpenLent T N S G H) (tail : ℕ) (had : List T) → TakeHasTold tags how n ring plan v (Open o tail) had → had ≡ (take_view o).shown
-  span_shown o tail had told = told.2.0

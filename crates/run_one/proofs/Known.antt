@@ -1,5 +1,5 @@
 -- What is known of an input whose fates are known.
-use Rattle.std.proofs.Common.{◌≡◌, ℕ, List, Option, None, Some, Result, Ok, Err, IfErr, IfOk, refl}
+use Rattle.std.proofs.Common.{◌≡◌, ℕ, List, Option, None, Some, Result, Ok, Err, IfErr, refl}
 use Rattle.std.specs.Result.{OnOk}
 use Rattle.std.specs.Option.{OnSome}
 use Rattle.stages_laws.specs.Input.{Input}
@@ -18,10 +18,6 @@ on_ok (Err e) f p = p
 pub if_err : {A E : Type 0} {P Q : E → Type 0} (r : Result A E) → ((e : E) → P e → Q e) → IfErr r P → IfErr r Q
 if_err (Ok x) f p = p
 if_err (Err e) f p = f e p
-
-pub if_ok : {X E : Type 0} {P Q : Type 0} (r : Result X E) → (P → Q) → IfOk r (λ x. P) → IfOk r (λ x. Q)
-if_ok (Ok x) k p = k p
-if_ok (Err e) k p = p
 
 pub on_some : {A P : Type 0} (o : Option A) (x : A) → o ≡ Some x → OnSome o P → P
 on_some None x e p = absurd (cc e)

@@ -4,29 +4,27 @@ use Rattle.std.proofs.Common.{◌∙◌, subst, arith, append-nil, slice_get}
 use Rattle.std.specs.Option.{option_map}
 use Rattle.std.proofs.lemmas.Option.{slice_get-map}
 use Rattle.pcapio.specs.Begin.{Begins}
-use Rattle.pcapio.specs.Counted.{to_come, told, failures_of, HasFailed, HasNotFailed}
-use Rattle.pcapio.specs.Reader.{Refuses, source_of}
+use Rattle.pcapio.specs.Counted.{to_come, told, failures_of, HasNotFailed}
+use Rattle.pcapio.specs.Reader.{source_of}
 use Rattle.pcapio.specs.declared.counted.Counted.{Counted}
 use Rattle.pcapio.specs.declared.reader.Reader.{Reader}
 use Rattle.pcapio.proofs.Runs.{failed-later}
 use Rattle.pcapio_laws.specs.Capture.{Packet, End, Bad, AreRecords, HasHeader, IsRefused}
 use Rattle.pcapio_laws.specs.declared.fault.CapFault.{CapFault}
-use Rattle.pcapio_laws.specs.declared.fault.CapFault.TheVariants.{NotPcap, BadVersion, BadLink, BadRecord}
-use Rattle.pcapio_laws.specs.declared.fault.CapFault.TheVariants as cap
+use Rattle.pcapio_laws.specs.declared.fault.CapFault.TheVariants.{BadRecord}
 use Rattle.pcapio_laws.specs.declared.format.ByteOrder.{ByteOrder}
 use Rattle.pcapio_laws.specs.declared.format.Resolution.{Resolution}
 use Rattle.pcapio_laws.proofs.Cases.{one_magic}
 use Rattle.pcapio_laws.proofs.Exists.{exists}
 use Rattle.pcapio_laws.proofs.Unique.{one}
 use Rattle.settings.specs.declared.read.Settings.{Settings}
-use Rattle.stages_laws.specs.Input.{Input, IsInput}
+use Rattle.stages_laws.specs.Input.{Input}
 use Rattle.stages_laws.specs.Output.{Fate, fates, output_of}
 use Rattle.run_one.specs.Ending.{Sums}
 use Rattle.run_one.specs.Failing.{FailedAt}
-use Rattle.run_one.specs.Faults.{fault_of_input}
 use Rattle.run_one.specs.Ports.{AreOutputs, AreBeginnings}
 use Rattle.run_one.specs.Tallies.{fates_of}
-use Rattle.run_one.specs.Whole.{forwarding_by, IsRun, IsBegun, IsUntouched, WhyStoppedAt, WhyNoSummary}
+use Rattle.run_one.specs.Whole.{forwarding_by, IsRun, IsBegun, WhyStoppedAt, WhyNoSummary}
 use Rattle.run_one.specs.declared.summary.Summary.{Summary}
 use Rattle.run_one.specs.declared.fault.RunFault.{RunFault}
 use Rattle.run_one.specs.declared.fault.RunFault.TheVariants.{Memory, Thread, Read, Write, Capture as Refused, Window, Worn}
@@ -41,10 +39,6 @@ read_in order bytes = (exists order (length bytes) bytes (omega arith)).2
 
 abbrev pub input_of : ByteOrder → Option (List ℕ) → Option Input
 input_of order rest = option_map (input_in order) rest
-
-pub input_known : (order : ByteOrder) (rest : Option (List ℕ)) → IsInput order rest (input_of order rest)
-input_known order None = refl
-input_known order (Some bytes) = read_in order bytes
 
 module _ {W : Type 0} where
   -- devices to which nothing was written in the run have received a prefix
@@ -63,18 +57,7 @@ module _ {W : Type 0} where
   untouched_begun contents settings (Some x) writers devices same = λ order resolution packets end h r.
       untold contents (map (told contents) writers) resolution (fates (forwarding_by settings) settings.room packets) devices (ap (map (told contents)) same)
 
-  pub untouched_still : (contents : W → Option (List ℕ)) (settings : Settings) (a : Option (List ℕ)) (writers devices : List (Counted W)) → devices ≡ writers
-      → IfSome a (λ bytes. IsUntouched contents settings bytes writers devices)
-  untouched_still contents settings None writers devices same = tt
-  untouched_still contents settings (Some x) writers devices same = λ none. same
-
   module _ (contents : W → Option (List ℕ)) (settings : Settings) (order : ByteOrder) (resolution : Resolution) where
-    -- with a valid file header
-    pub header_there : (a : Option (List ℕ)) (writers devices : List (Counted W)) → IfSome a (λ bytes. HasHeader bytes order resolution)
-        → IfSome a (λ bytes. IsUntouched contents settings bytes writers devices)
-    header_there None writers devices header = tt
-    header_there (Some x) writers devices header = λ none. absurd (none (order, resolution, header))
-
     pub begun_whole : (a rest : Option (List ℕ)) (writers devices : List (Counted W)) → IfSome a (λ bytes. HasHeader bytes order resolution)
         → IfSome a (λ bytes. rest ≡ Some (drop 24 bytes))
         → ((all : List Fate) → fates_of (forwarding_by settings) settings.room (input_of order rest) ≡ Some all
@@ -161,14 +144,3 @@ module _ (order : ByteOrder) (resolution : Resolution) where
   why_whole remaining rest failures reader source opened writers devices Window header behind well same why =
       endless_whole (to_come remaining reader) rest (2 ^ 64 - 1) header behind why
   why_whole remaining rest failures reader source opened writers devices Worn header behind well same why = why
-
--- why a file wasn't opened
-pub why_unopened : {R W : Type 0} (remaining : R → Option (List ℕ)) (reader back : Counted R) (writers devices : List (Counted W)) (fault : CapFault)
-    → Refuses (to_come remaining reader) fault (HasFailed reader back) → WhyNoSummary remaining reader back writers devices (fault_of_input fault)
-why_unopened remaining reader back writers devices NotPcap h = h
-why_unopened remaining reader back writers devices BadVersion h = h
-why_unopened remaining reader back writers devices BadLink h = h
-why_unopened remaining reader back writers devices BadRecord h = absurd h
-why_unopened remaining reader back writers devices cap.Read h = h
-why_unopened remaining reader back writers devices cap.Write h = absurd h
-why_unopened remaining reader back writers devices cap.Memory h = tt

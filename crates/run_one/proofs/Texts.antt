@@ -8,7 +8,6 @@ use Rattle.std.proofs.Math.Seq.{take-append_seam}
 use Rattle.pcapio.specs.Begin.{Begins}
 use Rattle.pcapio.specs.Counted.{told}
 use Rattle.pcapio_laws.specs.Text.{record_text, file_header}
-use Rattle.pcapio.specs.WriteBuffer.{waiting}
 use Rattle.pcapio.specs.Writer.{text, sink_of}
 use Rattle.pcapio_laws.specs.declared.format.Resolution.{Resolution}
 use Rattle.pcapio.specs.declared.writer.Writer.{Writer}
@@ -58,10 +57,6 @@ pub appended_text : (a : Option (List ℕ)) (x part : List ℕ) → Appends (Som
 appended_text None x part p = absurd p
 appended_text (Some y) x part p = ap Some p
 
-begins_waiting : (a : Option (List ℕ)) (w x : List ℕ) → append_known a w ≡ Some x → Begins a (Some x)
-begins_waiting None w x e = absurd (cc e)
-begins_waiting (Some y) w x e = (w, let f : y ++ w ≡ x = cc e in f)
-
 module _ {W : Type 0} where
   texts_longer : (contents : W → Option (List ℕ)) (before : List (Option (List ℕ))) (resolution : Resolution) (all : List Fate) (n : ℕ) (o : Fate)
       (old new : List (Writer W))
@@ -88,16 +83,6 @@ module _ {W : Type 0} where
       beginning (told contents (sink_of w)) ((x ++ so_far) ++ part) rest (x ++ output_of resolution q all) begins
       (ap (λ l. l ++ rest) (append_assoc x so_far part ∙ ap (λ l. x ++ l) (sym (output_one_more resolution q all n o at)))
       ∙ (append_assoc x (output_of resolution q (take (n + 1) all)) rest ∙ ap (λ l. x ++ l) (sym (output_front resolution q all (n + 1)))))
-
-  -- what is in the buffers is written later: so far each port has received a prefix
-  pub texts_begun : (contents : W → Option (List ℕ)) (before : List (Option (List ℕ))) (resolution : Resolution) (all : List Fate) (n : ℕ)
-      (writers : List (Writer W))
-      → AreTexts contents before resolution (take n all) writers → AreBegun contents before resolution all writers
-  texts_begun contents before resolution all n writers texts q w x got known =
-      let rest = flat_map record_text (records_at q (drop n all)) in
-      beginning (told contents (sink_of w)) (x ++ output_of resolution q (take n all)) rest (x ++ output_of resolution q all)
-      (begins_waiting (told contents (sink_of w)) (waiting w.behind) (x ++ output_of resolution q (take n all)) (texts q w x got known))
-      (append_assoc x (output_of resolution q (take n all)) rest ∙ ap (λ l. x ++ l) (sym (output_front resolution q all n)))
 
   -- if no port fails, one more fate; if one fails, or failed before, a prefix of the whole
   pub texts_turn : (contents : W → Option (List ℕ)) (before : List (Option (List ℕ))) (resolution : Resolution) (outs : Option (List Fate)) (n : ℕ) (o : Fate)

@@ -56,7 +56,3 @@ module _ {T : Type 0} where
       (λ n x is. all_insert P w k y all here n x (subst (λ v. map.get v.held n ≡ Some x) ok is), ap (λ v. v.next) ok)
   all_inserted P w u k y (Err _) ok err here all =
       (λ n x is. all n x (subst (λ v. map.get v.held n ≡ Some x) err is), ap (λ v. v.next) err)
-
-  -- the item that came last with a number is the one that is held there
-  pub got_here : (w : Waiting T) (k : ℕ) (y : T) → k ≡ w.next → map.get (with_number w k y).held w.next ≡ Some y
-  got_here w k y same = get-insert nat_cmp_total w.held k y w.next ∙ ap (λ b. cond b (Some y) (map.get w.held w.next)) (tied w.next k (sym same))

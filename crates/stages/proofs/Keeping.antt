@@ -171,12 +171,3 @@ module _ {J : Type 0} {R : RunGhosts J} where
         → HoldsOf place free w (λ b. in_chain chain b + others b) → HoldsOf new after w others
     of_released place new free after w chain others kept had count =
         kept (λ b. in_waiting w.held w.next count b + others b) (λ h same b. omega (arith, had count h same b))
-
-    pub of_chain : (place : Option (Hand (RingItem J R) S G H)) (free : List (RingItem J R)) (w : Waiting (Judged J R)) (chain : List Buffer) (others : ℕ → ℕ)
-        → HoldsOf place free w (λ b. in_chain chain b + others b) → HoldsAll item_numbers place (λ b. in_items free b + in_chain chain b)
-    of_chain place free w chain others had h same b = omega (arith, had 0 h same b)
-
-    -- less is held, too
-    pub of_less : (place : Option (Hand (RingItem J R) S G H)) (free : List (RingItem J R)) (w : Waiting (Judged J R)) (more less : ℕ → ℕ)
-        → ((b : ℕ) → less b ≤ more b) → HoldsOf place free w more → HoldsOf place free w less
-    of_less place free w more less fewer had count h same b = omega (arith, had count h same b, fewer b)

@@ -79,12 +79,6 @@ module _ {T : Type 0} where
     takes = λ r. ap (settled_on r Take) same ∙ before.takes r;
   }
 
-  pub passes_none : (u w : List (Settled T)) → w ≡ u → Passes u w [] []
-  passes_none u w same = record {
-    takes = ap (settled_on 1 Take) same ∙ sym (append-nil (settled_on 1 Take u));
-    puts = ap (settled_on 2 Put) same ∙ sym (append-nil (settled_on 2 Put u));
-  }
-
   pub passes_take : (u v w : List (Settled T)) (taken sent items : List T) (start : ℕ) → Passes u v taken sent
       → w ≡ settlement 1 Take start items ∷ v → Passes u w (taken ++ items) sent
   passes_take u v w taken sent items start before more = record {
