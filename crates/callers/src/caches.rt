@@ -49,7 +49,7 @@ pub fn get_and_put<R: Wait>(
     local.put_from(rt, f, &mut list).is_ok() && local.flush(rt, f).is_ok()
 }
 
-/// Gets the numbers of three buffers, which are copied, and puts them back, and then puts all that is cached on the free
+/// Gets the numbers of three buffers, which are copied, and puts them back. Then puts all that is cached on the free
 /// ring. Returns the three numbers, or `None` if a call was refused.
 pub fn get_and_put_words<R: Wait>(
     rt: &R,

@@ -1,6 +1,7 @@
 -- Worked cases of counts that calls on a pool of numbers take, and of sends, receives and looks that are none
 use Rattle.std.proofs.Common.{◌≡◌, ◌≢◌, ◌++◌, ℕ, List, [], ◌∷◌, arith, drop, inl, inr, length, refl, sym, Option}
 use Rattle.geom.specs.declared.plan.How.{How}
+use Rattle.geom.specs.declared.plan.Side.{Side}
 use Rattle.geom.specs.declared.plan.Side.TheVariants.{Put, Take}
 use Rattle.burst.specs.declared.tagged.Tagged.{Ghosts}
 use Rattle.fabric_laws.specs.Changes.{loaded}
@@ -83,7 +84,7 @@ module _ {G : Ghosts Number} {H : StoredGhosts (Option Number) Number} {C : Type
       → HasReceived f how ring l m before after count → ⊥
   received_from_another_ring how before after count other is = other is.same.0
 
--- a look that loads once, or not at all
-loads_too_few : (f : NumberRings) (ring : ℕ) (v : View Number) (outcome : Outcome) → loaded (loaded v) ≢ v
-    → Looks numbers_of f ring Take v v outcome → ⊥
-loads_too_few f ring v outcome other is = other (sym is.0)
+-- a look after which the view is another one than after two loads
+looks_by_other_loads : (f : NumberRings) (ring : ℕ) (side : Side) (v w : View Number) (outcome : Outcome) → w ≢ loaded (loaded v)
+    → Looks numbers_of f ring side v w outcome → ⊥
+looks_by_other_loads f ring side v w outcome other is = other is.0

@@ -271,7 +271,13 @@ without_a_span : (m : Member) → (member_view m).party.span ≡ None → Refuse
 without_a_span m idle (inl (_, some)) = let e : false ≡ true = subst IsSome idle some in cc
 without_a_span m idle (inr (is, _)) = cc
 
--- a look after which the member has another span, or says something else of its last call
+-- a look after which the member has other rings or another span, shows other words, or says something else of its last call
+looks_elsewhere : (m u : Member) → u.port.fabric ≢ m.port.fabric → SameButLoads m u → ⊥
+looks_elsewhere m u other is = other is.fabric
+
+looks_and_shows : (m u : Member) → u.shown.value ≢ m.shown.value → SameButLoads m u → ⊥
+looks_and_shows m u other is = other is.shown
+
 looks_and_opens : (m u : Member) → u.port.hand.span ≢ m.port.hand.span → SameButLoads m u → ⊥
 looks_and_opens m u other is = other is.span
 

@@ -8,7 +8,7 @@ use Rattle.lpm.specs.Routes.{LacksRoute, NeedsTooMany}
 use Rattle.lpm.specs.declared.fault.RouteFault.{RouteFault}
 use Rattle.lpm.specs.declared.fault.RouteFault.TheVariants as table
 use Rattle.live_routes.specs.Forwarding.{Forwarding, opening, routes_of, with_hop, with_port, with_route, without_route, without_routes}
-use Rattle.live_routes.specs.Routing.{Prepares, Keeps, Routing}
+use Rattle.live_routes.specs.Routing.{Keeps, Prepares, Routing}
 use Rattle.live_routes.specs.declared.fault.LiveFault.{LiveFault}
 use Rattle.live_routes.specs.declared.fault.LiveFault.TheVariants as live
 use Rattle.live_value.specs.Lanes.{Glance}

@@ -6,7 +6,7 @@ use Rattle.geom.specs.declared.plan.Side.TheVariants.{Take}
 use Rattle.pool.specs.Locals.{SameCache, SameRing, cache_of, view_of}
 use Rattle.capi.specs.Codes.{Outcome}
 use Rattle.capi.specs.Counts.{Looks}
-use Rattle.capi.specs.PoolCalls.{Flushes, Gets, SendsTo, Puts, ReceivesFrom, TellsOwner}
+use Rattle.capi.specs.PoolCalls.{Flushes, Gets, Puts, ReceivesFrom, SendsTo, TellsOwner}
 use Rattle.capi.specs.PoolMembers.{numbers_of}
 use Rattle.capi.specs.declared.pools.member.Number.{Number}
 use Rattle.capi.specs.declared.rings.fault.Fault.TheVariants as fault

@@ -42,7 +42,7 @@ pub extern "C" fn hkx_pool_flush(alloc: Global, h: &mut Handle) -> i64
     with_object!(alloc, h, Pool(pool) => flush_numbers(&pool.fabric, &mut pool.local))
 }
 
-/// Passes numbers on by a ring of the pool.
+/// Sends numbers over a ring of the pool.
 #[unsafe(no_mangle)]
 pub extern "C" fn hkx_pool_send(
     alloc: Global,
@@ -56,7 +56,7 @@ pub extern "C" fn hkx_pool_send(
     with_object!(alloc, h, Pool(pool) => send_numbers(pool, ring, items, how(bulk)))
 }
 
-/// Takes numbers over from a ring of the pool.
+/// Receives numbers from a ring of the pool.
 #[unsafe(no_mangle)]
 pub extern "C" fn hkx_pool_receive(
     alloc: Global,

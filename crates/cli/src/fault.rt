@@ -82,8 +82,8 @@ impl<'a> Fault<'a> {
         }
     }
 
-    /// The fault for a run that failed over a capture with these first bytes. If they aren't those of classic pcap, they
-    /// say whether it is in another format.
+    /// The fault for a run that failed over a capture with these first bytes. If they aren't those of classic pcap,
+    /// they say whether it is in another format.
     pub(crate) fn of_input(fault: RunFault, first: &FirstBytes) -> Fault<'a> {
         match fault {
             RunFault::Capture(CapFault::NotPcap) => {

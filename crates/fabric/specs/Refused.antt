@@ -27,8 +27,8 @@ pub record IsRefused {T : Type 0} (tags : T → List ℕ) (most : ℕ) (how : Ho
   pub kept : IsKept v w
   pub worn : e ≡ Worn → IsWornAt most w
 
--- Nothing of the open span was settled, for the reason e: k of its positions should have been, with these items if it is
--- of a put
+-- Nothing of the open span was settled, for the reason e. The call was to settle k of its positions, with these items if
+-- the span is of a put; v is the view before, w the one after
 pub record IsUnsettled {T : Type 0} (tags : T → List ℕ) (plan : RingPlan) (span : Span) (k : ℕ) (items : List T)
     (v w : View T) (e : SettleFault) : Type 0 where
   -- what the tests and the step of the settle found

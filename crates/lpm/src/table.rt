@@ -66,10 +66,10 @@ impl Table {
         Ok(Table::over(alloc, levels))
     }
 
-    /// An empty table of the same size as `new` makes, whose entries are only reserved here: 8 bytes are written for each
-    /// 256 of them. A block of 256 entries is written once a route comes into it that doesn't cover all of it. So such a
-    /// table is made faster and takes less memory, and a lookup reads one word more, or two. Returns `Err` only if out of
-    /// memory.
+    /// An empty table of the same size as `new` makes, whose entries are only reserved here: 8 bytes are written for
+    /// each 256 of them. A block of 256 entries is written once a route comes into it that doesn't cover all of it. So
+    /// such a table is made faster and takes less memory, and a lookup reads one word more, or two. Returns `Err` only
+    /// if out of memory.
     pub fn sparse(alloc: Global, bits: u8, groups: u32) -> Result<Table, AllocError>
         requires { (bits ≡ 16) ⊎ (bits ≡ 24) }
         ensures { IfOk result (λ t. IsNew t bits groups) }

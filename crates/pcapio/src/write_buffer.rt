@@ -85,7 +85,8 @@ impl WriteBuffer {
         Ok(())
     }
 
-    /// Adds bytes to what is waiting, if there is too little room: what is waiting is written first.
+    /// Adds bytes, if there is too little room: writes what is waiting, and then keeps them, or writes them too if they
+    /// are many.
     fn add_past<W: Write>(&mut self, device: &mut Counted<W>, bytes: &[u8]) -> Result<(), Failed>
         ensures ok { OnOk result (Adds W.contents self.old device.old self.new device.new bytes.now) }
         ensures begins { OnErr result (BeginsToAdd W.contents self.old device.old device.new bytes.now) }

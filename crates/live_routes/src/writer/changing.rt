@@ -8,7 +8,7 @@ ghost use Rattle.lpm.specs.Prefixes.{IsDepth};
 ghost use Rattle.lpm.specs.Routes.{LacksRoute, NeedsTooMany};
 ghost use Rattle.live_routes.specs.Forwarding.{routes_of, with_hop, with_port, with_route, without_route};
 ghost use Rattle.live_routes.specs.Forwarding.{without_routes};
-ghost use Rattle.live_routes.specs.Routing.{Prepares, Keeps, with_prepared};
+ghost use Rattle.live_routes.specs.Routing.{Keeps, Prepares, with_prepared};
 
 use super::RouteWriter;
 use crate::change::Change;
