@@ -11,7 +11,7 @@ use crate::fibs::{
     share, walk,
 };
 use crate::handle::Handle;
-use crate::keeping::{borrow, give, is_used};
+use crate::keeping::{borrow, give, is_used, share_with};
 use crate::object::Object;
 use crate::rings::{Fault, answer};
 use ipv4::Hop;
@@ -42,18 +42,7 @@ fn open_at(
 fn share_at(alloc: Global, h: &mut Handle, second: &mut Handle) -> Result<u32, Fault>
     ensures { SharesAt result h.old.value h.new.value second.old.value second.new.value }
 {
-    if is_used(alloc, second) {
-        return Err(Fault::Used);
-    }
-    let Some(mut slot) = borrow(alloc, h) else {
-        return Err(Fault::Empty);
-    };
-    let found = share(&mut slot);
-    *h = Handle::of(slot);
-    match found {
-        Ok(reader) => give(alloc, Object::Forward(reader), second),
-        Err(why) => Err(why),
-    }
+    share_with!(alloc, h, second, Forward(share))
 }
 
 fn add_at(alloc: Global, h: &mut Handle, address: u32, depth: u32, hop: u32) -> Result<u32, Fault>

@@ -8,7 +8,7 @@ ghost use Rattle.capi.specs.Closings.{ClosesAt};
 ghost use Rattle.capi.specs.declared.object.Object.TheVariants as object;
 
 use crate::handle::Handle;
-use crate::keeping::{borrow, give, is_used, with_new, with_object};
+use crate::keeping::{borrow, give, is_used, split_off, with_new, with_object};
 use crate::object::Object;
 use crate::rings::{Asked, Fault, MOST, Member, Word64, answer, close, drain, open, split};
 use std::alloc::Global;
@@ -65,24 +65,7 @@ fn split_into(
 fn split_at(alloc: Global, h: &mut Handle, second: &mut Handle) -> Result<u32, Fault>
     ensures { SplitsAt result h.old.value h.new.value second.old.value second.new.value }
 {
-    if is_used(alloc, second) {
-        return Err(Fault::Used);
-    }
-    let Ok(mut room) = Box::new(alloc, None) else {
-        return Err(Fault::Memory);
-    };
-    let Some(mut slot) = borrow(alloc, h) else {
-        return Err(Fault::Empty);
-    };
-    let outcome = split_into(alloc, &mut slot, &mut room);
-    *h = Handle::of(slot);
-    match outcome {
-        Ok(count) => {
-            *second = Handle::of(room);
-            Ok(count)
-        }
-        Err(why) => Err(why),
-    }
+    split_off!(alloc, h, second, split_into)
 }
 
 /// Splits a hand in two: the second handle, which is null, gets another hand on the same rings.

@@ -84,6 +84,56 @@ macro_rules! with_new {
 
 pub(crate) use with_new;
 
+/// Splits what a handle has in two: `split_off!(alloc, h, second, split_into)` is the outcome. The second handle, which
+/// is null, gets what `split_into` leaves in an empty room. Errors: `Used` if the second isn't null; `Memory`; `Empty`
+/// if the first is null; those of `split_into`.
+macro_rules! split_off {
+    ($alloc:ident, $h:ident, $second:ident, $split:ident) => {{
+        if is_used($alloc, $second) {
+            return Err(Fault::Used);
+        }
+        let Ok(mut room) = Box::new($alloc, None) else {
+            return Err(Fault::Memory);
+        };
+        let Some(mut slot) = borrow($alloc, $h) else {
+            return Err(Fault::Empty);
+        };
+        let outcome = $split($alloc, &mut slot, &mut room);
+        *$h = Handle::of(slot);
+        match outcome {
+            Ok(count) => {
+                *$second = Handle::of(room);
+                Ok(count)
+            }
+            Err(why) => Err(why),
+        }
+    }};
+}
+
+pub(crate) use split_off;
+
+/// Gives a second handle, which is null, an object that `found` makes of what a handle has: `share_with!(alloc, h,
+/// second, Routes(shared))` is the outcome. Errors: `Used` if the second isn't null; `Empty` if the first is null; why
+/// `found` makes none; `Memory`.
+macro_rules! share_with {
+    ($alloc:ident, $h:ident, $second:ident, $kind:ident($found:ident)) => {{
+        if is_used($alloc, $second) {
+            return Err(Fault::Used);
+        }
+        let Some(mut slot) = borrow($alloc, $h) else {
+            return Err(Fault::Empty);
+        };
+        let found = $found(&mut slot);
+        *$h = Handle::of(slot);
+        match found {
+            Ok(made) => give($alloc, Object::$kind(made), $second),
+            Err(why) => Err(why),
+        }
+    }};
+}
+
+pub(crate) use share_with;
+
 /// Takes out what a handle has, to be dropped as it is: an open span is neither settled nor withdrawn. Then the handle
 /// is null.
 fn take_out(alloc: Global, h: &mut Handle) -> Result<Box<Option<Object>>, Fault>

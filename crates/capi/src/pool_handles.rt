@@ -5,7 +5,7 @@ ghost use Rattle.capi.specs.PoolHandles.{HasNoPool, OpensPool, SplitsPool, Split
 ghost use Rattle.capi.specs.declared.object.Object.TheVariants as object;
 
 use crate::handle::Handle;
-use crate::keeping::{borrow, give, is_used, with_new};
+use crate::keeping::{borrow, give, is_used, split_off, with_new};
 use crate::object::Object;
 use crate::pools::{PoolMember, open_pool, split_pool};
 use crate::rings::{Fault, answer};
@@ -63,24 +63,7 @@ fn split_into(
 fn split_at(alloc: Global, h: &mut Handle, second: &mut Handle) -> Result<u32, Fault>
     ensures { SplitsPoolAt result h.old.value h.new.value second.old.value second.new.value }
 {
-    if is_used(alloc, second) {
-        return Err(Fault::Used);
-    }
-    let Ok(mut room) = Box::new(alloc, None) else {
-        return Err(Fault::Memory);
-    };
-    let Some(mut slot) = borrow(alloc, h) else {
-        return Err(Fault::Empty);
-    };
-    let outcome = split_into(alloc, &mut slot, &mut room);
-    *h = Handle::of(slot);
-    match outcome {
-        Ok(count) => {
-            *second = Handle::of(room);
-            Ok(count)
-        }
-        Err(why) => Err(why),
-    }
+    split_off!(alloc, h, second, split_into)
 }
 
 /// Gives the second handle, which is null, another cache on the same pool.

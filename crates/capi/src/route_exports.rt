@@ -6,7 +6,7 @@ ghost use Rattle.capi.specs.Handles.{AtRoutes};
 ghost use Rattle.capi.specs.Tables.{Adds, LooksUpAll, OpensTable, Removes, Shares, hop_found};
 
 use crate::handle::Handle;
-use crate::keeping::{borrow, give, is_used, with_new, with_object};
+use crate::keeping::{borrow, give, is_used, share_with, with_new, with_object};
 use crate::object::Object;
 use crate::rings::{Fault, answer};
 use crate::route_tables::{add, look_up, look_up_in, made, remove, shared};
@@ -16,18 +16,7 @@ use std::alloc::Global;
 fn share_at(alloc: Global, h: &mut Handle, second: &mut Handle) -> Result<u32, Fault>
     ensures { Shares result h.old.value h.new.value second.old.value second.new.value }
 {
-    if is_used(alloc, second) {
-        return Err(Fault::Used);
-    }
-    let Some(slot) = borrow(alloc, h) else {
-        return Err(Fault::Empty);
-    };
-    let found = shared(&slot);
-    *h = Handle::of(slot);
-    match found {
-        Ok(table) => give(alloc, Object::Routes(table), second),
-        Err(why) => Err(why),
-    }
+    share_with!(alloc, h, second, Routes(shared))
 }
 
 /// Opens a table without routes: its first level has 2^`bits` entries, 16 or 24, and it may have `groups` groups.

@@ -1,5 +1,5 @@
 -- Worked cases of a ring that was looked up, and of counts
-use Rattle.std.proofs.Common.{◌≡◌, ◌∙◌, ◌≤◌, arith, ℕ, ◌*◌, ◌+◌, ◌-◌, ◌^◌, [], ◌∷◌, Option, None, Some, ap, refl, sym, false}
+use Rattle.std.proofs.Common.{◌≡◌, ◌∙◌, ◌≤◌, arith, ℕ, ◌*◌, ◌+◌, ◌-◌, ◌^◌, List, [], ◌∷◌, Option, None, Some, ap, refl, sym, false}
 use Rattle.std.specs.Prelude.{slice_get}
 use Rattle.geom.specs.declared.plan.Mode.{Mode}
 use Rattle.geom.specs.declared.plan.Mode.TheVariants.{Hts, Multi}
@@ -7,9 +7,10 @@ use Rattle.geom.specs.Extent.{range_of}
 use Rattle.geom.specs.declared.plan.RingPlan.{RingPlan}
 use Rattle.geom.specs.declared.plan.Side.TheVariants.{Put, Take}
 use Rattle.fabric_laws.specs.Words.{slots_before}
+use Rattle.fabric_laws.specs.declared.view.View.{View}
 use Rattle.fabric.specs.declared.fabric.Fabric.{Fabric}
 use Rattle.fabric.specs.declared.place.Place.{Place}
-use Rattle.fabric.specs.Counts.{queued_between}
+use Rattle.fabric.specs.Counts.{CountsQueued, queued_between}
 use Rattle.fabric.specs.Hands.{rings_of}
 use Rattle.fabric.specs.Places.{HasCounts, IsPlaceOf, place_mode}
 
@@ -49,6 +50,10 @@ two_shown = refl
 -- more were put and taken between the two loads than the ring takes
 pub no_more_than_fit : queued_between (ring Multi) 5 12 ≡ 3
 no_more_than_fit = refl
+
+-- however the two loads came out, no count above what the ring takes is told
+never_above : {T : Type 0} (tags : T → List ℕ) (v : View T) → CountsQueued tags 0 (ring Multi) v 4 → ⊥
+never_above tags v c = omega (arith, c.queued)
 
 -- a multi side has no count; a head/tail-sync word hasn't room for one as large as its range
 multi_counts_nothing : (p : Place) (n : ℕ) → place_mode p Put ≡ Multi → HasCounts p Put n

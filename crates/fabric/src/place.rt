@@ -50,16 +50,16 @@ impl<T: Tagged, const N: usize, S: Stored<T>> Fabric<T, N, S> {
 
     /// The ring at a place.
     #[inline(always)]
-    pub(crate) fn at(&self, place: &Place) -> Ring<'_, T, N, S>
+    pub(crate) fn at<'f>(&'f self, place: &'f Place) -> Ring<'f, T, N, S>
         requires { IsPlaceOf self.now place.now }
         ensures of { result.fabric.now ≡ self.now }
         ensures index { result.index ≡ place.now.index }
-        ensures shape { result.shape ≡ place.now.shape }
+        ensures shape { result.shape.now ≡ place.now.shape }
     {
         Ring {
             fabric: self,
             index: place.index,
-            shape: place.shape,
+            shape: &place.shape,
         }
     }
 }

@@ -111,7 +111,7 @@ module _ {T : Type 0} {S : Type 0} {G : Ghosts T} {H : StoredGhosts S T} (N : �
             (subst (AreYours tags plan (put_view o)) (sym is.1) (opened_yours tags plan v (put_view o) items _ party is.0)),
       )
 
-  pub settle_more : (o : PutOpen T N S G H) (tail : ℕ) (had rest : List T) (answer : PutAnswer T N S G H) → (put_span o).ring ≡ ring → o.ring.shape.plan ≡ plan
+  pub settle_more : (o : PutOpen T N S G H) (tail : ℕ) (had rest : List T) (answer : PutAnswer T N S G H) → (put_span o).ring ≡ ring → o.ring.shape.now.plan ≡ plan
       → PutHasTold tags how ring plan v items (Open o tail) had → SettlesPut o had answer rest → PutHasTold tags how ring plan v items answer rest
   settle_more o tail had rest answer at same told is =
       let before = told.2 in (

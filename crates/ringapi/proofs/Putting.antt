@@ -50,7 +50,7 @@ fault_of NotYours = Worn
 module _ {T : Type 0} {S : Type 0} {G : Ghosts T} {H : StoredGhosts S T} {N : ℕ} where
   -- the plan of an open span's ring
   pub plan_of : (o : PutOpen T N S G H) (f : Fabric T N S) (ring : ℕ) → put_fabric o ≡ f → (put_span o).ring ≡ ring
-      → slice_get (rings_of f) ring ≡ Some o.ring.shape.plan
+      → slice_get (rings_of f) ring ≡ Some o.ring.shape.now.plan
   plan_of o f ring same at = (λ i. slice_get (rings_of (sym same i)) (sym at i)) ∙ o.ring.in_plan.0
 
   -- a put that isn't finished left the list as it was
@@ -75,7 +75,7 @@ module _ {T : Type 0} {S : Type 0} {G : Ghosts T} {H : StoredGhosts S T} {N : �
   module _ (tags : T → List ℕ) (how : How) (ring : ℕ) (plan : RingPlan) (v : View T) (items : List T) (starts : List (View T × StartFault)) (tails : List ℕ)
     where
       -- a settle of a span that was reserved
-      pub settled_tells : (o : PutOpen T N S G H) (answer : PutAnswer T N S G H) (rest : List T) → (put_span o).ring ≡ ring → o.ring.shape.plan ≡ plan
+      pub settled_tells : (o : PutOpen T N S G H) (answer : PutAnswer T N S G H) (rest : List T) → (put_span o).ring ≡ ring → o.ring.shape.now.plan ≡ plan
           → AreYours tags plan v items
           → IsReserved tags N how (length items) ring Put plan v starts (put_span o).start (put_span o).count (put_left o) [] tails (put_view o)
           → SettlesPut o items answer rest → PutTells tags how ring plan v items starts tails answer rest

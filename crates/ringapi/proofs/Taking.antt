@@ -37,7 +37,7 @@ only_early tags mode plan k count start items v w (NotYet x) all r other early =
 module _ {T : Type 0} {S : Type 0} {G : Ghosts T} {H : StoredGhosts S T} {N : ℕ} where
   -- the plan of an open span's ring
   pub plan_of : (o : TakeOpenLent T N S G H) (f : Fabric T N S) (ring : ℕ) → take_fabric o ≡ f → (take_span o).ring ≡ ring
-      → slice_get (rings_of f) ring ≡ Some o.ring.shape.plan
+      → slice_get (rings_of f) ring ≡ Some o.ring.shape.now.plan
   plan_of o f ring same at = (λ i. slice_get (rings_of (sym same i)) (sym at i)) ∙ o.ring.in_plan.0
 
   -- a settle keeps the fabric
@@ -51,7 +51,7 @@ module _ {T : Type 0} {S : Type 0} {G : Ghosts T} {H : StoredGhosts S T} (N : �
   module _ (starts : List (View T × StartFault)) (tails : List ℕ) where
     -- a settle of a span that was reserved
     pub settled_tells : (o : TakeOpenLent T N S G H) (items : List T) (answer : TakeAnswer T N S G H) (rest : List T) → (take_span o).ring ≡ ring
-        → o.ring.shape.plan ≡ plan → items ≡ (take_view o).shown
+        → o.ring.shape.now.plan ≡ plan → items ≡ (take_view o).shown
         → IsReserved tags N how n ring Take plan v starts (take_span o).start (take_span o).count (take_left o) items tails (take_view o)
         → SettlesTake tags o items answer rest → TakeTells tags how n ring plan v starts tails answer rest
     settled_tells o items (Done h moved) rest at same shows is done = (
@@ -122,7 +122,7 @@ module _ {T : Type 0} {S : Type 0} {G : Ghosts T} {H : StoredGhosts S T} (N : �
       ((before.1, e) ∷ told.0, [], take_after (view h) ((before.1, e) ∷ told.0) answer items (before.3, open_still, before.2) is)
 
   pub settle_more : (o : TakeOpenLent T N S G H) (tail : ℕ) (had items : List T) (answer : TakeAnswer T N S G H) → (take_span o).ring ≡ ring
-      → o.ring.shape.plan ≡ plan → TakeHasTold tags how n ring plan v (Open o tail) had → SettlesTake tags o had answer items
+      → o.ring.shape.now.plan ≡ plan → TakeHasTold tags how n ring plan v (Open o tail) had → SettlesTake tags o had answer items
       → TakeHasTold tags how n ring plan v answer items
   settle_more o tail had items answer at same told is =
       let before = told.2 in

@@ -73,7 +73,7 @@ module _ {T : Type 0} {S : Type 0} {G : Ghosts T} {H : StoredGhosts S T} {N : �
       HasPut o (take moved.count items) h × (moved.count ≡ (put_span o).count) × (moved.left ≡ put_left o)
       × (rest ≡ drop moved.count items)
   SettlesPut o items (Refused h why) rest = ⊥
-  SettlesPut o items (Open q tail) rest = SamePut o q × (rest ≡ items) × (o.ring.shape.plan.put ≡ Multi)
+  SettlesPut o items (Open q tail) rest = SamePut o q × (rest ≡ items) × (o.ring.shape.now.plan.put ≡ Multi)
       × (tail < (put_span o).start) × (put_view q ≡ missed tail (put_view o))
 
   -- what a put of these items from a slice leaves: all but as many as it moved, from the front

@@ -68,7 +68,7 @@ module _ {T : Type 0} {S : Type 0} {G : Ghosts T} {H : StoredGhosts S T} {N : �
       × (length items ≡ moved.count) × (moved.count ≡ (take_span o).count) × (moved.left ≡ take_left o)
       × (rest ≡ items) × AreDistinct (flat_map tags rest)
   SettlesTake tags o items (Refused h e) rest = ⊥
-  SettlesTake tags o items (Open q tail) rest = SameTake o q × (rest ≡ items) × (o.ring.shape.plan.take ≡ Multi)
+  SettlesTake tags o items (Open q tail) rest = SameTake o q × (rest ≡ items) × (o.ring.shape.now.plan.take ≡ Multi)
       × (tail < (take_span o).start) × (take_view q ≡ missed tail (take_view o))
 
   -- what a take leaves of the list that its items go to: all as it was if it was refused, and otherwise what is beside

@@ -22,7 +22,7 @@ fn settle<'f, T: Tagged, const N: usize, S: Stored<T>, I: PutItems<T>>(
     list: &mut I,
 ) -> PutAnswer<'f, T, N, S>
     requires fits { (put_span span).count ≤ length (I.items list.old) }
-    requires yours { AreYours T.numbers span.ring.shape.plan (put_view span)
+    requires yours { AreYours T.numbers span.ring.shape.now.plan (put_view span)
         (take (put_span span).count (I.items list.old)) }
     ensures settled { SettlesPut span.entry (I.items list.old) result (left_of result (I.items list.old)) }
     ensures list { I.items list.new ≡ rest_by I.after result (I.items list.old) }

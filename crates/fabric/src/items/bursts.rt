@@ -43,7 +43,9 @@ impl<T: Tagged, const N: usize> Items<T> for Burst<T, N> {
         start: u64,
         k: usize,
     ) {
-        fill(shared, shape, seat, start, k, &mut self.cells);
+        // a copy, which isn't loaded again after each item that is written
+        let shape = *shape;
+        fill(shared, &shape, seat, start, k, &mut self.cells);
     }
 }
 
@@ -83,7 +85,9 @@ impl<T: Tagged, const N: usize> PutItems<T> for Burst<T, N> {
         start: u64,
         count: usize,
     ) {
-        drain(shared, shape, seat, start, count, &mut self.cells);
+        // as in fill
+        let shape = *shape;
+        drain(shared, &shape, seat, start, count, &mut self.cells);
     }
 }
 
@@ -99,6 +103,8 @@ impl<T: Tagged, const N: usize> TakeItems<T> for Burst<T, N> {
         start: u64,
         count: usize,
     ) {
-        drain(shared, shape, seat, start, count, &mut self.cells);
+        // as in fill
+        let shape = *shape;
+        drain(shared, &shape, seat, start, count, &mut self.cells);
     }
 }

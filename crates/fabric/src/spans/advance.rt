@@ -51,11 +51,11 @@ impl<T: Tagged, const N: usize, S: Stored<T>> Ring<'_, T, N, S> {
         items: &mut I,
     )
         requires seat { IsSeated self.now seat.old }
-        requires hts { self.now.shape.plan.put ≡ Hts }
+        requires hts { self.now.shape.now.plan.put ≡ Hts }
         requires short { length (I.items items.old) < range.count }
         requires span { seat.old.me.0.party.span ≡ Some (span_of self.now.index Put range.start range.count) }
         requires owned { Owns T.numbers seat.old.me.0.party (I.items items.old) }
-        requires single { self.now.shape.plan.free ≡ true → AreSingle T.numbers (I.items items.old) }
+        requires single { self.now.shape.now.plan.free ≡ true → AreSingle T.numbers (I.items items.old) }
         requires slots { seat.old.me.1 ≡ slots_of self.now range.start (replicate range.count None) }
         ensures seat { IsSameSeat seat.old seat.new }
         ensures done { (seat.new.me.0
@@ -80,7 +80,7 @@ impl<T: Tagged, const N: usize, S: Stored<T>> Ring<'_, T, N, S> {
         items: &mut I,
     ) -> Result<Positions, SettleFault>
         requires seat { IsSeated self.now share.old.seat }
-        requires hts { self.now.shape.plan.put ≡ Hts }
+        requires hts { self.now.shape.now.plan.put ≡ Hts }
         requires span { share.old.seat.me.0.party.span ≡ Some (span_of self.now.index Put range.start range.count) }
         requires slots { share.old.seat.me.1 ≡ slots_of self.now range.start (replicate range.count None) }
         ensures seat { IsSameSeat share.old.seat share.new.seat }
@@ -90,7 +90,7 @@ impl<T: Tagged, const N: usize, S: Stored<T>> Ring<'_, T, N, S> {
             share.old.seat.me.0) × (share.new.seat.me.1 ≡ slots_of self.now rest.start (replicate rest.count None))
             × (I.items items.new ≡ I.left (I.items items.old) 0)) }
         ensures refused { IfErr result (λ e. (share.new.seat.me.1 ≡ share.old.seat.me.1)
-            × (I.items items.new ≡ I.items items.old) × RefusesAdvance T.numbers self.now.shape.plan
+            × (I.items items.new ≡ I.items items.old) × RefusesAdvance T.numbers self.now.shape.now.plan
             (length (I.items items.old)) range.count (I.items items.old) share.old.seat.me.0 share.new.seat.me.0 e) }
         ensures owned { IfOk result
             (λ _. HoldsLess T.numbers share.old.seat.me.0 (I.items items.old) share.new.seat.me.0) }
@@ -125,7 +125,7 @@ impl<T: Tagged, const N: usize, S: Stored<T>> Ring<'_, T, N, S> {
         ensures items { I.items into.new ≡ take k seat.old.me.0.shown }
         ensures beside { I.beside into.old into.new }
     {
-        into.drain(&self.fabric.table.shared, &self.shape, seat, range.start, k);
+        into.drain(&self.fabric.table.shared, self.shape, seat, range.start, k);
         skip(seat, range.count - k);
     }
 

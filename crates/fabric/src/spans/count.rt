@@ -29,9 +29,9 @@ impl<T: Tagged, const N: usize, S: Stored<T>> Ring<'_, T, N, S> {
         ensures seat { IsSameSeat seat.old seat.new × (seat.new.me.1 ≡ seat.old.me.1) }
         ensures view { seat.new.me.0 ≡ loaded seat.old.me.0 }
         ensures was { (x : ℕ)
-            × (result ≡ position_of self.now.shape.plan.geometry (mode_of self.now.shape.plan side) x)
+            × (result ≡ position_of self.now.shape.now.plan.geometry (mode_of self.now.shape.now.plan side) x)
             × Was T.numbers seat.old.me.0
-            (settled_word_at (mode_of self.now.shape.plan side) self.now.index side) x }
+            (settled_word_at (mode_of self.now.shape.now.plan side) self.now.index side) x }
     {
         let mode = self.shape.plan.mode(side);
         let found = self
@@ -48,7 +48,7 @@ impl<T: Tagged, const N: usize, S: Stored<T>> Ring<'_, T, N, S> {
         requires seat { IsSeated self.now seat.old }
         ensures seat { IsSameSeat seat.old seat.new × (seat.new.me.1 ≡ seat.old.me.1) }
         ensures view { seat.new.me.0 ≡ loaded (loaded seat.old.me.0) }
-        ensures found { CountsQueued T.numbers self.now.index self.now.shape.plan seat.old.me.0 result }
+        ensures found { CountsQueued T.numbers self.now.index self.now.shape.now.plan seat.old.me.0 result }
     {
         let taken = self.settled_up_to(seat, Side::Take);
         let put = self.settled_up_to(seat, Side::Put);

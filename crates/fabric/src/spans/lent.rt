@@ -94,7 +94,7 @@ impl<'f, T: Tagged, const N: usize, S: Stored<T>> PutOpen<'f, T, N, S> {
     /// Gives up all positions of a span on a head/tail-sync side: `try_settle_from` with no item, without a burst.
     /// Requires: the span is on such a side. One step on a word.
     pub fn abort(self) -> Hand<T, S>
-        requires hts { self.ring.shape.plan.put ≡ Hts }
+        requires hts { self.ring.shape.now.plan.put ≡ Hts }
         ensures { HasPut self.entry [] result }
     {
         let PutOpen { ring, share, range } = self;

@@ -54,17 +54,17 @@ impl<T: Tagged, const N: usize, S: Stored<T>> Ring<'_, T, N, S> {
         k: usize,
     ) -> Option<u64>
         requires seat { IsSeated self.now seat.old }
-        requires count { IsCount (mode_of self.now.shape.plan side) k range.count }
+        requires count { IsCount (mode_of self.now.shape.now.plan side) k range.count }
         requires ready { (items : List T) × (length items ≡ k)
-            × IsReady T.numbers (rings_of self.now.fabric.now) self.now.shape.plan
+            × IsReady T.numbers (rings_of self.now.fabric.now) self.now.shape.now.plan
             (span_of self.now.index side range.start range.count) items seat.old.me }
         ensures seat { IsSameSeat seat.old seat.new }
         ensures done { IfNone result ((items : List T) → length items ≡ k
             → let span = span_of self.now.index side range.start range.count in
-            IsReady T.numbers (rings_of self.now.fabric.now) self.now.shape.plan span items seat.old.me
+            IsReady T.numbers (rings_of self.now.fabric.now) self.now.shape.now.plan span items seat.old.me
             → (seat.new.me.0 ≡ settled span items seat.old.me.0) × (seat.new.me.1 ≡ [])
             × IsHeldOnce T.numbers seat.new.me.0.pool seat.new.me.0.party) }
-        ensures early { IfSome result (λ x. (mode_of self.now.shape.plan side ≡ Multi) × (x < range.start)
+        ensures early { IfSome result (λ x. (mode_of self.now.shape.now.plan side ≡ Multi) × (x < range.start)
             × (seat.new.me.0 ≡ missed x seat.old.me.0) × (seat.new.me.1 ≡ seat.old.me.1)) }
         ensures true_refusal { IfSome result
             (λ x. WasEarlier T.numbers (span_of self.now.index side range.start range.count) seat.old.me.0 x) }
@@ -102,7 +102,7 @@ impl<T: Tagged, const N: usize, S: Stored<T>> Ring<'_, T, N, S> {
         ensures left { I.items items.new ≡ I.left (I.items items.old) 0 }
     {
         let k = items.len();
-        items.fill(&self.fabric.table.shared, &self.shape, seat, range.start, 0);
+        items.fill(&self.fabric.table.shared, self.shape, seat, range.start, 0);
         skip(seat, range.count - k);
     }
 
@@ -116,17 +116,17 @@ impl<T: Tagged, const N: usize, S: Stored<T>> Ring<'_, T, N, S> {
         items: &mut I,
     ) -> Option<u64>
         requires seat { IsSeated self.now seat.old }
-        requires count { IsCount self.now.shape.plan.put (length (I.items items.old)) range.count }
+        requires count { IsCount self.now.shape.now.plan.put (length (I.items items.old)) range.count }
         requires span { seat.old.me.0.party.span ≡ Some (span_of self.now.index Put range.start range.count) }
         requires owned { Owns T.numbers seat.old.me.0.party (I.items items.old) }
-        requires single { self.now.shape.plan.free ≡ true → AreSingle T.numbers (I.items items.old) }
+        requires single { self.now.shape.now.plan.free ≡ true → AreSingle T.numbers (I.items items.old) }
         requires slots { seat.old.me.1 ≡ slots_of self.now range.start (replicate range.count None) }
         ensures seat { IsSameSeat seat.old seat.new }
         ensures done { IfNone result ((seat.new.me.0
             ≡ settled (span_of self.now.index Put range.start range.count) (I.items items.old) seat.old.me.0)
             × (seat.new.me.1 ≡ []) × IsHeldOnce T.numbers seat.new.me.0.pool seat.new.me.0.party
             × (I.items items.new ≡ I.left (I.items items.old) 0)) }
-        ensures early { IfSome result (λ x. (self.now.shape.plan.put ≡ Multi) × (x < range.start)
+        ensures early { IfSome result (λ x. (self.now.shape.now.plan.put ≡ Multi) × (x < range.start)
             × (seat.new.me.0 ≡ missed x seat.old.me.0) × (seat.new.me.1 ≡ seat.old.me.1)
             × (I.items items.new ≡ I.items items.old)) }
         ensures true_refusal { IfSome result
@@ -139,7 +139,7 @@ impl<T: Tagged, const N: usize, S: Stored<T>> Ring<'_, T, N, S> {
         };
         items.refill(
             &self.fabric.table.shared,
-            &self.shape,
+            self.shape,
             seat,
             range.start,
             range.count,
@@ -159,11 +159,11 @@ impl<T: Tagged, const N: usize, S: Stored<T>> Ring<'_, T, N, S> {
         requires span { share.old.seat.me.0.party.span ≡ Some (span_of self.now.index Put range.start range.count) }
         requires slots { share.old.seat.me.1 ≡ slots_of self.now range.start (replicate range.count None) }
         ensures seat { IsSameSeat share.old.seat share.new.seat }
-        ensures done { IfOk result (λ _. IsCount self.now.shape.plan.put (length (I.items items.old)) range.count
+        ensures done { IfOk result (λ _. IsCount self.now.shape.now.plan.put (length (I.items items.old)) range.count
             × (share.new.seat.me.0 ≡ settled (span_of self.now.index Put range.start range.count) (I.items items.old)
             share.old.seat.me.0) × (share.new.seat.me.1 ≡ []) × (I.items items.new ≡ I.left (I.items items.old) 0)) }
         ensures refused { IfErr result (λ e. (share.new.seat.me.1 ≡ share.old.seat.me.1)
-            × (I.items items.new ≡ I.items items.old) × IsUnsettled T.numbers self.now.shape.plan
+            × (I.items items.new ≡ I.items items.old) × IsUnsettled T.numbers self.now.shape.now.plan
             (span_of self.now.index Put range.start range.count) (length (I.items items.old)) (I.items items.old)
             share.old.seat.me.0 share.new.seat.me.0 e) }
         ensures owned { IfOk result
@@ -198,12 +198,12 @@ impl<T: Tagged, const N: usize, S: Stored<T>> Ring<'_, T, N, S> {
         requires span { share.old.seat.me.0.party.span ≡ Some (span_of self.now.index Put range.start range.count) }
         requires slots { share.old.seat.me.1 ≡ slots_of self.now range.start (replicate range.count None) }
         ensures seat { IsSameSeat share.old.seat share.new.seat }
-        ensures done { IfOk result (λ _. IsCount self.now.shape.plan.put k range.count
+        ensures done { IfOk result (λ _. IsCount self.now.shape.now.plan.put k range.count
             × (share.new.seat.me.0 ≡ settled (span_of self.now.index Put range.start range.count)
             (take k (I.items items.old)) share.old.seat.me.0) × (share.new.seat.me.1 ≡ [])
             × (I.items items.new ≡ I.after (I.items items.old) k)) }
         ensures refused { IfErr result (λ e. (share.new.seat.me.1 ≡ share.old.seat.me.1)
-            × (I.items items.new ≡ I.items items.old) × IsUnsettled T.numbers self.now.shape.plan
+            × (I.items items.new ≡ I.items items.old) × IsUnsettled T.numbers self.now.shape.now.plan
             (span_of self.now.index Put range.start range.count) k (take k (I.items items.old))
             share.old.seat.me.0 share.new.seat.me.0 e) }
         ensures owned { IfOk result
@@ -230,12 +230,12 @@ impl<T: Tagged, const N: usize, S: Stored<T>> Ring<'_, T, N, S> {
         requires span { share.old.seat.me.0.party.span ≡ Some (span_of self.now.index Put range.start range.count) }
         requires slots { share.old.seat.me.1 ≡ slots_of self.now range.start (replicate range.count None) }
         ensures seat { IsSameSeat share.old.seat share.new.seat }
-        ensures done { IfOk result (λ _. IsCount self.now.shape.plan.put k range.count
+        ensures done { IfOk result (λ _. IsCount self.now.shape.now.plan.put k range.count
             × (share.new.seat.me.0 ≡ settled (span_of self.now.index Put range.start range.count)
             (take k (I.items items.old)) share.old.seat.me.0) × (share.new.seat.me.1 ≡ [])
             × (I.items items.new ≡ I.after (I.items items.old) k)) }
         ensures refused { IfErr result (λ e. (share.new.seat.me.1 ≡ share.old.seat.me.1)
-            × (I.items items.new ≡ I.items items.old) × IsUnsettled T.numbers self.now.shape.plan
+            × (I.items items.new ≡ I.items items.old) × IsUnsettled T.numbers self.now.shape.now.plan
             (span_of self.now.index Put range.start range.count) k (take k (I.items items.old))
             share.old.seat.me.0 share.new.seat.me.0 e) }
         ensures owned { IfOk result
@@ -278,7 +278,7 @@ impl<T: Tagged, const N: usize, S: Stored<T>> Ring<'_, T, N, S> {
         skip(seat, k);
         items.fill(
             &self.fabric.table.shared,
-            &self.shape,
+            self.shape,
             seat,
             range.start + k as u64,
             k,
@@ -298,7 +298,7 @@ impl<T: Tagged, const N: usize, S: Stored<T>> Ring<'_, T, N, S> {
         requires seat { IsSeated self.now seat.old }
         requires shows { I.items items.old ≡ seat.old.me.0.shown }
         requires whole { length (I.items items.old) ≡ range.count }
-        requires count { IsCount self.now.shape.plan.take k range.count }
+        requires count { IsCount self.now.shape.now.plan.take k range.count }
         requires span { seat.old.me.0.party.span ≡ Some (span_of self.now.index Take range.start range.count) }
         requires slots { seat.old.me.1 ≡ slots_of self.now range.start (replicate range.count None) }
         ensures seat { IsSameSeat seat.old seat.new }
@@ -307,7 +307,7 @@ impl<T: Tagged, const N: usize, S: Stored<T>> Ring<'_, T, N, S> {
             × (seat.new.me.1 ≡ []) × IsHeldOnce T.numbers seat.new.me.0.pool seat.new.me.0.party
             × (I.items items.new ≡ I.left (I.items items.old) k)
             × (take k (I.items items.new) ≡ take k (I.items items.old))) }
-        ensures early { IfSome result (λ x. (self.now.shape.plan.take ≡ Multi) × (x < range.start)
+        ensures early { IfSome result (λ x. (self.now.shape.now.plan.take ≡ Multi) × (x < range.start)
             × (seat.new.me.0 ≡ missed x seat.old.me.0) × (seat.new.me.1 ≡ seat.old.me.1)
             × (I.items items.new ≡ I.items items.old)) }
         ensures true_refusal { IfSome result
@@ -337,12 +337,12 @@ impl<T: Tagged, const N: usize, S: Stored<T>> Ring<'_, T, N, S> {
         requires span { share.old.seat.me.0.party.span ≡ Some (span_of self.now.index Take range.start range.count) }
         requires slots { share.old.seat.me.1 ≡ slots_of self.now range.start (replicate range.count None) }
         ensures seat { IsSameSeat share.old.seat share.new.seat }
-        ensures done { IfOk result (λ _. IsCount self.now.shape.plan.take k range.count
+        ensures done { IfOk result (λ _. IsCount self.now.shape.now.plan.take k range.count
             × (share.new.seat.me.0 ≡ settled (span_of self.now.index Take range.start range.count)
             (take k (I.items items.old)) share.old.seat.me.0) × (share.new.seat.me.1 ≡ [])
             × (I.items items.new ≡ I.left (I.items items.old) k)) }
         ensures refused { IfErr result (λ e. (share.new.seat.me.1 ≡ share.old.seat.me.1)
-            × (I.items items.new ≡ I.items items.old) × IsUnsettled T.numbers self.now.shape.plan
+            × (I.items items.new ≡ I.items items.old) × IsUnsettled T.numbers self.now.shape.now.plan
             (span_of self.now.index Take range.start range.count) k [] share.old.seat.me.0
             share.new.seat.me.0 e) }
         ensures shown { IfErr result (λ e. share.new.seat.me.0.shown ≡ share.old.seat.me.0.shown) }

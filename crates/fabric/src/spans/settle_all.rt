@@ -32,7 +32,7 @@ impl<T: Tagged, const N: usize, S: Stored<T>> Ring<'_, T, N, S> {
             (span_of self.now.index Take range.start range.count) share.old.seat.me.0.shown share.old.seat.me.0)
             × (share.new.seat.me.1 ≡ [])) }
         ensures refused { IfErr result (λ e. (share.new.seat.me.1 ≡ share.old.seat.me.1) × IsUnsettled T.numbers
-            self.now.shape.plan (span_of self.now.index Take range.start range.count) range.count []
+            self.now.shape.now.plan (span_of self.now.index Take range.start range.count) range.count []
             share.old.seat.me.0 share.new.seat.me.0 e) }
         ensures shown { IfErr result (λ e. share.new.seat.me.0.shown ≡ share.old.seat.me.0.shown) }
     {

@@ -35,9 +35,9 @@ settle-requires g c =
     let o = c.in-Open.span in
     let made = subst (IsPutOf c.args.f.now c.args.ring) is c.requires.made in
     let at = plan_of o c.args.f.now c.args.ring made.0 made.1 in
-    let told = c.requires.exact o.ring.shape.plan at in
-    let first = open_first g.row.N tags c.args.how c.args.ring o.ring.shape.plan told.0 items o c.in-Open.field-1 items
-    (subst (λ a. PutHasTold tags c.args.how c.args.ring o.ring.shape.plan told.0 items a (left_of a items)) is told.1) made.1 in
+    let told = c.requires.exact o.ring.shape.now.plan at in
+    let first = open_first g.row.N tags c.args.how c.args.ring o.ring.shape.now.plan told.0 items o c.in-Open.field-1 items
+    (subst (λ a. PutHasTold tags c.args.how c.args.ring o.ring.shape.now.plan told.0 items a (left_of a items)) is told.1) made.1 in
     (search rules, (search rules, (first.0, first.1)))
 
 pub returns-in-Refused-clause-exact : goal.returns-in-Refused-clause-exact

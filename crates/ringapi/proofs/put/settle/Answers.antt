@@ -13,7 +13,7 @@ unreachable-requires g c =
     let o = c.args.span in
     let items = (g.I.Items.items c.args.list.now) in
     let k = c.count.result in
-    let plan = o.ring.shape.plan in
+    let plan = o.ring.shape.now.plan in
     let first = take k items in
     let long = length-take-le (put_span o).count items c.requires.fits in
     only_early g.T.Tagged.numbers plan.put plan (length first) (put_span o).count (put_span o).start first (put_view o) (put_view c.in-Err.span) c.in-Err.fault

@@ -15,7 +15,7 @@ returns-then-not-disown-clause-refused g c =
       refl,
       (
         omega (arith, c.if-k-range.false, c.len-k.ensures.value),
-        not_yours g.T.Tagged.numbers c.args.self.now.shape.plan h.seat.me.0 h.owned (g.I.Items.items c.args.items.now) h.row
+        not_yours g.T.Tagged.numbers c.args.self.now.shape.now.plan h.seat.me.0 h.owned (g.I.Items.items c.args.items.now) h.row
             (c.disown.ensures.other c.if-not-disown.true),
         refl,
       ),

@@ -18,14 +18,14 @@ commit-requires g c =
     let n = c.args.range.count in
     let k = c.args.k in
     let shown = c.args.seat.now.me.0.shown in
-    let slot = slot_at f.plan.rings.items r.index r.shape.plan in
+    let slot = slot_at f.plan.rings.items r.index r.shape.now.plan in
     let many = sym (ap length q.shows) ∙ q.whole in
-    let fits = count_fits r.shape.plan.take k n q.count in
+    let fits = count_fits r.shape.now.plan.take k n q.count in
     let has =
     c.keep.ensures.slots ∙ (ap (λ l. run slot c.args.range.start (replicate k None ++ map Some (drop k l))) q.shows
     ∙ ap (λ l. run slot c.args.range.start (replicate k None ++ l)) (sym (drop_some k shown))) in
     let ready =
-    ready_take g.T.Tagged.numbers f.plan.rings.items r.shape.plan r.index c.args.range.start n c.args.seat.now.me c.keep.new.seat.me
+    ready_take g.T.Tagged.numbers f.plan.rings.items r.shape.now.plan r.index c.args.range.start n c.args.seat.now.me c.keep.new.seat.me
     c.keep.ensures.seat.1 k q.span many fits has in (
       search rules,
       (
@@ -42,14 +42,14 @@ returns-in-None-clause-done g c =
     let n = c.args.range.count in
     let k = c.args.k in
     let shown = c.args.seat.now.me.0.shown in
-    let slot = slot_at f.plan.rings.items r.index r.shape.plan in
+    let slot = slot_at f.plan.rings.items r.index r.shape.now.plan in
     let many = sym (ap length q.shows) ∙ q.whole in
-    let fits = count_fits r.shape.plan.take k n q.count in
+    let fits = count_fits r.shape.now.plan.take k n q.count in
     let has =
     c.keep.ensures.slots ∙ (ap (λ l. run slot c.args.range.start (replicate k None ++ map Some (drop k l))) q.shows
     ∙ ap (λ l. run slot c.args.range.start (replicate k None ++ l)) (sym (drop_some k shown))) in
     let ready =
-    ready_take g.T.Tagged.numbers f.plan.rings.items r.shape.plan r.index c.args.range.start n c.args.seat.now.me c.keep.new.seat.me
+    ready_take g.T.Tagged.numbers f.plan.rings.items r.shape.now.plan r.index c.args.range.start n c.args.seat.now.me c.keep.new.seat.me
     c.keep.ensures.seat.1 k q.span many fits has in
     let t = c.in-None.ensures.done (take k shown) (taken_long k shown (omega (arith, fits, many))) ready in (
       t.0 ∙ ap (settled (span_of r.index Take c.args.range.start n) (take k shown)) c.keep.ensures.seat.1,
@@ -66,9 +66,9 @@ returns-in-Some-clause-early g c =
     let n = c.args.range.count in
     let k = c.args.k in
     let items = g.I.Items.items c.args.items.now in
-    let slot = slot_at r.fabric.now.plan.rings.items r.index r.shape.plan in
+    let slot = slot_at r.fabric.now.plan.rings.items r.index r.shape.now.plan in
     let early = c.in-Some.ensures.early in
-    let all = count_whole r.shape.plan.take k n early.0 q.count in
+    let all = count_whole r.shape.now.plan.take k n early.0 q.count in
     let none = all_dropped items k (omega (arith, all, q.whole)) in
     let row =
     ap (λ l. replicate k None ++ map Some l) none ∙ (append-nil (replicate k None) ∙ ap (λ m. replicate m None) all) in (

@@ -16,7 +16,7 @@ advance-requires g c =
     let n = c.args.range.count in
     let w = c.withdraw.ensures in
     let ready =
-    ready_take g.T.Tagged.numbers r.fabric.now.plan.rings.items r.shape.plan r.index c.args.range.start n me c.withdraw.new.seat.me w.seat.1 k q.held.span
+    ready_take g.T.Tagged.numbers r.fabric.now.plan.rings.items r.shape.now.plan r.index c.args.range.start n me c.withdraw.new.seat.me w.seat.1 k q.held.span
     q.held.whole (omega (arith, q.short)) w.slots in (
       search rules,
       (
@@ -35,7 +35,7 @@ returns-clause-done g c =
     let start = c.args.range.start in
     let w = c.withdraw.ensures in
     let ready =
-    ready_take g.T.Tagged.numbers r.fabric.now.plan.rings.items r.shape.plan r.index start n me c.withdraw.new.seat.me w.seat.1 k q.held.span
+    ready_take g.T.Tagged.numbers r.fabric.now.plan.rings.items r.shape.now.plan r.index start n me c.withdraw.new.seat.me w.seat.1 k q.held.span
     q.held.whole (omega (arith, q.short)) w.slots in
     let t = c.advance.ensures.done (take k me.0.shown) (taken_long k me.0.shown (omega (arith, q.short, q.held.whole))) ready in (
       t.0 ∙ ap (advanced (span_of r.index Take start n) (take k me.0.shown)) w.seat.1,

@@ -22,17 +22,17 @@ module _ {T : Type 0} {N : ℕ} {S : Type 0} (tags : T → List ℕ) (r : Ring T
   -- the items of the span are taken, and its slots are empty
   ready : length me.0.shown ≡ range.count → me.0.party.span ≡ Some (span_of r.index Take range.start range.count)
       → me.1 ≡ slots_of r range.start (replicate range.count None)
-      → IsReady tags (rings_of r.fabric.now) r.shape.plan (span_of r.index Take range.start range.count) me.0.shown me
+      → IsReady tags (rings_of r.fabric.now) r.shape.now.plan (span_of r.index Take range.start range.count) me.0.shown me
   ready whole span slots =
       let plans = r.fabric.now.plan.rings.items in
       let n = range.count in
       let shown = me.0.shown in
       let none = drop_some n shown ∙ ap (map Some) (all_dropped shown n (omega (arith, whole))) in
       let row = sym (append-nil (replicate n None)) ∙ ap (λ l. replicate n None ++ l) (sym none) in
-      let has = slots ∙ ap (run (slot_at plans r.index r.shape.plan) range.start) row in
-      let taken = ready_take tags plans r.shape.plan r.index range.start n me me refl n span whole (omega arith) has in
+      let has = slots ∙ ap (run (slot_at plans r.index r.shape.now.plan) range.start) row in
+      let taken = ready_take tags plans r.shape.now.plan r.index range.start n me me refl n span whole (omega arith) has in
       let all = all_taken shown n (omega (arith, whole)) in
-      subst (λ l. IsReady tags plans r.shape.plan (span_of r.index Take range.start n) l me) all taken
+      subst (λ l. IsReady tags plans r.shape.now.plan (span_of r.index Take range.start n) l me) all taken
 
 pub commit-requires : goal.commit-requires
 commit-requires g c =
@@ -43,7 +43,7 @@ commit-requires g c =
       (
         q.seat,
         (
-          count_all r.shape.plan.take c.args.range.count,
+          count_all r.shape.now.plan.take c.args.range.count,
           (me.0.shown, q.whole, ready g.T.Tagged.numbers r c.args.range me q.whole q.span q.slots),
         ),
       ),
@@ -83,7 +83,7 @@ returns-in-Some-clause-refused g c =
     let range = c.args.range in
     let early = c.in-Some.ensures.early in (
       early.3,
-      unsettled g.T.Tagged.numbers r.shape.plan (span_of r.index Take range.start range.count) range.count [] c.args.share.now.seat.me.0
+      unsettled g.T.Tagged.numbers r.shape.now.plan (span_of r.index Take range.start range.count) range.count [] c.args.share.now.seat.me.0
           c.commit.new.seat.me.0 (NotYet c.in-Some.tail)
           (early.0, refl, early.1, early.2, record { owned = λ b. omega arith; single = λ free. refl }) c.in-Some.ensures.true_refusal,
     )

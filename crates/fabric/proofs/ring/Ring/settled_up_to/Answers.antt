@@ -9,7 +9,7 @@ pub load-found-requires : goal.load-found-requires
 load-found-requires g c =
     let f = c.args.self.now.fabric.now in
     let q = c.requires in
-    let p = c.args.self.now.shape.plan in
+    let p = c.args.self.now.shape.now.plan in
     let ring = c.args.self.now.index in
     let side = c.args.side in
     let word : c.settled_word.result ≡ settled_word_at (mode_of p side) ring side =
@@ -21,7 +21,7 @@ load-found-requires g c =
 
 pub returns-clause-was : goal.returns-clause-was
 returns-clause-was g c =
-    let p = c.args.self.now.shape.plan in
+    let p = c.args.self.now.shape.now.plan in
     let ring = c.args.self.now.index in
     let side = c.args.side in
     let word : c.settled_word.result ≡ settled_word_at (mode_of p side) ring side =

@@ -11,10 +11,10 @@ drain-requires-clause-held g c =
     let me = c.args.seat.now.me in
     let range = c.args.range in
     let k = c.args.k in
-    let has = q.held.slots ∙ same_run r.fabric.now.plan.rings.items r.index r.shape range.start (map Some me.0.shown) r.in_plan.1 in (
+    let has = q.held.slots ∙ same_run r.fabric.now.plan.rings.items r.index r.shape.now range.start (map Some me.0.shown) r.in_plan.1 in (
       take k me.0.shown,
-      words_many (shape_slot r.shape) range.start range.count k me.0.shown q.fits q.held.whole me.1 has,
-      words_start (shape_slot r.shape) range.start range.count k me.0.shown q.fits q.held.whole me.1 has,
+      words_many (shape_slot r.shape.now) range.start range.count k me.0.shown q.fits q.held.whole me.1 has,
+      words_start (shape_slot r.shape.now) range.start range.count k me.0.shown q.fits q.held.whole me.1 has,
     )
 
 pub skip-requires : goal.skip-requires
@@ -23,8 +23,8 @@ skip-requires g c =
     let r = c.args.self.now in
     let me = c.args.seat.now.me in
     let range = c.args.range in
-    let has = q.held.slots ∙ same_run r.fabric.now.plan.rings.items r.index r.shape range.start (map Some me.0.shown) r.in_plan.1 in
-    turn_long (shape_slot r.shape) range.start range.count c.args.k me.0.shown q.fits q.held.whole me.1 has c.drain.new.seat.me.1 c.drain.ensures.emptied
+    let has = q.held.slots ∙ same_run r.fabric.now.plan.rings.items r.index r.shape.now range.start (map Some me.0.shown) r.in_plan.1 in
+    turn_long (shape_slot r.shape.now) range.start range.count c.args.k me.0.shown q.fits q.held.whole me.1 has c.drain.new.seat.me.1 c.drain.ensures.emptied
 
 pub returns-clause-slots : goal.returns-clause-slots
 returns-clause-slots g c =
@@ -33,10 +33,10 @@ returns-clause-slots g c =
     let me = c.args.seat.now.me in
     let range = c.args.range in
     let k = c.args.k in
-    let has = q.held.slots ∙ same_run r.fabric.now.plan.rings.items r.index r.shape range.start (map Some me.0.shown) r.in_plan.1 in
+    let has = q.held.slots ∙ same_run r.fabric.now.plan.rings.items r.index r.shape.now range.start (map Some me.0.shown) r.in_plan.1 in
     ap (λ m. m.1) c.skip.ensures.2
-    ∙ (turn_ends (shape_slot r.shape) range.start range.count k me.0.shown q.fits q.held.whole me.1 has c.drain.new.seat.me.1 c.drain.ensures.emptied
-    ∙ sym (same_run r.fabric.now.plan.rings.items r.index r.shape range.start (replicate k None ++ drop k (map Some me.0.shown)) r.in_plan.1))
+    ∙ (turn_ends (shape_slot r.shape.now) range.start range.count k me.0.shown q.fits q.held.whole me.1 has c.drain.new.seat.me.1 c.drain.ensures.emptied
+    ∙ sym (same_run r.fabric.now.plan.rings.items r.index r.shape.now range.start (replicate k None ++ drop k (map Some me.0.shown)) r.in_plan.1))
 
 pub returns-clause-items : goal.returns-clause-items
 returns-clause-items g c =
@@ -44,6 +44,6 @@ returns-clause-items g c =
     let r = c.args.self.now in
     let me = c.args.seat.now.me in
     let range = c.args.range in
-    let has = q.held.slots ∙ same_run r.fabric.now.plan.rings.items r.index r.shape range.start (map Some me.0.shown) r.in_plan.1 in
-    words_are (shape_slot r.shape) range.start range.count c.args.k me.0.shown q.fits q.held.whole me.1 has (g.I.Items.items c.drain.new.self)
+    let has = q.held.slots ∙ same_run r.fabric.now.plan.rings.items r.index r.shape.now range.start (map Some me.0.shown) r.in_plan.1 in
+    words_are (shape_slot r.shape.now) range.start range.count c.args.k me.0.shown q.fits q.held.whole me.1 has (g.I.Items.items c.drain.new.self)
     c.drain.ensures.long c.drain.ensures.items
