@@ -220,26 +220,18 @@ int64_t hk_ring_try_take_burst(hk_hand *hand, size_t ring, uint64_t *words, size
 }
 
 /* The same of one word, which is passed by value: nothing is tested but null, so that a first try takes no array. */
-static RARELY int64_t put_one_again(hk_hand *hand, size_t ring, uint64_t word, int64_t code) {
-    struct put_call call = {{hand}, ring, &word, 1};
-    return put_again(&call, true, code);
-}
-
-static RARELY int64_t take_one_again(hk_hand *hand, size_t ring, uint64_t *word, int64_t code) {
-    struct take_call call = {{hand}, ring, word, 1};
-    return take_again(&call, true, code);
-}
-
 int64_t hk_ring_try_put_one(hk_hand *hand, size_t ring, uint64_t word) {
     give_word(word);
-    int64_t code = hkx_ring_put_one(CELL(hand), ring, word);
-    return code >= 0 ? code : put_one_again(hand, ring, word, code);
+    struct put_call call = {{hand}, ring, &word, 1};
+    int64_t code = hkx_ring_put_one(&call.cell, ring, word);
+    return code >= 0 ? code : put_again(&call, true, code);
 }
 
 int64_t hk_ring_try_take_one(hk_hand *hand, size_t ring, uint64_t *word) {
     if (!word) return HK_E_NULL;
-    int64_t code = hkx_ring_take_one(CELL(hand), ring, word);
-    return got_words(word, 1, code >= 0 ? code : take_one_again(hand, ring, word, code));
+    struct take_call call = {{hand}, ring, word, 1};
+    int64_t code = hkx_ring_take_one(&call.cell, ring, word);
+    return got_words(word, 1, code >= 0 ? code : take_again(&call, true, code));
 }
 
 static inline int64_t peek_put(hk_hand *hand, size_t ring, size_t n, bool bulk) {
