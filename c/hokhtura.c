@@ -183,12 +183,13 @@ static RARELY int64_t take_again(struct take_call *call, bool bulk, int64_t code
     return settle_take(&call->cell, call->n, code);
 }
 
+/* One word goes by value, whether by bulk or by burst: it is moved, or there was no room. */
 static inline int64_t put(hk_hand *hand, size_t ring, const uint64_t *words, size_t n, bool bulk) {
     int64_t code = refused_above(HK_MOST_ON_MULTI, words, n);
     if (code < 0) return code;
     if (!words) words = no_words;
     struct put_call call = {{hand}, ring, words, n};
-    code = hkx_ring_put(&call.cell, ring, words, n, bulk);
+    code = n == 1 ? hkx_ring_put_one(&call.cell, ring, *words) : hkx_ring_put(&call.cell, ring, words, n, bulk);
     return code >= 0 ? code : put_again(&call, bulk, code);
 }
 
@@ -207,7 +208,7 @@ static inline int64_t take(hk_hand *hand, size_t ring, uint64_t *words, size_t n
     if (code < 0) return code;
     if (!words) words = no_words;
     struct take_call call = {{hand}, ring, words, n};
-    code = hkx_ring_take(&call.cell, ring, words, n, bulk);
+    code = n == 1 ? hkx_ring_take_one(&call.cell, ring, words) : hkx_ring_take(&call.cell, ring, words, n, bulk);
     return code >= 0 ? code : take_again(&call, bulk, code);
 }
 
