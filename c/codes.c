@@ -9,18 +9,18 @@
     X(HK_E_OPEN, "the hand has an open span")                                 \
     X(HK_E_NOTOPEN, "the hand has no open span of that side")                 \
     X(HK_E_RING, "no ring of this number")                                    \
-    X(HK_E_COUNT, "a count of 0, above the limit, or not that of the span")   \
+    X(HK_E_COUNT, "a count of 0, above the limit, or not that of the span; no such port") \
     X(HK_E_MODE, "the side is not head/tail-sync")                            \
     X(HK_E_NULL, "a null pointer")                                            \
     X(HK_E_KIND, "a handle of another kind, or closed")                       \
     X(HK_E_SHARED, "other handles share it")                                  \
     X(HK_E_MEMORY, "out of memory")                                           \
-    X(HK_E_PLAN, "invalid size or mode: no such rings, pool, table, port or window") \
+    X(HK_E_PLAN, "invalid size, mode or depth: no such rings, pool, table, port or window") \
     X(HK_E_WORN, "the positions of the ring are used up")                     \
     X(HK_E_PARTS, "too many handles")                                         \
     X(HK_E_NOTYOURS, "a number that the handle doesn't have, or given twice") \
     X(HK_E_DEPTH, "a depth that is not 1 to 32")                              \
-    X(HK_E_HOP, "a next hop of 2^24 or more")                                 \
+    X(HK_E_HOP, "no such next hop, or one of 2^24 or more")                   \
     X(HK_E_GROUPS, "more groups than the table may have")                     \
     X(HK_E_NOROUTE, "no such route")                                          \
     X(HK_E_LATE, "the number's turn has passed")                              \

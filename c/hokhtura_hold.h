@@ -1,10 +1,11 @@
-/* Ends that put and take word by word on a side that a hand holds, in some three fifths of the time of single calls:
+/* Ends that put and take word by word on a side that a hand holds, in less time than single calls take:
  * for a side that one thread uses most of the time. An end reserves positions by one exchange, and each word then takes
  * one store. When its positions run out, it reserves again. Other threads' calls on that side return HK_E_AGAIN until
  * it is released; a thread that stops while it holds a side stops that side.
  *
- * An end belongs to the thread that has its hand. While it holds the side, other calls of this hand on rings return
- * HK_E_OPEN, but for hk_ring_count and hk_ring_room. All of it is inline: the library has none of these names. */
+ * An end belongs to the thread that has its hand. While it holds the side, other puts, takes, peeks and holds of this
+ * hand return HK_E_OPEN. The span is the end's: don't call finish, advance or release on this hand. All of it is inline:
+ * the library has none of these names. */
 #ifndef HOKHTURA_HOLD_H
 #define HOKHTURA_HOLD_H 1
 
@@ -42,7 +43,7 @@ static inline int64_t hk_end_put(hk_end *end, uint64_t word) {
     return HK_OK;
 }
 
-/* Gives the side of an end that puts up, if it is held. */
+/* Gives up the side of an end that puts, if it is held. */
 static inline int64_t hk_end_release_put(hk_end *end) {
     int64_t code = end->left > 0 ? hk_ring_finish_put(end->hand, NULL, 0) : 0;
     if (code < 0) return code;
@@ -64,7 +65,7 @@ static inline int64_t hk_end_take(hk_end *end, uint64_t *word) {
     return HK_OK;
 }
 
-/* Gives the side of an end that takes up, if it is held. The words that it didn't take stay on the ring. */
+/* Gives up the side of an end that takes, if it is held. The words that it didn't take stay on the ring. */
 static inline int64_t hk_end_release_take(hk_end *end) {
     int64_t code = end->left > 0 ? hk_ring_release_take(end->hand, NULL, 0) : 0;
     if (code < 0) return code;

@@ -5,7 +5,7 @@
  *     router SETTINGS [WORKERS]
  *
  * HUP: reads the settings again. USR1: prints the counts. INT, TERM: forwards what was received, prints them, ends.
- * USR2 is for tests: worker 0 stops between two bursts, and goes on at the next one. */
+ * USR2 is for tests: worker 0 stops between two bursts; the next USR2 lets it go on. */
 #define _GNU_SOURCE 1
 #include "ports.h"
 #include "settings.h"

@@ -57,7 +57,7 @@ errors! {
     /// There is no ring of this number.
     Ring = 6, "no ring of this number";
     /// A count of 0, above the limit, or one that isn't that of the unfinished call.
-    Count = 7, "a count of 0, above the limit, or not that of the unfinished call";
+    Count = 7, "a count of 0, above the limit, or not that of the unfinished call; no such port";
     /// The side is not head/tail-sync.
     Mode = 8, "the side is not head/tail-sync";
     /// A null pointer.
@@ -69,7 +69,7 @@ errors! {
     /// Out of memory.
     Memory = 13, "out of memory";
     /// An argument is out of range: there is no such ring, pool, table, port or window.
-    Plan = 14, "invalid size or mode: no such ring, pool, table, port or window";
+    Plan = 14, "invalid size, mode or depth: no such ring, pool, table, port or window";
     /// The ring has carried as many words as it can count: 2^63 - 1, 2^52 - 1 with a head/tail-sync side, 2^51 - 1 in a
     /// pool. What is queued can still be taken.
     Worn = 15, "the positions of the ring are used up";
@@ -79,8 +79,8 @@ errors! {
     NotYours = 17, "a number that the handle doesn't have, or given twice";
     /// A depth that is not 1 to 32.
     Depth = 20, "a depth that is not 1 to 32";
-    /// A next hop of 2^24 or more.
-    Hop = 21, "a next hop of 2^24 or more";
+    /// There is no such next hop, or it is 2^24 or more.
+    Hop = 21, "no such next hop, or one of 2^24 or more";
     /// The routes would need more groups than the table may have.
     Groups = 22, "more groups than the table may have";
     /// No such route.

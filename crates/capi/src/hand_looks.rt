@@ -23,7 +23,7 @@ fn kind(span: OpenSpan) -> u32
     }
 }
 
-/// 0 if the hand has no open span, 1 if it has one of a put, 2 of a take.
+/// 0 if the hand has no open span, 1 if it has one of a put, 2 of a take, 3 while it holds a take side.
 #[unsafe(no_mangle)]
 pub extern "C" fn hkx_hand_span(alloc: Global, h: &mut Handle) -> i64
     ensures { Answers result (AtHand h.old.value h.new.value TellsSpan) }
