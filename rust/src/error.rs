@@ -56,7 +56,7 @@ errors! {
     NotOpen = 5, "no call of that side is unfinished";
     /// There is no ring of this number.
     Ring = 6, "no ring of this number";
-    /// A count of 0, above the limit, or one that isn't that of the unfinished call.
+    /// A count of 0, above the limit, or one that isn't that of the unfinished call; or there is no such port.
     Count = 7, "a count of 0, above the limit, or not that of the unfinished call; no such port";
     /// The side is not head/tail-sync.
     Mode = 8, "the side is not head/tail-sync";
@@ -68,7 +68,7 @@ errors! {
     Shared = 12, "other handles share it";
     /// Out of memory.
     Memory = 13, "out of memory";
-    /// An argument is out of range: there is no such ring, pool, table, port or window.
+    /// An argument is out of range: a size, a mode or a depth.
     Plan = 14, "invalid size, mode or depth: no such ring, pool, table, port or window";
     /// The ring has carried as many words as it can count: 2^63 - 1, 2^52 - 1 with a head/tail-sync side, 2^51 - 1 in a
     /// pool. What is queued can still be taken.

@@ -8,5 +8,5 @@ fn errors_have_their_numbers_and_texts() {
     assert_eq!(Error::Double.code(), -26);
     assert_eq!(Error::Again.to_string(), "other threads came first, or hold the side: call again");
     let error: Box<dyn std::error::Error> = Box::new(Error::Plan);
-    assert_eq!(error.to_string(), "invalid size or mode: no such ring, pool, table, port or window");
+    assert_eq!(error.to_string(), "invalid size, mode or depth: no such ring, pool, table, port or window");
 }
