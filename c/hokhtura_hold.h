@@ -4,8 +4,8 @@
  * it is released; a thread that stops while it holds a side stops that side.
  *
  * An end belongs to the thread that has its hand. While it holds the side, other puts, takes, peeks and holds of this
- * hand return HK_E_OPEN. The span is the end's: don't call finish, advance or release on this hand. All of it is inline:
- * the library has none of these names. */
+ * hand return HK_E_OPEN. The span is the end's: don't call finish, advance or release on this hand. All of it is
+ * inline: the library has none of these names. */
 #ifndef HOKHTURA_HOLD_H
 #define HOKHTURA_HOLD_H 1
 
