@@ -29,8 +29,8 @@ static inline hk_end hk_end_of(hk_hand *hand, size_t ring, size_t most) {
     return end;
 }
 
-/* Puts a word. HK_OK; or why not, as a peek returns it: then nothing is changed, and the side isn't held. */
-static inline int64_t hk_end_put(hk_end *end, uint64_t word) {
+/* For hk_end_put: the first word of a span, which it reserves, or the last one. */
+static inline int64_t hk_end_put_at_an_edge(hk_end *end, uint64_t word) {
     int64_t code;
     if (end->left == 0) {
         code = hk_ring_peek_put_burst(end->hand, end->ring, end->most);
@@ -38,6 +38,16 @@ static inline int64_t hk_end_put(hk_end *end, uint64_t word) {
         end->left = code;
     }
     code = end->left > 1 ? hk_ring_advance_put_one(end->hand, word) : hk_ring_finish_put(end->hand, &word, 1);
+    if (code < 0) return code;
+    end->left--;
+    return HK_OK;
+}
+
+/* Puts a word. HK_OK; or why not, as a peek returns it: then nothing is changed, and the side isn't held. */
+static inline int64_t hk_end_put(hk_end *end, uint64_t word) {
+    int64_t code;
+    if (end->left <= 1) return hk_end_put_at_an_edge(end, word);
+    code = hk_ring_advance_put_one(end->hand, word);
     if (code < 0) return code;
     end->left--;
     return HK_OK;
@@ -51,8 +61,8 @@ static inline int64_t hk_end_release_put(hk_end *end) {
     return HK_OK;
 }
 
-/* Takes the next word. HK_OK; HK_E_NOROOM: the ring is empty; or why not otherwise. Then the place is unchanged. */
-static inline int64_t hk_end_take(hk_end *end, uint64_t *word) {
+/* For hk_end_take: the first word of a span, which it reserves, or the last one. */
+static inline int64_t hk_end_take_at_an_edge(hk_end *end, uint64_t *word) {
     int64_t code;
     if (end->left == 0) {
         code = hk_ring_hold_take_burst(end->hand, end->ring, end->most);
@@ -60,6 +70,16 @@ static inline int64_t hk_end_take(hk_end *end, uint64_t *word) {
         end->left = code;
     }
     code = end->left > 1 ? hk_ring_advance_take_one(end->hand, word) : hk_ring_release_take(end->hand, word, 1);
+    if (code < 0) return code;
+    end->left--;
+    return HK_OK;
+}
+
+/* Takes the next word. HK_OK; HK_E_NOROOM: the ring is empty; or why not otherwise. Then the place is unchanged. */
+static inline int64_t hk_end_take(hk_end *end, uint64_t *word) {
+    int64_t code;
+    if (end->left <= 1) return hk_end_take_at_an_edge(end, word);
+    code = hk_ring_advance_take_one(end->hand, word);
     if (code < 0) return code;
     end->left--;
     return HK_OK;

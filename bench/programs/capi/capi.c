@@ -56,15 +56,18 @@ static __attribute__((noinline)) void one_turns(hk_hand *hand, uint64_t *words, 
 		if (hk_ring_try_put_one(hand, 0, words[0]) != 1 || hk_ring_try_take_one(hand, 0, words) != 1) exit(1);
 }
 
-/* The same word by word, by ends that hold both sides: a burst of puts, and as many takes. */
-static __attribute__((noinline)) void held_turns(hk_end *put, hk_end *take, uint64_t *words, unsigned long count)
+/* The same word by word, by ends that hold both sides: a burst of puts, and as many takes. They are in variables of the
+ * loop, as in a program. */
+static __attribute__((noinline)) void held_turns(hk_end *puts, hk_end *takes, uint64_t *words, unsigned long count)
 {
+	hk_end put = *puts, take = *takes;
 	for (unsigned long i = 0; i < count; i += HELD) {
 		for (unsigned j = 0; j < HELD; j++)
-			if (hk_end_put(put, words[j]) != HK_OK) exit(1);
+			if (hk_end_put(&put, words[j]) != HK_OK) exit(1);
 		for (unsigned j = 0; j < HELD; j++)
-			if (hk_end_take(take, &words[j]) != HK_OK) exit(1);
+			if (hk_end_take(&take, &words[j]) != HK_OK) exit(1);
 	}
+	*puts = put, *takes = take;
 }
 
 static void held(uint64_t *words, int counted, unsigned long count)
