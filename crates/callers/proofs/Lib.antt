@@ -1,3 +1,4 @@
+mod Flushed
 pub mod Joined
 mod SentItems
 pub mod Sole

@@ -1,5 +1,6 @@
 //! Callers of caches in front of a free ring: of items that move, and of words that are copied.
-ghost use Rattle.pool.specs.Locals.{IsLocalOf};
+ghost use Rattle.std.specs.Prelude.{◌≡◌, [], IfSome, true};
+ghost use Rattle.pool.specs.Locals.{IsLocalOf, cache_of};
 
 use arrayvec::ArrayVec;
 use burst::{Burst, Slot, Tagged, Word};
@@ -40,7 +41,8 @@ pub fn get_and_put<R: Wait>(
     local: &mut Local<Number, MAX_ITEMS>,
 ) -> bool
     requires local { IsLocalOf f.now local.old }
-    ensures { IsLocalOf f.now local.new }
+    ensures local { IsLocalOf f.now local.new }
+    ensures flushed { result ≡ true → cache_of local.new ≡ [] }
 {
     let mut list = Burst::new();
     if local.get_into(rt, f, 3, &mut list).is_err() || list.len() > 64 {
@@ -57,7 +59,8 @@ pub fn get_and_put_words<R: Wait>(
     local: &mut LocalWords<Number, MAX_ITEMS, Slot<Number>>,
 ) -> Option<[Number; 3]>
     requires local { IsLocalOf f.now local.old }
-    ensures { IsLocalOf f.now local.new }
+    ensures local { IsLocalOf f.now local.new }
+    ensures flushed { IfSome result (λ _. cache_of local.new ≡ []) }
 {
     let mut got = [Number { value: 0 }; 3];
     if local.get_into_slice(rt, f, &mut got[..]).is_err() {
