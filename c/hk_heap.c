@@ -3,32 +3,22 @@
  *
  * A block begins on a cache line and shares none with another block, so a thread that writes to its own blocks takes no
  * line from a thread that uses others. */
+#include "hk_heap.h"
 #include "hokhtura.h"
 
 #include <stdatomic.h>
 #include <stdlib.h>
 #include <string.h>
 
-#define HK_INNER __attribute__((visibility("hidden")))
-
 /* A cache line in bytes (DPDK's RTE_CACHE_LINE_SIZE). Each block is aligned to it. Alignments that are asked for are 16
  * or less; a request for more than a line is refused. */
 #define LINE ((size_t)64)
-
-struct hk_memory {
-    size_t is;
-    void *at;
-};
 
 static char nowhere;
 
 static inline struct hk_memory found(void *at) {
     return (struct hk_memory){at != NULL, at ? at : &nowhere};
 }
-
-HK_INNER struct hk_memory rattle_alloc(size_t size, size_t align);
-HK_INNER struct hk_memory rattle_realloc(void *was, size_t kept, size_t size, size_t align);
-HK_INNER void rattle_dealloc(void *at);
 
 static void *allocate_usual(size_t size) {
     return aligned_alloc(LINE, size);

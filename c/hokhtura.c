@@ -1,9 +1,11 @@
 /* The calls of hokhtura.h over the proved exports hkx_*. Arrays and counts are checked here, and a step that failed
  * because of another thread is tried again; everything else is done there.
  *
- * A handle is the address of a box of the proved side. An export takes a cell that holds this address: it empties the
- * cell, works, and puts the same address back. So a cell lives for one call. */
+ * A handle is the address of a cell, and the cell holds the address of a box of the proved side. An export empties the
+ * cell, works, and puts the same address back. The cell stays where it is as long as the handle is used, so that a call
+ * needs no room for one, and most calls end with a jump to their export. */
 #include "hokhtura.h"
+#include "hk_heap.h"
 #include "hk_marks.h"
 
 #include <stdbool.h>
@@ -12,9 +14,12 @@ struct hk_cell {
     void *at;
 };
 
-/* A cell for one call, and for one that takes a const handle: what its caller sees of the handle stays the same. */
-#define CELL(handle) (&(struct hk_cell){handle})
-#define LOOK(handle) (&(struct hk_cell){(void *)(handle)})
+/* The cell of a handle that isn't null. After a call with a const handle the cell is what it was. */
+#define CELL(handle) ((struct hk_cell *)(handle))
+
+/* What an export returns that takes this handle first, or that the handle is null. */
+#define CALL(export, handle) ((handle) ? export(CELL(handle)) : HK_E_NULL)
+#define CALL_WITH(export, handle, ...) ((handle) ? export(CELL(handle), __VA_ARGS__) : HK_E_NULL)
 
 /* The exports, with the names that their parameters have there. A slice there is an array and its length here. */
 extern int64_t hkx_free(struct hk_cell *h);
@@ -100,30 +105,56 @@ static inline int64_t refused(const void *words, size_t n) {
     return refused_above(HK_MOST, words, n);
 }
 
+/* ---- Handles ---- */
+
+/* An empty cell, or null: out of memory. */
+static struct hk_cell *new_cell(void) {
+    struct hk_memory memory = rattle_alloc(sizeof(struct hk_cell), _Alignof(struct hk_cell));
+    if (!memory.is) return NULL;
+    struct hk_cell *cell = memory.at;
+    cell->at = NULL;
+    return cell;
+}
+
+/* Makes a handle: `call` fills the cell and returns a code. Then `*out` is the new handle, or the cell is freed. */
+#define MAKE(out, cell, call)                 \
+    struct hk_cell *cell = new_cell();        \
+    if (!cell) return HK_E_MEMORY;            \
+    int64_t code = (call);                    \
+    if (code >= 0) *(out) = (void *)cell;     \
+    else rattle_dealloc(cell);                \
+    return code;
+
+/* Frees a handle, which may be null or of any kind. */
+static void free_handle(void *handle) {
+    if (!handle) return;
+    (void)hkx_free(CELL(handle));
+    rattle_dealloc(handle);
+}
+
 /* ---- Rings ---- */
 
 int64_t hk_hand_open(hk_hand **out, const hk_ring_plan *plans, size_t count) {
     if (!out || !plans) return HK_E_NULL;
     if (count > HK_MOST_RINGS) return HK_E_PLAN;
-    struct hk_cell cell = {NULL};
-    int64_t code = hkx_hand_open(&cell, plans, count);
-    if (code >= 0) *out = cell.at;
+    MAKE(out, cell, hkx_hand_open(cell, plans, count))
+}
+
+static int64_t split(hk_hand *hand, struct hk_cell *cell) {
+    begins_split();
+    int64_t code = hkx_hand_split(CELL(hand), cell);
+    ends_split();
     return code;
 }
 
 int64_t hk_hand_split(hk_hand *hand, hk_hand **out) {
-    if (!out) return HK_E_NULL;
-    struct hk_cell first = {hand}, second = {NULL};
-    begins_split();
-    int64_t code = hkx_hand_split(&first, &second);
-    ends_split();
-    if (code >= 0) *out = second.at;
-    return code;
+    if (!hand || !out) return HK_E_NULL;
+    MAKE(out, cell, split(hand, cell))
 }
 
 void hk_hand_free(hk_hand *hand) {
     gives(HK_MARK_END);
-    (void)hkx_free(CELL(hand));
+    free_handle(hand);
 }
 
 /* An export tries each step once. If another thread came first, the calls below try that step again, until they have
@@ -157,39 +188,76 @@ static int64_t settle_take(struct hk_cell *cell, size_t n, int64_t code) {
 /* What a put and a take need to go on after their first try. It is in memory, so that a first try that succeeds, as
  * nearly all do, saves no registers. */
 struct put_call {
-    struct hk_cell cell;
+    struct hk_cell *cell;
     size_t ring;
     const uint64_t *words;
     size_t n;
 };
 
 struct take_call {
-    struct hk_cell cell;
+    struct hk_cell *cell;
     size_t ring;
     uint64_t *words;
     size_t n;
 };
 
+/* The same of one word. */
+struct put_one_call {
+    struct hk_cell *cell;
+    size_t ring;
+    uint64_t word;
+};
+
+struct take_one_call {
+    struct hk_cell *cell;
+    size_t ring;
+    uint64_t *word;
+};
+
 #define RARELY __attribute__((noinline, cold))
 
-/* Goes on with a put whose first try returned a code. */
+/* Goes on with a call whose first try returned a code. */
 static RARELY int64_t put_again(struct put_call *call, bool bulk, int64_t code) {
-    TRY_AGAIN(code, HK_E_AGAIN, hkx_ring_put(&call->cell, call->ring, call->words, call->n, bulk))
-    return settle_put(&call->cell, call->words, call->n, code);
+    TRY_AGAIN(code, HK_E_AGAIN, hkx_ring_put(call->cell, call->ring, call->words, call->n, bulk))
+    return settle_put(call->cell, call->words, call->n, code);
 }
 
 static RARELY int64_t take_again(struct take_call *call, bool bulk, int64_t code) {
-    TRY_AGAIN(code, HK_E_AGAIN, hkx_ring_take(&call->cell, call->ring, call->words, call->n, bulk))
-    return settle_take(&call->cell, call->n, code);
+    TRY_AGAIN(code, HK_E_AGAIN, hkx_ring_take(call->cell, call->ring, call->words, call->n, bulk))
+    return settle_take(call->cell, call->n, code);
+}
+
+static RARELY int64_t put_one_again(struct put_one_call *call, int64_t code) {
+    TRY_AGAIN(code, HK_E_AGAIN, hkx_ring_put_one(call->cell, call->ring, call->word))
+    return settle_put(call->cell, &call->word, 1, code);
+}
+
+static RARELY int64_t take_one_again(struct take_one_call *call, int64_t code) {
+    TRY_AGAIN(code, HK_E_AGAIN, hkx_ring_take_one(call->cell, call->ring, call->word))
+    return settle_take(call->cell, 1, code);
 }
 
 /* One word goes by value, whether by bulk or by burst: it is moved, or there was no room. */
+static inline int64_t put_one(hk_hand *hand, size_t ring, uint64_t word) {
+    if (!hand) return HK_E_NULL;
+    struct put_one_call call = {CELL(hand), ring, word};
+    int64_t code = hkx_ring_put_one(CELL(hand), ring, word);
+    return code >= 0 ? code : put_one_again(&call, code);
+}
+
+static inline int64_t take_one(hk_hand *hand, size_t ring, uint64_t *word) {
+    if (!hand) return HK_E_NULL;
+    struct take_one_call call = {CELL(hand), ring, word};
+    int64_t code = hkx_ring_take_one(CELL(hand), ring, word);
+    return code >= 0 ? code : take_one_again(&call, code);
+}
+
 static inline int64_t put(hk_hand *hand, size_t ring, const uint64_t *words, size_t n, bool bulk) {
-    int64_t code = refused_above(HK_MOST_ON_MULTI, words, n);
-    if (code < 0) return code;
-    if (!words) words = no_words;
-    struct put_call call = {{hand}, ring, words, n};
-    code = n == 1 ? hkx_ring_put_one(&call.cell, ring, *words) : hkx_ring_put(&call.cell, ring, words, n, bulk);
+    if (n == 1) return words ? put_one(hand, ring, *words) : HK_E_NULL;
+    if (n > HK_MOST_ON_MULTI) return HK_E_COUNT;
+    if (!hand || (!words && n > 0)) return HK_E_NULL;
+    struct put_call call = {CELL(hand), ring, n > 0 ? words : no_words, n};
+    int64_t code = hkx_ring_put(CELL(hand), ring, call.words, n, bulk);
     return code >= 0 ? code : put_again(&call, bulk, code);
 }
 
@@ -204,11 +272,11 @@ int64_t hk_ring_try_put_burst(hk_hand *hand, size_t ring, const uint64_t *words,
 }
 
 static inline int64_t take(hk_hand *hand, size_t ring, uint64_t *words, size_t n, bool bulk) {
-    int64_t code = refused_above(HK_MOST_ON_MULTI, words, n);
-    if (code < 0) return code;
-    if (!words) words = no_words;
-    struct take_call call = {{hand}, ring, words, n};
-    code = n == 1 ? hkx_ring_take_one(&call.cell, ring, words) : hkx_ring_take(&call.cell, ring, words, n, bulk);
+    if (n == 1) return words ? take_one(hand, ring, words) : HK_E_NULL;
+    if (n > HK_MOST_ON_MULTI) return HK_E_COUNT;
+    if (!hand || (!words && n > 0)) return HK_E_NULL;
+    struct take_call call = {CELL(hand), ring, n > 0 ? words : no_words, n};
+    int64_t code = hkx_ring_take(CELL(hand), ring, call.words, n, bulk);
     return code >= 0 ? code : take_again(&call, bulk, code);
 }
 
@@ -220,25 +288,19 @@ int64_t hk_ring_try_take_burst(hk_hand *hand, size_t ring, uint64_t *words, size
     return got_words(words, n, take(hand, ring, words, n, false));
 }
 
-/* The same of one word, which is passed by value: nothing is tested but null, so that a first try takes no array. */
 int64_t hk_ring_try_put_one(hk_hand *hand, size_t ring, uint64_t word) {
     give_word(word);
-    struct put_call call = {{hand}, ring, &word, 1};
-    int64_t code = hkx_ring_put_one(&call.cell, ring, word);
-    return code >= 0 ? code : put_again(&call, true, code);
+    return put_one(hand, ring, word);
 }
 
 int64_t hk_ring_try_take_one(hk_hand *hand, size_t ring, uint64_t *word) {
-    if (!word) return HK_E_NULL;
-    struct take_call call = {{hand}, ring, word, 1};
-    int64_t code = hkx_ring_take_one(&call.cell, ring, word);
-    return got_words(word, 1, code >= 0 ? code : take_again(&call, true, code));
+    return word ? got_words(word, 1, take_one(hand, ring, word)) : HK_E_NULL;
 }
 
 static inline int64_t peek_put(hk_hand *hand, size_t ring, size_t n, bool bulk) {
-    struct hk_cell cell = {hand};
-    int64_t code = hkx_ring_peek_put(&cell, ring, n, bulk);
-    TRY_AGAIN(code, HK_E_AGAIN, hkx_ring_peek_put(&cell, ring, n, bulk))
+    if (!hand) return HK_E_NULL;
+    int64_t code = hkx_ring_peek_put(CELL(hand), ring, n, bulk);
+    TRY_AGAIN(code, HK_E_AGAIN, hkx_ring_peek_put(CELL(hand), ring, n, bulk))
     return code;
 }
 
@@ -253,10 +315,10 @@ int64_t hk_ring_peek_put_burst(hk_hand *hand, size_t ring, size_t n) {
 static inline int64_t peek_take(hk_hand *hand, size_t ring, uint64_t *words, size_t n, bool bulk) {
     int64_t code = refused(words, n);
     if (code < 0) return code;
-    struct hk_cell cell = {hand};
+    if (!hand) return HK_E_NULL;
     if (!words) words = no_words;
-    code = hkx_ring_peek_take(&cell, ring, words, n, bulk);
-    TRY_AGAIN(code, HK_E_AGAIN, hkx_ring_peek_take(&cell, ring, words, n, bulk))
+    code = hkx_ring_peek_take(CELL(hand), ring, words, n, bulk);
+    TRY_AGAIN(code, HK_E_AGAIN, hkx_ring_peek_take(CELL(hand), ring, words, n, bulk))
     return code;
 }
 
@@ -271,33 +333,33 @@ int64_t hk_ring_peek_take_burst(hk_hand *hand, size_t ring, uint64_t *words, siz
 int64_t hk_ring_finish_put(hk_hand *hand, const uint64_t *words, size_t n) {
     int64_t code = refused_above(HK_MOST_ON_MULTI, words, n);
     if (code < 0) return code;
+    if (!hand) return HK_E_NULL;
     give_words(words, n);
-    struct hk_cell cell = {hand};
     if (!words) words = no_words;
-    return settle_put(&cell, words, n, hkx_ring_finish_put(&cell, words, n));
+    return settle_put(CELL(hand), words, n, hkx_ring_finish_put(CELL(hand), words, n));
 }
 
 int64_t hk_ring_finish_take(hk_hand *hand, size_t n) {
-    struct hk_cell cell = {hand};
-    return settle_take(&cell, n, hkx_ring_finish_take(&cell, n));
+    if (!hand) return HK_E_NULL;
+    return settle_take(CELL(hand), n, hkx_ring_finish_take(CELL(hand), n));
 }
 
 int64_t hk_ring_advance_put(hk_hand *hand, const uint64_t *words, size_t n) {
     int64_t code = refused(words, n);
     if (code < 0) return code;
     give_words(words, n);
-    return hkx_ring_advance_put(CELL(hand), words ? words : no_words, n);
+    return CALL_WITH(hkx_ring_advance_put, hand, words ? words : no_words, n);
 }
 
 int64_t hk_ring_advance_put_one(hk_hand *hand, uint64_t word) {
     give_word(word);
-    return hkx_ring_advance_put_one(CELL(hand), word);
+    return CALL_WITH(hkx_ring_advance_put_one, hand, word);
 }
 
 static inline int64_t hold_take(hk_hand *hand, size_t ring, size_t n, bool bulk) {
-    struct hk_cell cell = {hand};
-    int64_t code = hkx_ring_hold_take(&cell, ring, n, bulk);
-    TRY_AGAIN(code, HK_E_AGAIN, hkx_ring_hold_take(&cell, ring, n, bulk))
+    if (!hand) return HK_E_NULL;
+    int64_t code = hkx_ring_hold_take(CELL(hand), ring, n, bulk);
+    TRY_AGAIN(code, HK_E_AGAIN, hkx_ring_hold_take(CELL(hand), ring, n, bulk))
     return code;
 }
 
@@ -312,44 +374,44 @@ int64_t hk_ring_hold_take_burst(hk_hand *hand, size_t ring, size_t n) {
 int64_t hk_ring_advance_take(hk_hand *hand, uint64_t *words, size_t n) {
     int64_t code = refused(words, n);
     if (code < 0) return code;
-    return got_words(words, n, hkx_ring_advance_take(CELL(hand), words ? words : no_words, n));
+    return got_words(words, n, CALL_WITH(hkx_ring_advance_take, hand, words ? words : no_words, n));
 }
 
 int64_t hk_ring_advance_take_one(hk_hand *hand, uint64_t *word) {
     if (!word) return HK_E_NULL;
-    return got_words(word, 1, hkx_ring_advance_take_one(CELL(hand), word));
+    return got_words(word, 1, CALL_WITH(hkx_ring_advance_take_one, hand, word));
 }
 
 int64_t hk_ring_release_take(hk_hand *hand, uint64_t *words, size_t n) {
     int64_t code = refused(words, n);
     if (code < 0) return code;
-    return got_words(words, n, hkx_ring_release_take(CELL(hand), words ? words : no_words, n));
+    return got_words(words, n, CALL_WITH(hkx_ring_release_take, hand, words ? words : no_words, n));
 }
 
 int64_t hk_hand_span(const hk_hand *hand) {
-    return hkx_hand_span(LOOK(hand));
+    return CALL(hkx_hand_span, hand);
 }
 
 int64_t hk_hand_left(const hk_hand *hand) {
-    return hkx_hand_left(LOOK(hand));
+    return CALL(hkx_hand_left, hand);
 }
 
 int64_t hk_ring_count(const hk_hand *hand, size_t ring) {
-    return hkx_ring_room(LOOK(hand), ring, true);
+    return CALL_WITH(hkx_ring_room, hand, ring, true);
 }
 
 int64_t hk_ring_room(const hk_hand *hand, size_t ring) {
-    return hkx_ring_room(LOOK(hand), ring, false);
+    return CALL_WITH(hkx_ring_room, hand, ring, false);
 }
 
 int64_t hk_hand_close(hk_hand *hand) {
-    return saw(HK_MARK_END, hkx_hand_close(CELL(hand)));
+    return saw(HK_MARK_END, CALL(hkx_hand_close, hand));
 }
 
 int64_t hk_hand_drain(hk_hand *hand, size_t ring, uint64_t *words, size_t n) {
     int64_t code = refused(words, n);
     if (code < 0) return code;
-    return got_words(words, n, hkx_hand_drain(CELL(hand), ring, words ? words : no_words, n));
+    return got_words(words, n, CALL_WITH(hkx_hand_drain, hand, ring, words ? words : no_words, n));
 }
 
 /* ---- Pools ---- */
@@ -364,58 +426,57 @@ static inline int64_t refused_numbers(const void *numbers, size_t n) {
 
 int64_t hk_pool_open(hk_pool **out, uint32_t n, uint32_t cache, uint32_t rings) {
     if (!out) return HK_E_NULL;
-    struct hk_cell cell = {NULL};
-    int64_t code = hkx_pool_open(&cell, n, cache, rings);
-    if (code >= 0) *out = cell.at;
+    MAKE(out, cell, hkx_pool_open(cell, n, cache, rings))
+}
+
+static int64_t split_pool(hk_pool *pool, struct hk_cell *cell) {
+    begins_split();
+    int64_t code = hkx_pool_split(CELL(pool), cell);
+    ends_split();
     return code;
 }
 
 int64_t hk_pool_split(hk_pool *pool, hk_pool **out) {
-    if (!out) return HK_E_NULL;
-    struct hk_cell first = {pool}, second = {NULL};
-    begins_split();
-    int64_t code = hkx_pool_split(&first, &second);
-    ends_split();
-    if (code >= 0) *out = second.at;
-    return code;
+    if (!pool || !out) return HK_E_NULL;
+    MAKE(out, cell, split_pool(pool, cell))
 }
 
 /* A flush of null or of a handle of another kind, which this call takes too, is refused and changes nothing. */
 void hk_pool_free(hk_pool *pool) {
-    (void)hkx_pool_flush(CELL(pool));
-    (void)hkx_free(CELL(pool));
+    (void)CALL(hkx_pool_flush, pool);
+    free_handle(pool);
 }
 
 int64_t hk_pool_try_get_bulk(hk_pool *pool, uint32_t *numbers, size_t n) {
     int64_t code = refused_numbers(numbers, n);
     if (code < 0) return code;
-    return got_numbers(numbers, hkx_pool_get(CELL(pool), numbers ? numbers : no_numbers, n));
+    return got_numbers(numbers, CALL_WITH(hkx_pool_get, pool, numbers ? numbers : no_numbers, n));
 }
 
 int64_t hk_pool_try_put_bulk(hk_pool *pool, const uint32_t *numbers, size_t n) {
     int64_t code = refused_numbers(numbers, n);
     if (code < 0) return code;
     give_numbers(numbers, n);
-    return hkx_pool_put(CELL(pool), numbers ? numbers : no_numbers, n);
+    return CALL_WITH(hkx_pool_put, pool, numbers ? numbers : no_numbers, n);
 }
 
 int64_t hk_pool_try_flush(hk_pool *pool) {
-    return hkx_pool_flush(CELL(pool));
+    return CALL(hkx_pool_flush, pool);
 }
 
 int64_t hk_pool_cached(const hk_pool *pool) {
-    return hkx_pool_cached(LOOK(pool));
+    return CALL(hkx_pool_cached, pool);
 }
 
 int64_t hk_pool_owns(const hk_pool *pool, uint32_t number) {
-    return hkx_pool_owns(LOOK(pool), number);
+    return CALL_WITH(hkx_pool_owns, pool, number);
 }
 
 static inline int64_t send_numbers(hk_pool *pool, size_t ring, const uint32_t *numbers, size_t n, bool bulk) {
     int64_t code = refused_numbers(numbers, n);
     if (code < 0) return code;
     give_numbers(numbers, n);
-    return hkx_pool_send(CELL(pool), ring, numbers ? numbers : no_numbers, n, bulk);
+    return CALL_WITH(hkx_pool_send, pool, ring, numbers ? numbers : no_numbers, n, bulk);
 }
 
 int64_t hk_pool_try_send_bulk(hk_pool *pool, size_t ring, const uint32_t *numbers, size_t n) {
@@ -429,7 +490,7 @@ int64_t hk_pool_try_send_burst(hk_pool *pool, size_t ring, const uint32_t *numbe
 static inline int64_t receive_numbers(hk_pool *pool, size_t ring, uint32_t *numbers, size_t n, bool bulk) {
     int64_t code = refused_numbers(numbers, n);
     if (code < 0) return code;
-    return got_numbers(numbers, hkx_pool_receive(CELL(pool), ring, numbers ? numbers : no_numbers, n, bulk));
+    return got_numbers(numbers, CALL_WITH(hkx_pool_receive, pool, ring, numbers ? numbers : no_numbers, n, bulk));
 }
 
 int64_t hk_pool_try_receive_bulk(hk_pool *pool, size_t ring, uint32_t *numbers, size_t n) {
@@ -441,57 +502,51 @@ int64_t hk_pool_try_receive_burst(hk_pool *pool, size_t ring, uint32_t *numbers,
 }
 
 int64_t hk_pool_ring_count(const hk_pool *pool, size_t ring) {
-    return hkx_pool_room(LOOK(pool), ring, true);
+    return CALL_WITH(hkx_pool_room, pool, ring, true);
 }
 
 int64_t hk_pool_ring_room(const hk_pool *pool, size_t ring) {
-    return hkx_pool_room(LOOK(pool), ring, false);
+    return CALL_WITH(hkx_pool_room, pool, ring, false);
 }
 
 int64_t hk_pool_free_count(const hk_pool *pool) {
-    return hkx_pool_free_count(LOOK(pool));
+    return CALL(hkx_pool_free_count, pool);
 }
 
 /* ---- Routes ---- */
 
 int64_t hk_routes_open(hk_routes **out, uint32_t bits, uint32_t groups) {
     if (!out) return HK_E_NULL;
-    struct hk_cell cell = {NULL};
-    int64_t code = hkx_routes_open(&cell, bits, groups);
-    if (code >= 0) *out = cell.at;
-    return code;
+    MAKE(out, cell, hkx_routes_open(cell, bits, groups))
 }
 
 int64_t hk_routes_share(hk_routes *routes, hk_routes **out) {
-    if (!out) return HK_E_NULL;
-    struct hk_cell first = {routes}, second = {NULL};
-    int64_t code = hkx_routes_share(&first, &second);
-    if (code >= 0) *out = second.at;
-    return code;
+    if (!routes || !out) return HK_E_NULL;
+    MAKE(out, cell, hkx_routes_share(CELL(routes), cell))
 }
 
 int64_t hk_routes_add(hk_routes *routes, uint32_t address, uint32_t depth, uint32_t hop) {
-    return saw(HK_MARK_END, hkx_routes_add(CELL(routes), address, depth, hop));
+    return saw(HK_MARK_END, CALL_WITH(hkx_routes_add, routes, address, depth, hop));
 }
 
 int64_t hk_routes_remove(hk_routes *routes, uint32_t address, uint32_t depth) {
-    return saw(HK_MARK_END, hkx_routes_remove(CELL(routes), address, depth));
+    return saw(HK_MARK_END, CALL_WITH(hkx_routes_remove, routes, address, depth));
 }
 
 int64_t hk_routes_lookup(const hk_routes *routes, uint32_t address) {
-    return hkx_routes_lookup(LOOK(routes), address);
+    return CALL_WITH(hkx_routes_lookup, routes, address);
 }
 
 int64_t hk_routes_lookup_bulk(const hk_routes *routes, const uint32_t *addresses, uint32_t *hops, size_t n) {
     static uint32_t none[1];
     if (n > SIZE_MAX / 8) return HK_E_COUNT;
     if (n > 0 && (!addresses || !hops)) return HK_E_NULL;
-    return hkx_routes_lookup_bulk(LOOK(routes), addresses ? addresses : none, n, hops ? hops : none, n);
+    return CALL_WITH(hkx_routes_lookup_bulk, routes, addresses ? addresses : none, n, hops ? hops : none, n);
 }
 
 void hk_routes_free(hk_routes *routes) {
     gives(HK_MARK_END);
-    (void)hkx_free(CELL(routes));
+    free_handle(routes);
 }
 
 /* ---- Forwarding tables ---- */
@@ -502,11 +557,8 @@ static int64_t open_fib(hk_fib **out, bool whole, uint32_t bits, uint32_t groups
     static const hk_next_hop no_hops[1];
     if (!out || (port_count > 0 && !ports) || (hop_count > 0 && !hops)) return HK_E_NULL;
     if (port_count > HK_MOST_PORTS || hop_count > HK_MOST_HOPS) return HK_E_PLAN;
-    struct hk_cell cell = {NULL};
-    int64_t code = hkx_fib_open(&cell, whole, bits, groups, ports ? ports : no_ports, port_count,
-                                hops ? hops : no_hops, hop_count);
-    if (code >= 0) *out = cell.at;
-    return code;
+    MAKE(out, cell, hkx_fib_open(cell, whole, bits, groups, ports ? ports : no_ports, port_count,
+                                 hops ? hops : no_hops, hop_count))
 }
 
 int64_t hk_fib_open(hk_fib **out, uint32_t bits, uint32_t groups, const hk_port *ports, size_t port_count,
@@ -520,84 +572,80 @@ int64_t hk_fib_open_whole(hk_fib **out, uint32_t bits, uint32_t groups, const hk
 }
 
 int64_t hk_fib_share(hk_fib *fib, hk_forward **out) {
-    if (!out) return HK_E_NULL;
-    struct hk_cell first = {fib}, second = {NULL};
-    int64_t code = hkx_fib_share(&first, &second);
-    if (code >= 0) *out = second.at;
-    return code;
+    if (!fib || !out) return HK_E_NULL;
+    MAKE(out, cell, hkx_fib_share(CELL(fib), cell))
 }
 
 int64_t hk_fib_add(hk_fib *fib, uint32_t address, uint32_t depth, uint32_t hop) {
-    return saw(HK_MARK_LET_GO, hkx_fib_add(CELL(fib), address, depth, hop));
+    return saw(HK_MARK_LET_GO, CALL_WITH(hkx_fib_add, fib, address, depth, hop));
 }
 
 int64_t hk_fib_remove(hk_fib *fib, uint32_t address, uint32_t depth) {
-    return saw(HK_MARK_LET_GO, hkx_fib_remove(CELL(fib), address, depth));
+    return saw(HK_MARK_LET_GO, CALL_WITH(hkx_fib_remove, fib, address, depth));
 }
 
 int64_t hk_fib_clear(hk_fib *fib) {
-    return saw(HK_MARK_LET_GO, hkx_fib_clear(CELL(fib)));
+    return saw(HK_MARK_LET_GO, CALL(hkx_fib_clear, fib));
 }
 
 int64_t hk_fib_set_hop(hk_fib *fib, uint32_t number, const hk_next_hop *hop) {
     if (!hop) return HK_E_NULL;
-    return saw(HK_MARK_LET_GO, hkx_fib_set_hop(CELL(fib), number, hop));
+    return saw(HK_MARK_LET_GO, CALL_WITH(hkx_fib_set_hop, fib, number, hop));
 }
 
 int64_t hk_fib_set_port(hk_fib *fib, uint32_t number, const hk_port *port) {
     if (!port) return HK_E_NULL;
-    return saw(HK_MARK_LET_GO, hkx_fib_set_port(CELL(fib), number, port));
+    return saw(HK_MARK_LET_GO, CALL_WITH(hkx_fib_set_port, fib, number, port));
 }
 
 int64_t hk_fib_publish(hk_fib *fib) {
     gives(HK_MARK_PUBLISH);
-    return saw(HK_MARK_LET_GO, hkx_fib_publish(CELL(fib)));
+    return saw(HK_MARK_LET_GO, CALL(hkx_fib_publish, fib));
 }
 
 int64_t hk_fib_settle(hk_fib *fib) {
-    return saw(HK_MARK_LET_GO, hkx_fib_settle(CELL(fib)));
+    return saw(HK_MARK_LET_GO, CALL(hkx_fib_settle, fib));
 }
 
 int64_t hk_fib_pending(const hk_fib *fib) {
-    return hkx_fib_pending(LOOK(fib));
+    return CALL(hkx_fib_pending, fib);
 }
 
 int64_t hk_fib_get(const hk_fib *fib, uint32_t address, uint32_t depth) {
-    return hkx_fib_get(LOOK(fib), address, depth);
+    return CALL_WITH(hkx_fib_get, fib, address, depth);
 }
 
 int64_t hk_fib_count(const hk_fib *fib) {
-    return hkx_fib_count(LOOK(fib));
+    return CALL(hkx_fib_count, fib);
 }
 
 int64_t hk_fib_walk(const hk_fib *fib, uint32_t address, uint32_t depth, hk_fib_route *route) {
     if (!route) return HK_E_NULL;
-    return hkx_fib_walk(LOOK(fib), address, depth, route);
+    return CALL_WITH(hkx_fib_walk, fib, address, depth, route);
 }
 
 void hk_fib_free(hk_fib *fib) {
-    struct hk_cell cell = {fib};
-    (void)hkx_free(&cell);
+    free_handle(fib);
 }
 
 int64_t hk_forward_hold(hk_forward *forward) {
-    return saw(HK_MARK_PUBLISH, hkx_forward_hold(CELL(forward)));
+    return saw(HK_MARK_PUBLISH, CALL(hkx_forward_hold, forward));
 }
 
 int64_t hk_forward_release(hk_forward *forward) {
     gives(HK_MARK_LET_GO);
-    return hkx_forward_release(CELL(forward));
+    return CALL(hkx_forward_release, forward);
 }
 
 int64_t hk_forward_lookup(hk_forward *forward, uint32_t address) {
-    return saw(HK_MARK_PUBLISH, hkx_forward_lookup(CELL(forward), address));
+    return saw(HK_MARK_PUBLISH, CALL_WITH(hkx_forward_lookup, forward, address));
 }
 
 int64_t hk_forward_lookup_bulk(hk_forward *forward, const uint32_t *addresses, uint32_t *hops, size_t n) {
     static uint32_t none[1];
     if (n > SIZE_MAX / 8) return HK_E_COUNT;
     if (n > 0 && (!addresses || !hops)) return HK_E_NULL;
-    return saw(HK_MARK_PUBLISH, hkx_forward_lookup_bulk(CELL(forward), addresses ? addresses : none, n,
+    return saw(HK_MARK_PUBLISH, CALL_WITH(hkx_forward_lookup_bulk, forward, addresses ? addresses : none, n,
                                                         hops ? hops : none, n));
 }
 
@@ -612,13 +660,13 @@ static inline int64_t refused_frame(const hk_forward *forward, const void *bytes
 int64_t hk_forward_frame(hk_forward *forward, uint8_t *bytes, size_t held, size_t wire) {
     int64_t code = refused_frame(forward, bytes, held, wire);
     if (code < 0) return code;
-    return saw(HK_MARK_PUBLISH, hkx_forward_frame(CELL(forward), bytes, held, wire));
+    return saw(HK_MARK_PUBLISH, CALL_WITH(hkx_forward_frame, forward, bytes, held, wire));
 }
 
 int64_t hk_forward_verdict(hk_forward *forward, const uint8_t *bytes, size_t held, size_t wire) {
     int64_t code = refused_frame(forward, bytes, held, wire);
     if (code < 0) return code;
-    return saw(HK_MARK_PUBLISH, hkx_forward_verdict(CELL(forward), bytes, held, wire));
+    return saw(HK_MARK_PUBLISH, CALL_WITH(hkx_forward_verdict, forward, bytes, held, wire));
 }
 
 /* Checks the frames of a burst. */
@@ -637,38 +685,34 @@ int64_t hk_forward_burst(hk_forward *forward, const hk_frame *frames, uint32_t *
     if (!forward || (n > 0 && (!frames || !verdicts))) return HK_E_NULL;
     int64_t code = refused_frames(frames, n);
     if (code < 0) return code;
-    return saw(HK_MARK_PUBLISH, hkx_forward_burst(CELL(forward), (hk_frame *)frames, n, verdicts, n));
+    return saw(HK_MARK_PUBLISH, CALL_WITH(hkx_forward_burst, forward, (hk_frame *)frames, n, verdicts, n));
 }
 
 int64_t hk_forward_class(hk_forward *forward, size_t port, const uint8_t *bytes, size_t held) {
     if (!forward || !bytes) return HK_E_NULL;
-    return saw(HK_MARK_PUBLISH, hkx_forward_class(CELL(forward), port, bytes, held));
+    return saw(HK_MARK_PUBLISH, CALL_WITH(hkx_forward_class, forward, port, bytes, held));
 }
 
 void hk_forward_free(hk_forward *forward) {
     gives(HK_MARK_LET_GO);
-    struct hk_cell cell = {forward};
-    (void)hkx_free(&cell);
+    free_handle(forward);
 }
 
 /* ---- Reorder windows ---- */
 
 int64_t hk_reorder_open(hk_reorder **out, uint32_t size) {
     if (!out) return HK_E_NULL;
-    struct hk_cell cell = {NULL};
-    int64_t code = hkx_reorder_open(&cell, size);
-    if (code >= 0) *out = cell.at;
-    return code;
+    MAKE(out, cell, hkx_reorder_open(cell, size))
 }
 
 int64_t hk_reorder_insert(hk_reorder *window, uint64_t number, uint64_t word) {
-    return hkx_reorder_insert(CELL(window), number, word);
+    return CALL_WITH(hkx_reorder_insert, window, number, word);
 }
 
 int64_t hk_reorder_drain(hk_reorder *window, uint64_t *words, size_t n) {
     int64_t code = refused(words, n);
     if (code < 0) return code;
-    code = hkx_reorder_drain(CELL(window), words ? words : no_words, n);
+    code = CALL_WITH(hkx_reorder_drain, window, words ? words : no_words, n);
     return code == 0 && n > 0 ? HK_E_NOTHING : code;
 }
 
@@ -679,13 +723,13 @@ int64_t hk_reorder_pop(hk_reorder *window, uint64_t *word) {
 
 int64_t hk_reorder_next(const hk_reorder *window, uint64_t *number) {
     if (!number) return HK_E_NULL;
-    return hkx_reorder_next(LOOK(window), number);
+    return CALL_WITH(hkx_reorder_next, window, number);
 }
 
 int64_t hk_reorder_skip(hk_reorder *window, uint64_t number) {
-    return hkx_reorder_skip(CELL(window), number);
+    return CALL_WITH(hkx_reorder_skip, window, number);
 }
 
 void hk_reorder_free(hk_reorder *window) {
-    (void)hkx_free(CELL(window));
+    free_handle(window);
 }

@@ -1,5 +1,6 @@
 /* The three requests for memory of hk_heap.c, with which this is linked alone: each block is aligned to a cache line,
  * and what can't be given is refused. */
+#include "hk_heap.h"
 #include "tests.h"
 
 #include <string.h>
@@ -13,15 +14,6 @@ const char *__asan_default_options(void) {
 #endif
 
 enum { LINE = 64, MOST = 1000 };
-
-struct hk_memory {
-    size_t is;
-    void *at;
-};
-
-struct hk_memory rattle_alloc(size_t size, size_t align);
-struct hk_memory rattle_realloc(void *was, size_t kept, size_t size, size_t align);
-void rattle_dealloc(void *at);
 
 /* Writes 1, 2, 3 and so on, and finds them. */
 static void fill(unsigned char *at, size_t n) {

@@ -1,5 +1,6 @@
 /* Threads that set an allocator at the same time, with hk_heap.c alone: one of them sets it, the others get HK_E_BEGUN,
  * and each block comes from that one and is resized by it. */
+#include "hk_heap.h"
 #include "tests.h"
 
 #include <pthread.h>
@@ -7,15 +8,6 @@
 #include <stdlib.h>
 
 enum { THREADS = 4 };
-
-struct hk_memory {
-    size_t is;
-    void *at;
-};
-
-struct hk_memory rattle_alloc(size_t size, size_t align);
-struct hk_memory rattle_realloc(void *was, size_t kept, size_t size, size_t align);
-void rattle_dealloc(void *at);
 
 static _Atomic int blocks[THREADS];
 

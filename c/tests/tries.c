@@ -1,5 +1,6 @@
 /* How often a call tries: stand-ins for the exports count their calls and answer what they are told, so that hokhtura.c
  * is linked with this file alone. tools/try-capi sees to it that each call of hokhtura.h stands here. */
+#include "hk_heap.h"
 #include "tests.h"
 
 #include <stdbool.h>
@@ -33,6 +34,21 @@ static int64_t answer(struct step *step) {
 struct hk_cell {
     void *at;
 };
+
+/* The cell of the handle that all calls are given, and the one of a new handle. */
+static struct hk_cell given = {&box}, made;
+/* How many of the cells that a call asked for it has not given back, and how often it freed the handle. */
+static int cells, ended;
+
+struct hk_memory rattle_alloc(size_t size, size_t align) {
+    cells++;
+    IS(size, sizeof made), IS(align, _Alignof(struct hk_cell));
+    return (struct hk_memory){1, &made};
+}
+
+void rattle_dealloc(void *at) {
+    cells -= at == &made, ended += at == &given;
+}
 
 static int64_t begin(struct hk_cell *h, bool same) {
     strange += h->at != &box || !same;
@@ -165,12 +181,17 @@ ONCE(hkx_reorder_skip)
 /* What the steps answer from now on; no step has been tried. */
 static void told(struct step starts, struct step finishes, struct step others) {
     start = starts, finish = finishes, other = others;
-    strange = 0;
+    strange = 0, ended = 0;
 }
 
 /* Each step was tried this often. */
 static void tried(unsigned starts, unsigned finishes, unsigned others) {
-    IS(start.tried, starts), IS(finish.tried, finishes), IS(other.tried, others), IS(strange, 0);
+    IS(start.tried, starts), IS(finish.tried, finishes), IS(other.tried, others), IS(strange, 0), IS(cells, 0);
+}
+
+/* A call that frees a handle asked its exports this often, and then freed the cell. */
+static void freed(unsigned others) {
+    tried(0, 0, others), IS(ended, 1);
 }
 
 static const struct step never = {0, 0, HK_E_NULL, 0}, none = {0, 0, 0, 0};
@@ -290,7 +311,7 @@ static void one_try(void) {
     /* No export is given more plans than there may be rings. */
     told(never, never, never), IS(hk_hand_open(&second, &plan, HK_MOST_RINGS + 1), HK_E_PLAN), tried(0, 0, 0);
     IS(second == NULL, 1);
-    told(never, never, never), hk_hand_free(hand), tried(0, 0, 1);
+    told(never, never, never), hk_hand_free(hand), freed(1);
 }
 
 /* The tries of a pool's calls are made below its exports. */
@@ -312,7 +333,7 @@ static void pools(void) {
     BOTH(hk_pool_free_count(pool));
     IS(second == NULL, 1);
     /* A flush, which is tried once whatever it answers, and the end. */
-    told(never, never, often(HK_E_AGAIN, 1, HK_OK)), hk_pool_free(pool), tried(0, 0, 2);
+    told(never, never, often(HK_E_AGAIN, 1, HK_OK)), hk_pool_free(pool), freed(2);
 }
 
 static void tables_and_windows(void) {
@@ -335,8 +356,8 @@ static void tables_and_windows(void) {
     BOTH(hk_reorder_next(window, &next));
     BOTH(hk_reorder_skip(window, 1));
     IS(second == NULL && another == NULL, 1);
-    told(never, never, never), hk_routes_free(table), tried(0, 0, 1);
-    told(never, never, never), hk_reorder_free(window), tried(0, 0, 1);
+    told(never, never, never), hk_routes_free(table), freed(1);
+    told(never, never, never), hk_reorder_free(window), freed(1);
 }
 
 static void tables_that_change(void) {
@@ -367,7 +388,7 @@ static void tables_that_change(void) {
     told(never, never, never);
     IS(hk_fib_open(&another, 16, 1, &port, HK_MOST_PORTS + 1, &hop, 1), HK_E_PLAN);
     IS(hk_fib_open(&another, 16, 1, &port, 1, &hop, HK_MOST_HOPS + 1), HK_E_PLAN), tried(0, 0, 0);
-    told(never, never, never), hk_fib_free(fib), tried(0, 0, 1);
+    told(never, never, never), hk_fib_free(fib), freed(1);
 }
 
 /* No export is given a frame that is longer than on the wire, or more frames than there may be. */
@@ -385,11 +406,11 @@ static void forwarders(void) {
     IS(hk_forward_burst(forward, frames, numbers, 2), HK_E_COUNT);
     IS(hk_forward_burst(forward, NULL, NULL, 0), HK_E_COUNT);
     IS(hk_forward_burst(forward, frames, numbers, HK_FORWARD_MOST + 1), HK_E_COUNT), tried(0, 0, 0);
-    told(never, never, never), hk_forward_free(forward), tried(0, 0, 1);
+    told(never, never, never), hk_forward_free(forward), freed(1);
 }
 
 int main(void) {
-    hand = (hk_hand *)(void *)&box;
+    hand = (hk_hand *)(void *)&given;
     both(put_bulk, true), both(put_burst, false);
     both(take_bulk, true), both(take_burst, false);
     one_word = 7, one_wanted = true;
