@@ -1,5 +1,6 @@
-/* Memory for the proved side: its three requests, passed on to the C library or to the program's own allocator. Each
- * returns a pair, in two registers: whether there was memory, and where. A request for no bytes returns an address too.
+/* Memory for the proved side and for the cells of handles: three requests, passed on to the C library or to the
+ * program's own allocator. Each returns a pair, in two registers: whether there was memory, and where. A request for no
+ * bytes returns an address too.
  *
  * A block begins on a cache line and shares none with another block, so a thread that writes to its own blocks takes no
  * line from a thread that uses others. */

@@ -1,6 +1,7 @@
-/* Marks for ThreadSanitizer. It sees the C side and the program, and not the steps of the proved side that order them;
- * so the C side tells it: what a thread did before it put a word or a number comes before what the thread does that
- * takes it. Only that is told, word by word, so a program that touches what it has given away is still found.
+/* Marks for ThreadSanitizer, which doesn't see the steps of the proved side that order threads. The marks stand for
+ * them: one for each word or number that is passed, and one each for versions, releases and freed handles. What a
+ * thread did before it put a word comes before what the thread does that takes it. So a program that uses what it gave
+ * away is still found.
  *
  * Built without -fsanitize=thread, nothing of this is left. */
 #ifndef HK_MARKS_H

@@ -1,9 +1,10 @@
-/* The calls of hokhtura.h over the proved exports hkx_*. Arrays and counts are checked here, and a step that failed
- * because of another thread is tried again; everything else is done there.
+/* The calls of hokhtura.h over the proved exports hkx_*. Handles, arrays and counts are checked here, cells of handles
+ * are made and freed, and a step of a ring that failed because of another thread is tried again. Everything else is
+ * done there.
  *
  * A handle is the address of a cell, and the cell holds the address of a box of the proved side. An export empties the
- * cell, works, and puts the same address back. The cell stays where it is as long as the handle is used, so that a call
- * needs no room for one, and most calls end with a jump to their export. */
+ * cell, works, and puts the same address back. The cell lives as long as the handle. So a call needs no cell on its
+ * stack, and most calls are a test for null and a jump to their export. */
 #include "hokhtura.h"
 #include "hk_heap.h"
 #include "hk_marks.h"
@@ -17,7 +18,7 @@ struct hk_cell {
 /* The cell of a handle that isn't null. After a call with a const handle the cell is what it was. */
 #define CELL(handle) ((struct hk_cell *)(handle))
 
-/* What an export returns that takes this handle first, or that the handle is null. */
+/* Calls an export with the handle as its first argument; HK_E_NULL if it is null. */
 #define CALL(export, handle) ((handle) ? export(CELL(handle)) : HK_E_NULL)
 #define CALL_WITH(export, handle, ...) ((handle) ? export(CELL(handle), __VA_ARGS__) : HK_E_NULL)
 
@@ -157,8 +158,9 @@ void hk_hand_free(hk_hand *hand) {
     free_handle(hand);
 }
 
-/* An export tries each step once. If another thread came first, the calls below try that step again, until they have
- * tried it this often. A put or a take that was answered HK_E_PENDING has tried to settle once. */
+/* An export of a ring tries each step once. If another thread came first, the calls below try that step again, until
+ * they have tried it this often. A put or a take that was answered HK_E_PENDING has tried to settle once. Pools and
+ * splits repeat their tries below their exports. */
 enum { TURNS = 1024 };
 
 static inline void pause_a_moment(void) {
@@ -185,8 +187,8 @@ static int64_t settle_take(struct hk_cell *cell, size_t n, int64_t code) {
     return code;
 }
 
-/* What a put and a take need to go on after their first try. It is in memory, so that a first try that succeeds, as
- * nearly all do, saves no registers. */
+/* What a put and a take need to go on after their first try. It is kept in memory, so that a first try that succeeds,
+ * as nearly all do, saves no registers. */
 struct put_call {
     struct hk_cell *cell;
     size_t ring;
@@ -201,7 +203,7 @@ struct take_call {
     size_t n;
 };
 
-/* The same of one word. */
+/* The same for one word. */
 struct put_one_call {
     struct hk_cell *cell;
     size_t ring;

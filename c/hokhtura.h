@@ -19,8 +19,9 @@
  * says otherwise, a code means that nothing was changed: no handle, no array, no ring. Of several mistakes a call
  * returns the first of these: HK_E_COUNT, if it is given an array of words, numbers, addresses or frames and a count
  * above the largest; HK_E_NULL; the others in the order in which its comment lists them. Such an array may be null if
- * its count is 0. HK_E_MEMORY may come before any of these. No call ends the process, blocks, sleeps or loops without a
- * limit.
+ * its count is 0. HK_E_MEMORY may come before any of these; so may HK_E_AGAIN before HK_E_NOROOM and HK_E_WORN, if
+ * another call has a head/tail-sync side open. No call ends the process, waits for another thread, sleeps or loops
+ * without a limit; what the allocator does comes on top.
  *
  * TRIES. A put or a take has two steps: it reserves positions, and finishes. A peek has only the first step, and a call
  * that finishes only the second. If other threads come first, a call tries each of its steps 1,024 times at most, the
@@ -73,7 +74,8 @@ enum hk_code {
     HK_OK = 0,
     HK_E_NOROOM = -1,   /* too little room for a put, or too few words for a take */
     HK_E_AGAIN = -2,    /* other threads came first on this side of the ring each time this call tried: call again */
-    HK_E_PENDING = -3,  /* the positions are reserved, an earlier call of another thread isn't finished yet: finish */
+    HK_E_PENDING = -3,  /* of a ring: the positions are reserved, an earlier call of another thread isn't finished yet:
+                         * finish; of a forwarding table: nothing was changed, call again */
     HK_E_OPEN = -4,     /* the hand has an open span: finish it first */
     HK_E_NOTOPEN = -5,  /* the hand has no open span of that side */
     HK_E_RING = -6,     /* there is no ring of this number */
@@ -85,7 +87,7 @@ enum hk_code {
     HK_E_MEMORY = -13,  /* out of memory */
     HK_E_PLAN = -14,    /* invalid size, mode or depth: no such rings, pool, table, port or window */
     HK_E_WORN = -15,    /* as many words as the ring's plan allows were put */
-    HK_E_PARTS = -16,   /* as many handles were made as there can be on one set of rings or one pool, 2^62 */
+    HK_E_PARTS = -16,   /* the limit of 2^62 handles on one set of rings or one pool */
     HK_E_NOTYOURS = -17, /* a number that this handle of the pool doesn't have, has cached, or that is given twice */
     HK_E_DEPTH = -20,   /* a depth that is not 1 to 32 */
     HK_E_HOP = -21,     /* no such next hop, or one of 2^24 or more */
@@ -109,10 +111,10 @@ HK_API const char *hk_code_name(int64_t code);
 
 /* An allocator, for huge pages or the memory of one NUMA node. Any thread may call it, and several at once.
  *
- * `allocate` returns a block of `size` bytes, or null. `size` is a multiple of 64, a cache line, and each block should
- * begin on a line; it has to begin at a multiple of 16.
+ * `allocate` returns a block of `size` bytes, or null. `size` is a multiple of 64, a cache line. A block must begin at
+ * a multiple of 16; on a cache line it is faster.
  * `resize` returns such a block whose first `kept` bytes are those of the block `at`, and releases `at`; or null, and
- * leaves `at` as it is. `kept` is at most `size`. It may be a null pointer: then blocks are allocated, copied and
+ * leaves `at` as it is. `kept` is at most `size`. `resize` may be a null pointer: then blocks are allocated, copied and
  * released.
  * `release` takes back a block of the other two. */
 typedef struct hk_allocator {
@@ -150,11 +152,12 @@ typedef struct hk_ring_plan {
 /* One thread's hand on a set of rings, which have the numbers 0, 1 and so on. */
 typedef struct hk_hand hk_hand;
 
-/* [memory] Makes a set of `count` empty rings, and the first hand on it. HK_E_NULL, HK_E_PLAN, HK_E_MEMORY. */
+/* [memory] Makes a set of `count` empty rings, 1 to HK_MOST_RINGS, and the first hand on it. HK_E_NULL, HK_E_PLAN,
+ * HK_E_MEMORY. */
 HK_API HK_CHECKED int64_t hk_hand_open(hk_hand **out, const hk_ring_plan *plans, size_t count);
-/* [memory] Makes another hand on the same rings, for another thread. 2^62 can be made, one after the other. HK_E_AGAIN:
- * other threads were splitting hands of these rings each of the 1,024 times that the call tried. HK_E_NULL, HK_E_KIND,
- * HK_E_OPEN, HK_E_AGAIN, HK_E_PARTS, HK_E_MEMORY. */
+/* [memory] Makes another hand on the same rings, for another thread. At most 2^62 can be made in all: freeing a hand
+ * doesn't make room for another. HK_E_AGAIN: other threads were splitting hands of these rings each of the 1,024 times
+ * that the call tried. HK_E_NULL, HK_E_KIND, HK_E_OPEN, HK_E_AGAIN, HK_E_PARTS, HK_E_MEMORY. */
 HK_API HK_CHECKED int64_t hk_hand_split(hk_hand *hand, hk_hand **out);
 /* Frees a hand, and with the last one the rings; null is allowed. Like every call that frees, it frees a handle of any
  * kind. A span that the hand has open stays reserved forever: no word of an open put comes out, and none that an open
@@ -173,7 +176,7 @@ HK_API HK_CHECKED int64_t hk_ring_try_put_bulk(hk_hand *hand, size_t ring, const
 HK_API HK_CHECKED int64_t hk_ring_try_put_burst(hk_hand *hand, size_t ring, const uint64_t *words, size_t n);
 /* Takes n words from a ring, 1 to HK_MOST, or to HK_MOST_ON_MULTI on a multi side, the oldest first: by bulk all n or
  * none, by burst at most n. Returns how many are at the front of the array; its other places are unchanged. Codes as
- * above, but for HK_E_WORN, which no take returns.
+ * above, except HK_E_WORN, which no take returns.
  * HK_E_PENDING, only on a multi side: the words are at the front of the array, and still on the ring. Call
  * hk_ring_finish_take with the same n until it returns a count. */
 HK_API HK_CHECKED int64_t hk_ring_try_take_bulk(hk_hand *hand, size_t ring, uint64_t *words, size_t n);
@@ -238,10 +241,10 @@ HK_API int64_t hk_hand_span(const hk_hand *hand);
  * HK_E_NOROOM, how many in all. After HK_E_COUNT, HK_E_WORN and HK_E_AGAIN it says nothing, and other codes leave it as
  * it was. HK_E_NULL, HK_E_KIND. */
 HK_API int64_t hk_hand_left(const hk_hand *hand);
-/* How many words are queued on a ring, and how many more there is room for, as found by one look: the numbers of
- * rte_ring_count and rte_ring_free_count. Others may put or take meanwhile. Spans may be open, of this hand too: words
- * that an open take shows are queued until they are taken, and positions that an open put has reserved are room until
- * words are put there, so that another put may find less room. HK_E_NULL, HK_E_KIND, HK_E_RING. */
+/* How many words are queued on a ring, and how many more there is room for, as found by two loads, between which and
+ * after which others may put or take: the numbers of rte_ring_count and rte_ring_free_count. Spans may be open, of this
+ * hand too: words that an open take shows are queued until they are taken, and positions that an open put has reserved
+ * are room until words are put there, so that another put may find less room. HK_E_NULL, HK_E_KIND, HK_E_RING. */
 HK_API int64_t hk_ring_count(const hk_hand *hand, size_t ring);
 HK_API int64_t hk_ring_room(const hk_hand *hand, size_t ring);
 
@@ -309,11 +312,11 @@ HK_API HK_CHECKED int64_t hk_pool_try_send_burst(hk_pool *pool, size_t ring, con
  * queued, or for a burst none. HK_E_AGAIN. */
 HK_API HK_CHECKED int64_t hk_pool_try_receive_bulk(hk_pool *pool, size_t ring, uint32_t *numbers, size_t n);
 HK_API HK_CHECKED int64_t hk_pool_try_receive_burst(hk_pool *pool, size_t ring, uint32_t *numbers, size_t n);
-/* How many numbers are queued on a ring of the pool, 0 to rings - 1, and how many more fit, as found by one look.
- * Others may send or receive meanwhile. HK_E_NULL, HK_E_KIND, HK_E_RING. */
+/* How many numbers are queued on a ring of the pool, 0 to rings - 1, and how many more fit, as found by two loads,
+ * between which and after which others may send or receive. HK_E_NULL, HK_E_KIND, HK_E_RING. */
 HK_API int64_t hk_pool_ring_count(const hk_pool *pool, size_t ring);
 HK_API int64_t hk_pool_ring_room(const hk_pool *pool, size_t ring);
-/* How many numbers are on the free ring, as found by one look; those in the caches of handles aren't. HK_E_NULL,
+/* How many numbers are on the free ring, as found by two loads; those in the caches of handles aren't. HK_E_NULL,
  * HK_E_KIND. */
 HK_API int64_t hk_pool_free_count(const hk_pool *pool);
 
@@ -348,7 +351,8 @@ HK_API void hk_routes_free(hk_routes *routes);
 /* The writer's handle on a forwarding table: routes to the numbers of next hops, the next hops, and the ports. One
  * thread at a time changes it. Readers see no change before hk_fib_publish, and then see all changes at once. No call
  * waits: while a reader may still use the version before the last one, changes and hk_fib_publish are refused with
- * HK_E_PENDING and change nothing; call again. There are two copies of the routes. */
+ * HK_E_PENDING and change nothing; call again. They are refused in the same way while the second copy of the routes
+ * gets no memory for the last change: hk_fib_settle then returns HK_E_MEMORY. */
 typedef struct hk_fib hk_fib;
 
 /* A reader's handle, for one thread at a time. It looks addresses up and forwards frames. Each call uses one version of

@@ -43,7 +43,7 @@ static inline int64_t hk_end_put_at_an_edge(hk_end *end, uint64_t word) {
     return HK_OK;
 }
 
-/* Puts a word. HK_OK; or why not, as a peek returns it: then nothing is changed, and the side isn't held. */
+/* Puts a word. Returns HK_OK, or a code of hk_ring_peek_put_burst: then no word was put, and the side isn't held. */
 static inline int64_t hk_end_put(hk_end *end, uint64_t word) {
     int64_t code;
     if (end->left <= 1) return hk_end_put_at_an_edge(end, word);
@@ -53,7 +53,7 @@ static inline int64_t hk_end_put(hk_end *end, uint64_t word) {
     return HK_OK;
 }
 
-/* Gives up the side of an end that puts, if it is held. */
+/* Gives up the side of an end that puts. Returns HK_OK, also if the side isn't held. */
 static inline int64_t hk_end_release_put(hk_end *end) {
     int64_t code = end->left > 0 ? hk_ring_finish_put(end->hand, NULL, 0) : 0;
     if (code < 0) return code;
@@ -75,7 +75,8 @@ static inline int64_t hk_end_take_at_an_edge(hk_end *end, uint64_t *word) {
     return HK_OK;
 }
 
-/* Takes the next word. HK_OK; HK_E_NOROOM: the ring is empty; or why not otherwise. Then the place is unchanged. */
+/* Takes the next word. Returns HK_OK, or a code of hk_ring_hold_take_burst, as HK_E_NOROOM if the ring is empty: then
+ * `*word` is unchanged, and the side isn't held. */
 static inline int64_t hk_end_take(hk_end *end, uint64_t *word) {
     int64_t code;
     if (end->left <= 1) return hk_end_take_at_an_edge(end, word);
@@ -85,7 +86,8 @@ static inline int64_t hk_end_take(hk_end *end, uint64_t *word) {
     return HK_OK;
 }
 
-/* Gives up the side of an end that takes, if it is held. The words that it didn't take stay on the ring. */
+/* Gives up the side of an end that takes: the words that it didn't take stay on the ring. Returns HK_OK, also if the
+ * side isn't held. */
 static inline int64_t hk_end_release_take(hk_end *end) {
     int64_t code = end->left > 0 ? hk_ring_release_take(end->hand, NULL, 0) : 0;
     if (code < 0) return code;

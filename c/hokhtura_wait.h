@@ -1,6 +1,7 @@
 /* Calls of hokhtura.h that wait until they are done, for programs that have nothing else to do meanwhile. Each is a
  * loop over a `try` call: it tries, finishes what is pending, and relaxes between two tries. It ends when the call is
- * done, or with a code that time doesn't cure, which then means what it means for the `try` call.
+ * done, or with a code that trying again doesn't change, which then means what it means for the `try` call. A count
+ * that never becomes available, or memory that a forwarding table doesn't get, is waited for until relax ends the loop.
  *
  * All of it is inline here: the library has none of these names, and none of its own calls waits. */
 #ifndef HOKHTURA_WAIT_H
@@ -33,11 +34,11 @@ static inline int hk_goes_on(hk_relax relax) {
     return 1;
 }
 
-/* Tries again while the code is one that time cures. */
-#define HK_UNTIL(code, is_early, relax, call) \
-    while ((is_early) && hk_goes_on(relax)) (code) = (call)
+/* Tries again while the code is one that may change. */
+#define HK_UNTIL(code, may_change, relax, call) \
+    while ((may_change) && hk_goes_on(relax)) (code) = (call)
 
-#define HK_IS_EARLY(code) ((code) == HK_E_NOROOM || (code) == HK_E_AGAIN)
+#define HK_MAY_CHANGE(code) ((code) == HK_E_NOROOM || (code) == HK_E_AGAIN)
 
 /* Goes on with the put or the take that the hand has open, after a call on it returned a code. */
 static inline int64_t hk_finish_put_after(hk_hand *hand, const uint64_t *words, size_t n, int64_t code,
@@ -51,35 +52,35 @@ static inline int64_t hk_finish_take_after(hk_hand *hand, size_t n, int64_t code
     return code;
 }
 
-/* Puts n words, as many as hk_ring_try_put_bulk allows, next to each other on a ring, once there is room for all.
- * Returns n. On a ring that holds fewer it waits until relax ends it. */
+/* Waits until there is room for n words, and then puts them next to each other on a ring. n has the range of
+ * hk_ring_try_put_bulk. Returns n. On a ring that holds fewer it waits until relax ends it. */
 static inline int64_t hk_ring_put_bulk(hk_hand *hand, size_t ring, const uint64_t *words, size_t n, hk_relax relax) {
     int64_t code = hk_ring_try_put_bulk(hand, ring, words, n);
-    HK_UNTIL(code, HK_IS_EARLY(code), relax, hk_ring_try_put_bulk(hand, ring, words, n));
+    HK_UNTIL(code, HK_MAY_CHANGE(code), relax, hk_ring_try_put_bulk(hand, ring, words, n));
     return hk_finish_put_after(hand, words, n, code, relax);
 }
 
-/* Puts as many words as there is room for, of n, as many as hk_ring_try_put_burst allows, once there is room for one.
- * Returns how many. */
+/* Waits until there is room for a word, and then puts up to n words. n has the range of hk_ring_try_put_burst. Returns
+ * how many were put. */
 static inline int64_t hk_ring_put_burst(hk_hand *hand, size_t ring, const uint64_t *words, size_t n, hk_relax relax) {
     int64_t code = hk_ring_try_put_burst(hand, ring, words, n);
-    HK_UNTIL(code, HK_IS_EARLY(code), relax, hk_ring_try_put_burst(hand, ring, words, n));
+    HK_UNTIL(code, HK_MAY_CHANGE(code), relax, hk_ring_try_put_burst(hand, ring, words, n));
     return hk_finish_put_after(hand, words, n, code, relax);
 }
 
-/* Takes n words, as many as hk_ring_try_take_bulk allows, once as many are queued. Returns n. On a ring that holds
- * fewer it waits until relax ends it. */
+/* Waits until n words are queued, and then takes them. n has the range of hk_ring_try_take_bulk. Returns n. On a ring
+ * that holds fewer it waits until relax ends it. */
 static inline int64_t hk_ring_take_bulk(hk_hand *hand, size_t ring, uint64_t *words, size_t n, hk_relax relax) {
     int64_t code = hk_ring_try_take_bulk(hand, ring, words, n);
-    HK_UNTIL(code, HK_IS_EARLY(code), relax, hk_ring_try_take_bulk(hand, ring, words, n));
+    HK_UNTIL(code, HK_MAY_CHANGE(code), relax, hk_ring_try_take_bulk(hand, ring, words, n));
     return hk_finish_take_after(hand, n, code, relax);
 }
 
-/* Takes as many words as are queued, at most n, as many as hk_ring_try_take_burst allows, once there is one. Returns
- * how many. */
+/* Waits until a word is queued, and then takes up to n words. n has the range of hk_ring_try_take_burst. Returns how
+ * many were taken. */
 static inline int64_t hk_ring_take_burst(hk_hand *hand, size_t ring, uint64_t *words, size_t n, hk_relax relax) {
     int64_t code = hk_ring_try_take_burst(hand, ring, words, n);
-    HK_UNTIL(code, HK_IS_EARLY(code), relax, hk_ring_try_take_burst(hand, ring, words, n));
+    HK_UNTIL(code, HK_MAY_CHANGE(code), relax, hk_ring_try_take_burst(hand, ring, words, n));
     return hk_finish_take_after(hand, n, code, relax);
 }
 
@@ -114,28 +115,28 @@ static inline int64_t hk_ring_take(hk_hand *hand, size_t ring, uint64_t *words, 
 /* Gets n numbers, 1 to HK_POOL_MOST, once cache and free ring have as many. Returns n. */
 static inline int64_t hk_pool_get_bulk(hk_pool *pool, uint32_t *numbers, size_t n, hk_relax relax) {
     int64_t code = hk_pool_try_get_bulk(pool, numbers, n);
-    HK_UNTIL(code, HK_IS_EARLY(code), relax, hk_pool_try_get_bulk(pool, numbers, n));
+    HK_UNTIL(code, HK_MAY_CHANGE(code), relax, hk_pool_try_get_bulk(pool, numbers, n));
     return code;
 }
 
 /* Puts n numbers back, 1 to HK_POOL_MOST. Returns n. */
 static inline int64_t hk_pool_put_bulk(hk_pool *pool, const uint32_t *numbers, size_t n, hk_relax relax) {
     int64_t code = hk_pool_try_put_bulk(pool, numbers, n);
-    HK_UNTIL(code, HK_IS_EARLY(code), relax, hk_pool_try_put_bulk(pool, numbers, n));
+    HK_UNTIL(code, HK_MAY_CHANGE(code), relax, hk_pool_try_put_bulk(pool, numbers, n));
     return code;
 }
 
 /* Puts all that is cached on the free ring. Returns how many. */
 static inline int64_t hk_pool_flush(hk_pool *pool, hk_relax relax) {
     int64_t code = hk_pool_try_flush(pool);
-    HK_UNTIL(code, HK_IS_EARLY(code), relax, hk_pool_try_flush(pool));
+    HK_UNTIL(code, HK_MAY_CHANGE(code), relax, hk_pool_try_flush(pool));
     return code;
 }
 
 /* Puts n numbers, 1 to HK_POOL_MOST, on a ring of the pool. Returns n. */
 static inline int64_t hk_pool_send_bulk(hk_pool *pool, size_t ring, const uint32_t *numbers, size_t n, hk_relax relax) {
     int64_t code = hk_pool_try_send_bulk(pool, ring, numbers, n);
-    HK_UNTIL(code, HK_IS_EARLY(code), relax, hk_pool_try_send_bulk(pool, ring, numbers, n));
+    HK_UNTIL(code, HK_MAY_CHANGE(code), relax, hk_pool_try_send_bulk(pool, ring, numbers, n));
     return code;
 }
 
@@ -144,27 +145,27 @@ static inline int64_t hk_pool_send_bulk(hk_pool *pool, size_t ring, const uint32
 static inline int64_t hk_pool_send_burst(hk_pool *pool, size_t ring, const uint32_t *numbers, size_t n,
                                          hk_relax relax) {
     int64_t code = hk_pool_try_send_burst(pool, ring, numbers, n);
-    HK_UNTIL(code, HK_IS_EARLY(code), relax, hk_pool_try_send_burst(pool, ring, numbers, n));
+    HK_UNTIL(code, HK_MAY_CHANGE(code), relax, hk_pool_try_send_burst(pool, ring, numbers, n));
     return code;
 }
 
 /* Takes n numbers, 1 to HK_POOL_MOST, from a ring of the pool, once as many are there. Returns n. */
 static inline int64_t hk_pool_receive_bulk(hk_pool *pool, size_t ring, uint32_t *numbers, size_t n, hk_relax relax) {
     int64_t code = hk_pool_try_receive_bulk(pool, ring, numbers, n);
-    HK_UNTIL(code, HK_IS_EARLY(code), relax, hk_pool_try_receive_bulk(pool, ring, numbers, n));
+    HK_UNTIL(code, HK_MAY_CHANGE(code), relax, hk_pool_try_receive_bulk(pool, ring, numbers, n));
     return code;
 }
 
-/* Takes as many numbers as are there, at most n, 1 to HK_POOL_MOST, from a ring of the pool, once there is one. Returns
- * how many. */
+/* Waits until a number is queued on a ring of the pool, and then takes up to n, 1 to HK_POOL_MOST. Returns how many
+ * were taken. */
 static inline int64_t hk_pool_receive_burst(hk_pool *pool, size_t ring, uint32_t *numbers, size_t n, hk_relax relax) {
     int64_t code = hk_pool_try_receive_burst(pool, ring, numbers, n);
-    HK_UNTIL(code, HK_IS_EARLY(code), relax, hk_pool_try_receive_burst(pool, ring, numbers, n));
+    HK_UNTIL(code, HK_MAY_CHANGE(code), relax, hk_pool_try_receive_burst(pool, ring, numbers, n));
     return code;
 }
 
-/* Settles the last version, once no reader uses or holds the one before. Until the next hk_fib_publish no change returns
- * HK_E_PENDING then. */
+/* Settles the last version, once no reader uses or holds the one before. Until the next hk_fib_publish no change
+ * returns HK_E_PENDING then. */
 static inline int64_t hk_fib_settle_wait(hk_fib *fib, hk_relax relax) {
     int64_t code = hk_fib_settle(fib);
     HK_UNTIL(code, code == HK_E_PENDING, relax, hk_fib_settle(fib));
@@ -179,7 +180,7 @@ static inline int64_t hk_fib_publish_wait(hk_fib *fib, hk_relax relax) {
 }
 
 #undef HK_UNTIL
-#undef HK_IS_EARLY
+#undef HK_MAY_CHANGE
 
 #ifdef __cplusplus
 }

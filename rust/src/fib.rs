@@ -23,7 +23,8 @@ pub struct Route {
 
 /// The writer of a forwarding table: routes to the numbers of next hops, the next hops, and the ports. Readers see no
 /// change before [`publish`](Fib::publish), and then see all changes at once, as a new version. No call waits: one that
-/// can't be made yet is refused as `Pending`, and changes nothing.
+/// can't be made yet, for a reader of the version before or for memory of the second copy, is refused as `Pending` and
+/// changes nothing.
 pub struct Fib(NonNull<ffi::Fib>, PhantomData<*mut u8>);
 
 // SAFETY: a handle may go to another thread. It isn't `Sync`: no two calls overlap.
@@ -125,7 +126,7 @@ impl Fib {
     ///
     /// # Errors
     ///
-    /// `Pending`, `Hop` if the table was opened with fewer, `Memory`.
+    /// `Pending`; `Hop` if `number` isn't below the number of next hops that the table was opened with; `Memory`.
     pub fn set_hop(&mut self, number: u32, hop: &NextHop) -> Result<(), Error> {
         answer(unsafe { ffi::hk_fib_set_hop(self.0.as_ptr(), number, &hop.plan()) }).map(drop)
     }
@@ -134,7 +135,8 @@ impl Fib {
     ///
     /// # Errors
     ///
-    /// `Plan` for a prefix above 32 bits, `Pending`, `Count` if the table was opened with fewer, `Memory`.
+    /// `Plan` for a prefix above 32 bits; `Pending`; `Count` if `number` isn't below the number of ports that the table was
+    /// opened with; `Memory`.
     pub fn set_port(&mut self, number: u32, port: &Port) -> Result<(), Error> {
         answer(unsafe { ffi::hk_fib_set_port(self.0.as_ptr(), number, &port.plan()) }).map(drop)
     }

@@ -31,8 +31,8 @@ macro_rules! puts {
         ///
         /// # Errors
         ///
-        /// `Count` if there are none or more than `MOST`, on a multi side `MOST_ON_MULTI`; `NoRoom`; `Again`; `Worn`;
-        /// `Open`: an earlier call of this handle is pending. `Pending`: the positions are reserved, and `finish_put`
+        /// `Open`: an earlier call of this handle is pending; `Count` if there are none or more than `MOST`, on a multi
+        /// side `MOST_ON_MULTI`; `NoRoom`; `Worn`; `Again`. `Pending`: the positions are reserved, and `finish_put`
         /// with the same words puts them.
         pub fn try_put_bulk(&mut self, words: &[T]) -> Result<usize, Error> {
             self.hand.put(words, true)

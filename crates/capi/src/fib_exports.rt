@@ -249,8 +249,8 @@ pub extern "C" fn hkx_fib_set_port(alloc: Global, h: &mut Handle, number: u32, p
     answer(set_port_at(alloc, h, number, port))
 }
 
-/// Publishes all that is prepared at once. Readers that are in no call see it from their next call on, and the others
-/// once a further call of the writer isn't pending.
+/// Publishes all prepared changes as a new version. Each reader uses it from its next call on, or, if it holds a
+/// version, from its first call after the release.
 #[unsafe(no_mangle)]
 pub extern "C" fn hkx_fib_publish(alloc: Global, h: &mut Handle) -> i64
     ensures { Answers result (λ outcome. AtFib h.old.value h.new.value outcome (Publishes outcome)) }
@@ -258,8 +258,8 @@ pub extern "C" fn hkx_fib_publish(alloc: Global, h: &mut Handle) -> i64
     answer(publish_at(alloc, h))
 }
 
-/// Shows what was published last to the readers that were in a call then, and repeats its changes in the second copy.
-/// Where it isn't done, it is called again.
+/// Takes the previous copy back from the readers, and repeats the changes of the last version in it. If it returns
+/// `Pending` or `Memory`, call it again.
 #[unsafe(no_mangle)]
 pub extern "C" fn hkx_fib_settle(alloc: Global, h: &mut Handle) -> i64
     ensures { Answers result (λ outcome. AtFib h.old.value h.new.value outcome (Settles outcome)) }

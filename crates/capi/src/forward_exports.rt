@@ -160,8 +160,8 @@ pub extern "C" fn hkx_forward_lookup_bulk(
     answer(look_up_all_at(alloc, h, addresses, hops))
 }
 
-/// Forwards a frame that had `wire` bytes on the wire: the number of its verdict. If it is sent, it is rewritten in
-/// place.
+/// Forwards a frame that had `wire` bytes on the wire, and returns the number of its verdict. If it is sent, it is
+/// rewritten in place.
 #[unsafe(no_mangle)]
 pub extern "C" fn hkx_forward_frame(
     alloc: Global,
@@ -190,8 +190,8 @@ pub extern "C" fn hkx_forward_verdict(
     answer(verdict_at(alloc, h, frame, wire))
 }
 
-/// Forwards frames, with their lookups together, and writes the number of each verdict at its frame's place: how many
-/// are sent.
+/// Forwards frames, with their lookups together, and writes the number of each verdict at its frame's place. Returns
+/// how many are sent.
 #[unsafe(no_mangle)]
 pub extern "C" fn hkx_forward_burst(
     alloc: Global,

@@ -14,7 +14,7 @@ use live_routes::{Fib, Frame, MOST, Port, RouteReader, addressed_at, fits};
 
 type Reader = RouteReader<Hop, Port>;
 
-/// Takes what was published last in hand for one call, unless the program holds something. Whether it does.
+/// Enters the last version for one call, unless the reader holds one already. Returns whether it does.
 #[inline]
 fn begin(reader: &mut Reader) -> bool
     ensures held { result ≡ reader.old.inside }

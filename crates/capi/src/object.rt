@@ -18,7 +18,7 @@ pub enum Object {
     Routes(Arc<Table>),
     /// A reorder window of words.
     Reorder(Window<u64>),
-    /// A way to a pool of numbers.
+    /// A handle on a pool of numbers.
     Pool(PoolMember),
     /// The writer of what a router forwards by: routes, next hops and ports.
     Fib(RouteWriter<Hop, Port>),

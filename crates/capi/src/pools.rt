@@ -1,6 +1,6 @@
-//! Pools of numbers as C calls them: a cache with its rings in one value, and the calls on it.
+//! Pools of numbers, for calls from C: a cache with its rings in one value, and the calls on it.
 //!
-//! `member` is a thread's way to a pool, `opening` makes the first one and `splits` the others. `gets` and `puts` go
+//! `member` is a thread's handle on a pool, `opening` makes the first one and `splits` the others. `gets` and `puts` go
 //! through the cache, `sending` to the rings between handles, and `counting` counts what is on them. `tries` makes
 //! their tries on a ring.
 mod counting;

@@ -1,4 +1,4 @@
-//! Rings of words as C calls them: a hand with its rings in one value, and the calls on it.
+//! Rings of words, for calls from C: a hand with its rings in one value, and the calls on it.
 //!
 //! `member` is a thread's hand on a set of rings, `opening` and `making` make it, `splitting` makes one for another
 //! thread, `member_calls` looks at rings, `closing` and `ending` close them. `reaching` finds the ring that a call is

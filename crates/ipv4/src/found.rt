@@ -43,7 +43,7 @@ fn judge_along(frame: &[u8], wire: usize, way: Option<Way>) -> Result<Way, Reaso
 }
 
 /// The verdict on a frame, where `way` is where the next hop of its `destination` leads; `None` if that leads nowhere.
-/// Of a frame without a destination any way may be given. Requires: `wire` is at least the number of bytes. Takes no
+/// If the frame has no destination, any `way` may be given. Requires: `wire` is at least the number of bytes. Takes no
 /// memory.
 #[inline]
 pub fn verdict_along(frame: &[u8], wire: usize, way: Option<Way>) -> Verdict

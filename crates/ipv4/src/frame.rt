@@ -28,9 +28,9 @@ pub fn verdict_of_frame(frame: &[u8], table: &Table, ports: &Ports, wire: usize)
 }
 
 /// The verdict on a frame that was `wire` bytes long and whose captured bytes are in one slice. The frame is rewritten
-/// in place as it leaves if it is sent: what `forward` does to one in a chain. A dropped frame is unchanged. An earlier
-/// lookup of its destination saves one here. Requires: `wire` is at least the number of bytes, and the earlier lookup
-/// was in a table with the same routes. Takes no memory.
+/// in place as it leaves if it is sent: what `forward` does to one in a chain. A dropped frame is unchanged. Reuses an
+/// earlier lookup of the destination, if one is given. Requires: `wire` is at least the number of bytes, and the earlier
+/// lookup was in a table with the same routes. Takes no memory.
 #[inline]
 pub fn forward_frame(
     frame: &mut [u8],

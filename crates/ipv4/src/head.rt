@@ -7,7 +7,7 @@ use crate::fields::{ETHERNET, SHORTEST, header_len, offset_of};
 /// The maximum length of a tagged frame up to the end of its header.
 pub(crate) const MAX_HEAD: usize = 78;
 
-/// Whether the front of a frame of `len` bytes is the frame, or has its whole header.
+/// Whether `head` is the whole frame of `len` bytes, or contains its whole header.
 #[inline]
 pub(crate) fn is_enough(head: &[u8], len: usize) -> bool
     ensures { IsTrue result ↔ ((length head.now ≡ len) ⊎ HoldsHeader head.now) }

@@ -30,8 +30,8 @@ pub(crate) fn judge(
     way_from(packet, table, ports, prefetched).ok_or(Reason::NoRoute)
 }
 
-/// The packet of a frame that isn't dropped before its destination is looked up, or why it is, tested in the order of
-/// the table of reasons.
+/// The frame's packet, if no test before the lookup drops it; otherwise the first reason, in the order of the table of
+/// reasons.
 #[inline]
 pub(crate) fn checked(frame: &[u8], wire: usize) -> Result<&[u8], Reason>
     requires { length frame.now ≤ wire }

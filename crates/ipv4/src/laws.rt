@@ -35,7 +35,7 @@ pub fn a_sent_frame_is_sent_again()
         → (forwarded routes ports sent.frame wire).verdict ≡ Send port tagged }
 {}
 
-/// A frame whose destination was looked up elsewhere becomes what it becomes where the same routes are looked up here.
+/// With the same routes, a frame is forwarded in the same way whether its lookup was made elsewhere or here.
 pub fn a_looked_up_frame_is_forwarded()
     ensures { (routes : Members) (ports : Ports) (frame : List ℕ) (wire : ℕ)
         → let found = lookup_in routes (unwrap_or (destination_in frame) 0) in

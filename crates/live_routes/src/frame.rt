@@ -50,8 +50,8 @@ pub(crate) fn address_of(frame: &Frame<'_>) -> u32
     destination(frame.bytes).unwrap_or(0)
 }
 
-/// Forwards a frame for whose destination a lookup found this hop, with these next hops and ports. The number of the
-/// verdict.
+/// Forwards a frame for whose destination a lookup found this hop, with these next hops and ports. Returns the number
+/// of the verdict.
 #[inline]
 pub(crate) fn forward_in(frame: &mut Frame<'_>, found: NextHop, hops: &[Hop], ports: &[Port]) -> u32
     requires whole { IsWhole frame.old }

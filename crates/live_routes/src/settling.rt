@@ -7,8 +7,8 @@ use crate::change::Change;
 use crate::fib::Fib;
 use std::collections::VecDeque;
 
-/// Makes the changes of the list, first to last, and takes each off. Whether all were made: otherwise the first that is
-/// left was refused memory, and may be tried again.
+/// Makes the changes of the list, first to last, and takes each off. Returns whether all were made: otherwise the first
+/// that is left was refused memory, and may be tried again.
 pub fn catch_up<H: Copy, P: Copy>(fib: &mut Fib<H, P>, log: &mut VecDeque<Change<H, P>>) -> bool
     ensures same { fold applied fib.new log.new.items ≡ fold applied fib.old log.old.items }
     ensures all { IsTrue result → log.new.items ≡ [] }

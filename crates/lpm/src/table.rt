@@ -67,7 +67,7 @@ impl Table {
     }
 
     /// An empty table of the same size as `new` makes, whose entries are only reserved here: 8 bytes are written for
-    /// each 256 of them. A block of 256 entries is written once a route comes into it that doesn't cover all of it. So
+    /// each 256 of them. A block of 256 entries is written when a route first covers part of it. So
     /// such a table is made faster and takes less memory, and a lookup reads one word more, or two. Returns `Err` only
     /// if out of memory.
     pub fn sparse(alloc: Global, bits: u8, groups: u32) -> Result<Table, AllocError>
@@ -98,7 +98,8 @@ impl Table {
         self.levels.bits()
     }
 
-    /// The next hop of the longest route that covers the address. Takes no memory; reads one or two entries.
+    /// The next hop of the longest route that covers the address. Takes no memory; reads one or two entries, and in a
+    /// `sparse` table one or two words more.
     #[inline]
     pub fn lookup(&self, addr: u32) -> Option<u32>
         ensures longest { IsLongestMatch self.now.members addr result }

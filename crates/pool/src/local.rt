@@ -1,4 +1,4 @@
-//! A thread's way to a pool: its hand, the free ring, and its cache.
+//! What a thread has of a pool: its hand, the free ring, and its cache.
 ghost use Rattle.std.specs.Prelude.{◌≡◌, ◌≤◌, ◌+◌, length, true};
 ghost use Rattle.std.specs.Option.{is_some};
 ghost use Rattle.ringcore_laws.specs.FreeRings.{AreSingle};

@@ -44,8 +44,8 @@ fn are_spare<T: Word, S: Stored<T>>(cache_hand: &CacheHand<T, S>, items: &[T]) -
     true
 }
 
-/// The `missing` words that a cache lacks, and `size` more, taken to the front of a slice; if the ring has fewer than
-/// that, the missing ones alone. With how many were taken.
+/// Takes the `missing` words that a cache lacks, and `size` more, to the front of a slice; if the ring has fewer than
+/// that, the missing ones alone. Returns the hand, or why not, and how many were taken.
 fn refill_slice<T: Word, const N: usize, S: Stored<T>, R: Wait>(
     rt: &R,
     f: &Fabric<T, N, S>,

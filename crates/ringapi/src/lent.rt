@@ -100,7 +100,8 @@ pub fn try_put_burst_from<'f, T: Tagged, const N: usize, S: Stored<T>>(
 /// Puts all items of a list, or none, and tries again after `Busy`, `Contended` and a settle that comes too early, with
 /// pauses in between. It doesn't wait for room. What was not moved stays in the list, in order.
 ///
-/// Never returned: `Open`, `Busy`, `Contended`. No memory; any number of steps on words.
+/// Errors, in the order of the tests: `NotYours`, before any step; `BadCount` if the list is empty; `NoRoom`; `Worn`.
+/// Never `Open`, `Busy` or `Contended`. Allocates nothing; any number of steps on words.
 pub fn put_bulk_from<'f, T: Tagged, const N: usize, S: Stored<T>, R: Wait>(
     rt: &R,
     f: &'f Fabric<T, N, S>,
@@ -119,7 +120,8 @@ pub fn put_bulk_from<'f, T: Tagged, const N: usize, S: Stored<T>, R: Wait>(
 /// settle that comes too early, with pauses in between. It doesn't wait for room. What was not moved stays in the list,
 /// in order.
 ///
-/// Never returned: `Open`, `Busy`, `Contended`. No memory; any number of steps on words.
+/// Errors, in the order of the tests: `NotYours`, before any step; `BadCount` if the list is empty; `NoRoom`; `Worn`.
+/// Never `Open`, `Busy` or `Contended`. Allocates nothing; any number of steps on words.
 pub fn put_burst_from<'f, T: Tagged, const N: usize, S: Stored<T>, R: Wait>(
     rt: &R,
     f: &'f Fabric<T, N, S>,
@@ -137,7 +139,8 @@ pub fn put_burst_from<'f, T: Tagged, const N: usize, S: Stored<T>, R: Wait>(
 /// `put_bulk_from` for items that the hand may put, as a caller that got them from a pool knows: nothing is tested
 /// before the start. Requires: it may put them.
 ///
-/// Never returned: `NotYours`, `Open`, `Busy`, `Contended`. No memory; any number of steps on words.
+/// Errors, in the order of the tests: `BadCount` if the list is empty; `NoRoom`; `Worn`. Never `NotYours`, `Open`, `Busy`
+/// or `Contended`. Allocates nothing; any number of steps on words.
 pub fn put_own_bulk_from<'f, T: Tagged, const N: usize, S: Stored<T>, R: Wait>(
     rt: &R,
     f: &'f Fabric<T, N, S>,
@@ -156,7 +159,8 @@ pub fn put_own_bulk_from<'f, T: Tagged, const N: usize, S: Stored<T>, R: Wait>(
 /// `put_burst_from` for items that the hand may put, as a caller that got them from a pool knows: nothing is tested
 /// before the start. Requires: it may put them.
 ///
-/// Never returned: `NotYours`, `Open`, `Busy`, `Contended`. No memory; any number of steps on words.
+/// Errors, in the order of the tests: `BadCount` if the list is empty; `NoRoom`; `Worn`. Never `NotYours`, `Open`, `Busy`
+/// or `Contended`. Allocates nothing; any number of steps on words.
 pub fn put_own_burst_from<'f, T: Tagged, const N: usize, S: Stored<T>, R: Wait>(
     rt: &R,
     f: &'f Fabric<T, N, S>,
@@ -213,7 +217,8 @@ pub fn try_take_burst_into<'f, T: Tagged, const N: usize, S: Stored<T>>(
 /// Takes `n` items, or none, into an empty list, and tries again after `Busy`, `Contended` and a settle that comes too
 /// early, with pauses in between. It doesn't wait for items. Requires: the list is empty.
 ///
-/// Never returned: `Open`, `Busy`, `Contended`. No memory; any number of steps on words.
+/// Errors, in the order of the tests: `BadCount` if no item is wanted or more than `N`; `NoRoom`; `Worn`. Never `Open`,
+/// `Busy` or `Contended`. Allocates nothing; any number of steps on words.
 pub fn take_bulk_into<'f, T: Tagged, const N: usize, S: Stored<T>, R: Wait>(
     rt: &R,
     f: &'f Fabric<T, N, S>,
@@ -233,7 +238,8 @@ pub fn take_bulk_into<'f, T: Tagged, const N: usize, S: Stored<T>, R: Wait>(
 /// Takes at most `n` items, as many as are queued, into an empty list, and tries again after `Busy`, `Contended` and a
 /// settle that comes too early, with pauses in between. It doesn't wait for items. Requires: the list is empty.
 ///
-/// Never returned: `Open`, `Busy`, `Contended`. No memory; any number of steps on words.
+/// Errors, in the order of the tests: `BadCount` if no item is wanted or more than `N`; `NoRoom`; `Worn`. Never `Open`,
+/// `Busy` or `Contended`. Allocates nothing; any number of steps on words.
 pub fn take_burst_into<'f, T: Tagged, const N: usize, S: Stored<T>, R: Wait>(
     rt: &R,
     f: &'f Fabric<T, N, S>,

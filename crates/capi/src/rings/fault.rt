@@ -9,7 +9,8 @@ pub enum Fault {
     NoRoom = 1,
     /// Another thread's call on the same side came first.
     Again = 2,
-    /// The call has reserved its positions, but an earlier call of another thread isn't finished yet.
+    /// The call has reserved its positions, but an earlier call of another thread isn't finished yet. Of a forwarding
+    /// table: the last version isn't settled.
     Pending = 3,
     /// The hand has an open span.
     Open = 4,
@@ -17,7 +18,7 @@ pub enum Fault {
     NotOpen = 5,
     /// There is no ring of this number.
     Ring = 6,
-    /// A count of 0, or above the limit, or one that doesn't fit the open span.
+    /// A count of 0, or above the limit, or one that doesn't fit the open span; or no such port.
     Count = 7,
     /// The side is not head/tail-sync.
     Mode = 8,
@@ -31,17 +32,17 @@ pub enum Fault {
     Shared = 12,
     /// No memory.
     Memory = 13,
-    /// Rings, routes or a window of these sizes are not possible.
+    /// A size, mode or depth that is not possible.
     Plan = 14,
     /// The positions of the ring are used up.
     Worn = 15,
-    /// Too many splits lie between the hand and the first one.
+    /// No hand is left to give out: the limit is 2^62.
     Parts = 16,
     /// A number that the pool's handle doesn't have, or that is given twice.
     NotYours = 17,
     /// A depth that is not 1 to 32.
     Depth = 20,
-    /// A next hop of 2^24 or more.
+    /// There is no next hop of this number, or it is 2^24 or more.
     Hop = 21,
     /// The routes would need more groups than the table may have.
     Groups = 22,

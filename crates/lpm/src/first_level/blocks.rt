@@ -1,4 +1,4 @@
-//! First-level entries in blocks. A block that no route has covered in part takes the memory of one entry.
+//! First-level entries in blocks. A block that no route has covered in part takes 8 bytes.
 
 ghost use Rattle.std.specs.Prelude.{◌≡◌, ◌+◌, ◌*◌, ◌%◌, ◌≤◌, ◌<◌, ◌^◌, ◌⊎◌, length, replicate, slice_index_or, slice_set};
 ghost use Rattle.std.specs.Prelude.{vec_len, vec_capacity, IfOk, IsTrue, false};

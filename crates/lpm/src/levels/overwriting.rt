@@ -35,7 +35,7 @@ impl Levels {
         overwrite(&mut self.groups, start, end, depth, entry);
     }
 
-    /// Overwrites every place of one entry.
+    /// Writes `entry` to each place of one entry, except those of deeper routes.
     // inlined, as what it calls is: a route of few bits has millions of entries
     #[inline(always)]
     fn overwrite_entry(&mut self, first: usize, depth: u8, entry: PackedEntry)

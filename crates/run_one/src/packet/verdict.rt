@@ -12,7 +12,7 @@ use stages_laws::Run;
 use std::marker::PhantomData;
 
 impl<J: Run> Unjudged<J> {
-    /// The packet after its verdict. An earlier lookup of its destination saves one.
+    /// The packet after its verdict. Reuses an earlier lookup of the destination, if one is given.
     pub fn judge(self, table: &Table, ports: &Ports, prefetched: Option<Prefetched>) -> Judged<J>
         requires prefetched { IfSome prefetched (IsPrefetched table.now.members) }
         requires rules { forwarded table.now.members ports.now ≡ J.forwarding }
