@@ -1,5 +1,5 @@
-//! The exports for lookups and forwarding by what was published last. Each call takes the reader out of its handle and
-//! puts it back.
+//! The exports for lookups and forwarding by the last version of a table. Each call takes the reader out of its handle
+//! and puts it back.
 ghost use Rattle.std.specs.Prelude.{◌≡◌, IfErr};
 ghost use Rattle.lpm.specs.Match.{lookup_in};
 ghost use Rattle.capi.specs.Codes.{Answers};
@@ -119,7 +119,7 @@ fn addressed_at(alloc: Global, h: &mut Handle, port: usize, frame: &[u8]) -> Res
     outcome
 }
 
-/// Holds what was published last for the calls that follow. What is held already stays.
+/// Holds the last version for the calls that follow. A version that is held already stays.
 #[unsafe(no_mangle)]
 pub extern "C" fn hkx_forward_hold(alloc: Global, h: &mut Handle) -> i64
     ensures { Answers result (λ outcome. AtReader h.old.value h.new.value outcome (Holds outcome)) }
@@ -144,7 +144,7 @@ pub extern "C" fn hkx_forward_lookup(alloc: Global, h: &mut Handle, address: u32
     answer(look_up_at(alloc, h, address))
 }
 
-/// The next hops for addresses, each at its address's place, all by one publish; 2^32 - 1 if no route covers an
+/// The next hops for addresses, each at its address's place, all by one version; 2^32 - 1 if no route covers an
 /// address.
 #[unsafe(no_mangle)]
 pub extern "C" fn hkx_forward_lookup_bulk(

@@ -1,5 +1,5 @@
-//! Calls on a reader of a forwarding table. Each is answered by what was published last, and neither waits nor takes
-//! memory.
+//! Calls on a reader of a forwarding table. Each uses the last version, or the one that the reader holds, and neither
+//! waits nor takes memory.
 ghost use Rattle.std.specs.Prelude.{◌≡◌, ◌↔◌, true, IfErr, IsTrue};
 ghost use Rattle.lpm.specs.Match.{lookup_in};
 ghost use Rattle.live_value.specs.Pasts.{IsLater};
@@ -39,7 +39,7 @@ fn end(reader: &mut Reader, held: bool)
     }
 }
 
-/// Holds what was published last for the calls that follow.
+/// Holds the last version for the calls that follow.
 pub(crate) fn hold(slot: &mut Option<Object>) -> Result<u32, Fault>
     ensures { AtReader slot.old slot.new result (Holds result) }
 {

@@ -1,8 +1,9 @@
 //! Routes, next hops and ports that one writer changes and publishes while readers look up, and forwarding by them. No
 //! call waits.
 //!
-//! `writer` and `reader` are the two ends, over two copies of a `fib`. `forwarding` forwards frames where they lie by
-//! what a reader has in hand: one frame (`frame`) or a burst (`bursts`). `addressed`: what a frame is addressed to.
+//! `writer` and `reader` are the two ends, over two copies of a `fib`. Each publish makes a version. `forwarding`
+//! forwards frames where they lie, by the version that a reader has entered: one frame (`frame`) or a burst (`bursts`).
+//! `addressed`: what a frame is addressed to.
 #![tactic(auto)]
 
 mod addressed;

@@ -1,4 +1,4 @@
-//! A reader: it looks up in what was published last. It neither waits nor takes memory.
+//! A reader: it looks up in the last version of a table. It neither waits nor takes memory.
 
 ghost use Rattle.std.specs.Prelude.{◌≡◌, true, false, length, map};
 ghost use Rattle.lpm.specs.Match.{lookup_in};
@@ -29,14 +29,14 @@ impl<H: Copy, P: Copy> Model for RouteReader<H, P> {
 }
 
 impl<H: Copy, P: Copy> RouteReader<H, P> {
-    /// A reader that has nothing in hand.
+    /// A reader that has entered no version.
     pub(crate) fn over(reader: Reader<Fib<H, P>>) -> RouteReader<H, P>
         ensures { (result.seen ≡ reader.seen) × (result.inside ≡ reader.inside) }
     {
         RouteReader { reader }
     }
 
-    /// Whether something is in hand: `enter` was called, and `leave` not since then.
+    /// Whether it has entered a version: `enter` was called, and `leave` not since then.
     #[inline]
     pub fn is_inside(&self) -> bool
         ensures { result ≡ self.now.inside }
@@ -44,8 +44,8 @@ impl<H: Copy, P: Copy> RouteReader<H, P> {
         self.reader.is_inside()
     }
 
-    /// The number of the next hop for an address, in what was published last, which is no older than anything that this
-    /// reader saw. Between `enter` and `leave` it is in what the reader has in hand.
+    /// The number of the next hop for an address, by the last version, which is no older than any that this reader
+    /// used. Between `enter` and `leave` it is by the version that the reader has entered.
     #[inline]
     pub fn lookup(&mut self, addr: u32) -> Option<u32>
         ensures answer { result ≡ lookup_in self.new.seen.latest.members addr }
@@ -62,8 +62,8 @@ impl<H: Copy, P: Copy> RouteReader<H, P> {
         hop
     }
 
-    /// The numbers of the next hops for a burst of addresses, all in what was published last, which is no older than
-    /// anything that this reader saw. Between `enter` and `leave` they are in what the reader has in hand.
+    /// The numbers of the next hops for a burst of addresses, all by the last version, which is no older than any that
+    /// this reader used. Between `enter` and `leave` they are by the version that the reader has entered.
     pub fn lookup_burst(&mut self, addresses: &[u32], hops: &mut [NextHop])
         requires { length addresses.now ≡ length hops.old }
         ensures answers { hops.new ≡ map (lookup_in self.new.seen.latest.members) addresses.now }
@@ -80,8 +80,8 @@ impl<H: Copy, P: Copy> RouteReader<H, P> {
         self.reader.leave();
     }
 
-    /// Takes what was published last in hand: routes, next hops and ports of one publish. It is no older than anything
-    /// that this reader saw. The writer can't change it before `leave`. Where something is in hand already, that stays.
+    /// Enters the last version: routes, next hops and ports of one publish. It is no older than any that this reader
+    /// used, and the writer can't change it before `leave`. A version that the reader has entered already stays.
     #[inline]
     pub fn enter(&mut self)
         ensures inside { self.new.inside ≡ true }
@@ -93,7 +93,7 @@ impl<H: Copy, P: Copy> RouteReader<H, P> {
         }
     }
 
-    /// What is in hand. Requires: `enter` was called, and `leave` not since then.
+    /// The version that it has entered. Requires: `enter` was called, and `leave` not since then.
     #[inline]
     pub fn fib(&self) -> &Fib<H, P>
         requires { self.now.inside ≡ true }
@@ -102,7 +102,7 @@ impl<H: Copy, P: Copy> RouteReader<H, P> {
         self.reader.value()
     }
 
-    /// Lets go what is in hand.
+    /// Leaves the version that it has entered.
     #[inline]
     pub fn leave(&mut self)
         ensures inside { self.new.inside ≡ false }

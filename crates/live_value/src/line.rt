@@ -17,7 +17,7 @@ pub struct Line<T: Drop> {
 }
 
 impl<T: Drop> Line<T> {
-    /// Shows the reader what was published last, if it isn't shown yet. Whether the value before it is back.
+    /// Shows the reader what was published last, if it isn't shown yet. Returns whether the value before it is back.
     fn catch_up(&mut self, shown: &Arc<T, Global>, history: &History<T>) -> bool
         requires shown { history.now.latest ≡ arc_value shown.now }
         requires was { IsShown history.now true self.old }
@@ -35,8 +35,8 @@ impl<T: Drop> Line<T> {
     }
 }
 
-/// Shows each reader what was published last, if it isn't shown yet. Whether the value before it is back from all
-/// readers.
+/// Shows each reader what was published last, if it isn't shown yet. Returns whether the value before it is back from
+/// all readers.
 pub fn catch_up<T: Drop>(
     lines: &mut [Line<T>],
     shown: &Arc<T, Global>,

@@ -1,4 +1,5 @@
-//! A reader: it takes what was published last, looks at it, and lets it go. It neither waits nor takes memory.
+//! A reader: it enters the value that was published last, looks at it, and leaves it. It neither waits nor takes
+//! memory.
 ghost use Rattle.std.specs.Prelude.{◌≡◌, ◌<◌, true, false, []};
 ghost use Rattle.std.specs.Arc.{arc_value};
 ghost use Rattle.live_value.specs.Lanes.{IsSized, doing};
@@ -11,7 +12,7 @@ use std::marker::Model;
 use std::sync::Arc;
 
 /// A reader of one writer's values. Contracts see the values that it has seen published (`seen`), and whether it has
-/// the last of them in hand (`inside`).
+/// entered the last of them (`inside`).
 #[derive(Drop)]
 pub struct Reader<T: Drop> {
     lane: Arc<Lane<T>, Global>,
@@ -48,7 +49,7 @@ impl<T: Drop> Reader<T> {
         }
     }
 
-    /// Whether the value that was published last is in hand.
+    /// Whether the reader has entered the value that was published last.
     #[inline]
     pub fn is_inside(&self) -> bool
         ensures { result ≡ self.now.inside }
@@ -56,7 +57,7 @@ impl<T: Drop> Reader<T> {
         self.held.is_some()
     }
 
-    /// Takes the value that was published last. It is no older than any that this reader saw. Never fails and never
+    /// Enters the value that was published last. It is no older than any that this reader saw. Never fails and never
     /// waits. The writer can't have the value back before `leave`.
     pub fn enter(&mut self)
         requires { self.old.inside ≡ false }
@@ -69,7 +70,7 @@ impl<T: Drop> Reader<T> {
         self.side = side;
     }
 
-    /// The value in hand.
+    /// The value that it has entered.
     pub fn value(&self) -> &T
         requires { self.now.inside ≡ true }
         ensures { result.now ≡ self.now.seen.latest }

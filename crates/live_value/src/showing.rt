@@ -114,7 +114,7 @@ impl<T: Drop> Showing<T> {
         self.side = other;
     }
 
-    /// Whether the reader has let go the value before the last, which is then dropped here.
+    /// Whether the reader has left the value before the last, which is then dropped here.
     pub fn collect(&mut self) -> bool
         ensures back { OnTrue result ((self.new.seen ≡ self.old.seen) × (self.new.owed ≡ false)) }
         ensures same { OnFalse result (self.new ≡ self.old) }
