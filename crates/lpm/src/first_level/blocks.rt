@@ -103,9 +103,9 @@ impl Blocks {
         self.places[offset.wrapping_add(first as u32) as usize] = entry;
     }
 
-    /// Overwrites the entries of the block that begins with this one, or returns false and changes nothing. It is one
-    /// step if the block has one entry for all of them, which names no group; the contract allows false then, too.
-    /// Takes no memory.
+    /// Writes `entry` to those entries of the block that begins with this one whose depth is at most `depth`, in one
+    /// step, and returns true; or returns false and changes nothing. It returns true only if the block has one entry
+    /// for all of them, which names no group; the contract allows false then, too. Takes no memory.
     pub fn overwrite_block(&mut self, first: usize, depth: u8, entry: PackedEntry) -> bool
         requires { first + 256 ≤ length self.old }
         ensures done { IsTrue result → OverwritesFrom self.old self.new first (first + 256) depth entry }

@@ -35,7 +35,7 @@ impl Levels {
         overwrite(&mut self.groups, start, end, depth, entry);
     }
 
-    /// Writes `entry` to each place of one entry, except those of deeper routes.
+    /// Writes `entry` to each place of one entry whose depth is at most `depth`. So do the functions below.
     // inlined, as what it calls is: a route of few bits has millions of entries
     #[inline(always)]
     fn overwrite_entry(&mut self, first: usize, depth: u8, entry: PackedEntry)
@@ -52,8 +52,7 @@ impl Levels {
         }
     }
 
-    /// Overwrites every place of the entries of the block that begins with this one, or returns false and changes
-    /// nothing.
+    /// Writes to the places of the block that begins with this entry, or returns false and changes nothing.
     fn overwrite_block(&mut self, first: usize, depth: u8, entry: PackedEntry) -> bool
         requires within { first + 256 ≤ 2 ^ self.old.bits }
         requires plain { is_group entry ≡ false }
@@ -64,8 +63,8 @@ impl Levels {
         self.first.overwrite_block(first, depth, entry)
     }
 
-    /// Overwrites every place of some entries, from `first` on, but none from `to` on. Returns how many: a block, if
-    /// that is one step, or one.
+    /// Writes to the places of some entries, from `first` on, but none from `to` on. Returns how many entries: a block,
+    /// if that is one step, or one.
     #[inline(always)]
     fn overwrite_some(&mut self, first: usize, to: usize, depth: u8, entry: PackedEntry) -> usize
         requires some { first < to }
@@ -85,7 +84,7 @@ impl Levels {
         1
     }
 
-    /// Overwrites every place of the entries from `from` up to `to`, exclusive.
+    /// Writes to the places of the entries from `from` up to `to`, exclusive.
     fn overwrite_entries(&mut self, from: usize, to: usize, depth: u8, entry: PackedEntry)
         requires ordered { from ≤ to }
         requires within { to ≤ 2 ^ self.old.bits }
@@ -99,7 +98,7 @@ impl Levels {
         }
     }
 
-    /// Overwrites the places of a prefix. If it is deeper than the first level, its entry has to have a group.
+    /// Writes to the places of a prefix. If it is deeper than the first level, its entry has to have a group.
     pub fn overwrite(&mut self, prefix: Prefix, entry: PackedEntry)
         requires depth { IsDepth prefix.depth }
         requires masked { masked prefix.address prefix.depth ≡ prefix.address }
