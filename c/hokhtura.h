@@ -19,9 +19,9 @@
  * says otherwise, a code means that nothing was changed: no handle, no array, no ring. Of several mistakes a call
  * returns the first of these: HK_E_COUNT, if it is given an array of words, numbers, addresses or frames and a count
  * above the largest; HK_E_NULL; the others in the order in which its comment lists them. Such an array may be null if
- * its count is 0. HK_E_MEMORY may come before any of these; so may HK_E_AGAIN before HK_E_NOROOM and HK_E_WORN, if
- * another call has a head/tail-sync side open. No call ends the process, waits for another thread, sleeps or loops
- * without a limit; what the allocator does comes on top.
+ * its count is 0. HK_E_MEMORY may come before any of these. If another call has a head/tail-sync side open, HK_E_AGAIN
+ * comes before HK_E_NOROOM and HK_E_WORN. No call ends the process, waits for another thread, sleeps or loops without a
+ * limit; what the allocator does comes on top.
  *
  * TRIES. A put or a take has two steps: it reserves positions, and finishes. A peek has only the first step, and a call
  * that finishes only the second. If other threads come first, a call tries each of its steps 1,024 times at most, the

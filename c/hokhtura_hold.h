@@ -76,7 +76,7 @@ static inline int64_t hk_end_take_at_an_edge(hk_end *end, uint64_t *word) {
 }
 
 /* Takes the next word. Returns HK_OK, or a code of hk_ring_hold_take_burst, as HK_E_NOROOM if the ring is empty: then
- * `*word` is unchanged, and the side isn't held. */
+ * `*word` is unchanged, and the side isn't held, unless `word` is null (HK_E_NULL). */
 static inline int64_t hk_end_take(hk_end *end, uint64_t *word) {
     int64_t code;
     if (end->left <= 1) return hk_end_take_at_an_edge(end, word);

@@ -135,8 +135,8 @@ impl Fib {
     ///
     /// # Errors
     ///
-    /// `Plan` for a prefix above 32 bits; `Pending`; `Count` if `number` isn't below the number of ports that the table was
-    /// opened with; `Memory`.
+    /// `Plan` for a prefix above 32 bits; `Pending`; `Count` if `number` isn't below the number of ports that the table
+    /// was opened with; `Memory`.
     pub fn set_port(&mut self, number: u32, port: &Port) -> Result<(), Error> {
         answer(unsafe { ffi::hk_fib_set_port(self.0.as_ptr(), number, &port.plan()) }).map(drop)
     }

@@ -29,8 +29,8 @@ pub fn verdict_of_frame(frame: &[u8], table: &Table, ports: &Ports, wire: usize)
 
 /// The verdict on a frame that was `wire` bytes long and whose captured bytes are in one slice. The frame is rewritten
 /// in place as it leaves if it is sent: what `forward` does to one in a chain. A dropped frame is unchanged. Reuses an
-/// earlier lookup of the destination, if one is given. Requires: `wire` is at least the number of bytes, and the earlier
-/// lookup was in a table with the same routes. Takes no memory.
+/// earlier lookup of the destination, if one is given. Requires: `wire` is at least the number of bytes, and the
+/// earlier lookup was in a table with the same routes. Takes no memory.
 #[inline]
 pub fn forward_frame(
     frame: &mut [u8],

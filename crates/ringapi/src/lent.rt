@@ -139,8 +139,8 @@ pub fn put_burst_from<'f, T: Tagged, const N: usize, S: Stored<T>, R: Wait>(
 /// `put_bulk_from` for items that the hand may put, as a caller that got them from a pool knows: nothing is tested
 /// before the start. Requires: it may put them.
 ///
-/// Errors, in the order of the tests: `BadCount` if the list is empty; `NoRoom`; `Worn`. Never `NotYours`, `Open`, `Busy`
-/// or `Contended`. Allocates nothing; any number of steps on words.
+/// Errors, in the order of the tests: `BadCount` if the list is empty; `NoRoom`; `Worn`. Never `NotYours`, `Open`,
+/// `Busy` or `Contended`. Allocates nothing; any number of steps on words.
 pub fn put_own_bulk_from<'f, T: Tagged, const N: usize, S: Stored<T>, R: Wait>(
     rt: &R,
     f: &'f Fabric<T, N, S>,
@@ -159,8 +159,8 @@ pub fn put_own_bulk_from<'f, T: Tagged, const N: usize, S: Stored<T>, R: Wait>(
 /// `put_burst_from` for items that the hand may put, as a caller that got them from a pool knows: nothing is tested
 /// before the start. Requires: it may put them.
 ///
-/// Errors, in the order of the tests: `BadCount` if the list is empty; `NoRoom`; `Worn`. Never `NotYours`, `Open`, `Busy`
-/// or `Contended`. Allocates nothing; any number of steps on words.
+/// Errors, in the order of the tests: `BadCount` if the list is empty; `NoRoom`; `Worn`. Never `NotYours`, `Open`,
+/// `Busy` or `Contended`. Allocates nothing; any number of steps on words.
 pub fn put_own_burst_from<'f, T: Tagged, const N: usize, S: Stored<T>, R: Wait>(
     rt: &R,
     f: &'f Fabric<T, N, S>,
