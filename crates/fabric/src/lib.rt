@@ -33,6 +33,6 @@ pub use items::front::Front;
 pub use items::words::Words;
 pub use items::{Items, PutItems, TakeItems};
 pub use open::{OpenFault, Opened};
-pub use place::Place;
+pub use place::{Known, Place};
 pub use spans::TakeOpen;
 pub use stored::{Cell, Stored};

@@ -1,7 +1,7 @@
 //! Where a ring is, for a caller that calls the same ring again and again: its number and its shape, looked up once.
 ghost use Rattle.std.specs.Prelude.{◌≡◌, ◌<◌, length};
 ghost use Rattle.fabric.specs.Hands.{rings_of};
-ghost use Rattle.fabric.specs.Places.{IsPlaceOf, place_mode, place_ring};
+ghost use Rattle.fabric.specs.Places.{IsKnown, IsPlaceOf, place_mode, place_ring};
 
 use crate::fabric::Fabric;
 use crate::plan::Shape;
@@ -15,6 +15,14 @@ use geom::{Mode, Side};
 pub struct Place {
     pub(crate) index: usize,
     pub(crate) shape: Shape,
+}
+
+/// What a caller knows of a side of a ring. Where it is a constant, a call doesn't test it.
+#[derive(Clone, Copy)]
+pub struct Known {
+    pub mode: Mode,
+    /// Whether it is a free ring, whose items carry one buffer each.
+    pub free: bool,
 }
 
 impl Place {
@@ -33,6 +41,17 @@ impl Place {
     {
         self.shape.plan.mode(side)
     }
+
+    /// What there is to know of a side.
+    #[inline(always)]
+    pub fn known(&self, side: Side) -> Known
+        ensures { IsKnown self.now side result }
+    {
+        Known {
+            mode: self.mode(side),
+            free: self.shape.plan.free,
+        }
+    }
 }
 
 impl<T: Tagged, const N: usize, S: Stored<T>> Fabric<T, N, S> {
@@ -48,18 +67,27 @@ impl<T: Tagged, const N: usize, S: Stored<T>> Fabric<T, N, S> {
         }
     }
 
-    /// The ring at a place.
+    /// The ring at a place, for a call on a side of which this is known.
     #[inline(always)]
-    pub(crate) fn at<'f>(&'f self, place: &'f Place) -> Ring<'f, T, N, S>
-        requires { IsPlaceOf self.now place.now }
+    pub(crate) fn at<'f>(&'f self, place: &'f Place, side: Side, known: Known) -> Ring<'f, T, N, S>
+        requires of { IsPlaceOf self.now place.now }
+        requires known { IsKnown place.now side known }
         ensures of { result.fabric.now ≡ self.now }
         ensures index { result.index ≡ place.now.index }
         ensures shape { result.shape.now ≡ place.now.shape }
     {
+        let plan = &place.shape.plan;
+        let (put, take) = match side {
+            Side::Put => (known.mode, plan.take),
+            Side::Take => (plan.put, known.mode),
+        };
         Ring {
             fabric: self,
             index: place.index,
             shape: &place.shape,
+            put,
+            take,
+            free: known.free,
         }
     }
 }

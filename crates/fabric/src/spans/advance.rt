@@ -99,7 +99,7 @@ impl<T: Tagged, const N: usize, S: Stored<T>> Ring<'_, T, N, S> {
         if k >= range.count {
             return Err(SettleFault::BadCount);
         }
-        if !items.disown(self.shape.plan.free, &mut share.owned) {
+        if !self.disown(items, &mut share.owned) {
             return Err(SettleFault::NotYours);
         }
         self.publish_first(&mut share.seat, range, items);

@@ -16,7 +16,6 @@ use crate::hand::in_place::HandInPlace;
 use crate::ring::Ring;
 use crate::stored::{Cell, Stored};
 use crate::words::step_kinds::Counts;
-use crate::words::steps::settled_word;
 use atomic_table::Seat;
 use burst::Tagged;
 use fabric_laws::View;
@@ -33,12 +32,11 @@ impl<T: Tagged, const N: usize, S: Stored<T>> Ring<'_, T, N, S> {
             × Was T.numbers seat.old.me.0
             (settled_word_at (mode_of self.now.shape.now.plan side) self.now.index side) x }
     {
-        let mode = self.shape.plan.mode(side);
         let found = self
             .fabric
             .table
             .shared
-            .load::<Counts>(seat, settled_word(mode, self.index, side));
+            .load::<Counts>(seat, self.shape.settled_word(self.index, side));
         self.shape.position(side, found)
     }
 

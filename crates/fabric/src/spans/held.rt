@@ -54,7 +54,9 @@ impl<T: Tagged, const N: usize, S: Stored<T>> HandInPlace<T, N, S> {
         ensures owned { IfOk result
             (λ _. HoldsLess T.numbers (placed_view self.old) (I.items items.old) (placed_view self.new)) }
     {
-        self.try_advance_put_at(fabric, &fabric.place(reserved.ring), reserved, items)
+        let place = fabric.place(reserved.ring);
+        let known = place.known(Side::Put);
+        self.try_advance_put_at(fabric, &place, known, reserved, items)
     }
 
     /// Tries once to hold the take side of a head/tail-sync ring: by bulk with `n` items, by burst with at most `n`.

@@ -9,7 +9,7 @@ ghost use Rattle.fabric.specs.Advances.{IsRestOf, RefusesAdvance};
 ghost use Rattle.fabric.specs.Hands.{OnRing};
 ghost use Rattle.fabric.specs.Held.{reserved_count, reserved_ring, span_at};
 ghost use Rattle.fabric.specs.InPlace.{IsPlacedOf, placed_view};
-ghost use Rattle.fabric.specs.Places.{HasCounts, IsPlaceOf, place_mode, place_ring};
+ghost use Rattle.fabric.specs.Places.{HasCounts, IsKnown, IsPlaceOf, place_mode, place_ring};
 ghost use Rattle.fabric.specs.Settles.{HoldsLess, HoldsMore};
 ghost use Rattle.fabric.specs.WholeCalls.{HasMoved, RefusesPut, RefusesTake};
 ghost use Rattle.fabric.specs.declared.hand.in_place.OpenSpan.TheVariants as open_span;
@@ -20,19 +20,21 @@ use crate::hand::in_place::{HandInPlace, OpenSpan, Reserved, WholeFault};
 use crate::items::front::Front;
 use crate::items::words::Words;
 use crate::items::{PutItems, TakeItems};
-use crate::place::Place;
+use crate::place::{Known, Place};
 use crate::stored::Stored;
 use burst::{Tagged, Word};
 use geom::{How, Side};
 
 impl<T: Tagged, const N: usize, S: Stored<T>> HandInPlace<T, N, S> {
     /// `try_put` on the ring at this place, of at most `most` items, which may be more than `N`. Requires: it
-    /// isn't more than any ring holds, and the word of a head/tail-sync side has room for as many.
+    /// isn't more than any ring holds, and the word of a head/tail-sync side has room for as many; what is `known` of
+    /// the put side is so.
     #[inline(always)]
     pub fn try_put_at<I: PutItems<T>>(
         &mut self,
         fabric: &Fabric<T, N, S>,
         place: &Place,
+        known: Known,
         items: &mut I,
         most: usize,
         how: How,
@@ -40,6 +42,7 @@ impl<T: Tagged, const N: usize, S: Stored<T>> HandInPlace<T, N, S> {
         requires of { IsPlacedOf fabric.now self.old }
         requires idle { self.old.span ≡ open_span.Idle }
         requires place { IsPlaceOf fabric.now place.now }
+        requires known { IsKnown place.now Put known }
         requires counts { HasCounts place.now Put most }
         requires small { N < most → most < 2 ^ 20 }
         ensures of { IsPlacedOf fabric.now self.new }
@@ -51,7 +54,7 @@ impl<T: Tagged, const N: usize, S: Stored<T>> HandInPlace<T, N, S> {
             (place_ring place.now) (placed_view self.old) (I.items items.old) self.new.span (placed_view self.new) e
             × (I.items items.new ≡ I.items items.old)) }
     {
-        let target = fabric.at(place);
+        let target = fabric.at(place, Side::Put, known);
         let range = match target.open_span(&mut self.share, Side::Put, items.len(), most, how) {
             Ok(range) => range,
             Err(fault) => return Err(WholeFault::Start(fault)),
@@ -69,18 +72,21 @@ impl<T: Tagged, const N: usize, S: Stored<T>> HandInPlace<T, N, S> {
         }
     }
 
-    /// `try_advance_put` on the ring at this place. Requires: it is the ring of the open span.
+    /// `try_advance_put` on the ring at this place. Requires: it is the ring of the open span, and what is `known` of
+    /// the put side is so.
     #[inline(always)]
     pub fn try_advance_put_at<I: PutItems<T>>(
         &mut self,
         fabric: &Fabric<T, N, S>,
         place: &Place,
+        known: Known,
         reserved: Reserved,
         items: &mut I,
     ) -> Result<Reserved, SettleFault>
         requires of { IsPlacedOf fabric.now self.old }
         requires open { self.old.span ≡ open_span.Put reserved }
         requires place { IsPlaceOf fabric.now place.now }
+        requires known { IsKnown place.now Put known }
         requires here { place_ring place.now ≡ reserved_ring reserved }
         requires hts { place_mode place.now Put ≡ Hts }
         ensures of { IsPlacedOf fabric.now self.new }
@@ -97,7 +103,7 @@ impl<T: Tagged, const N: usize, S: Stored<T>> HandInPlace<T, N, S> {
             (λ _. HoldsLess T.numbers (placed_view self.old) (I.items items.old) (placed_view self.new)) }
     {
         match fabric
-            .at(place)
+            .at(place, Side::Put, known)
             .advance_put(&mut self.share, reserved.range, items)
         {
             Ok(range) => {
@@ -141,8 +147,9 @@ impl<T: Tagged, const N: usize, S: Stored<T>> HandInPlace<T, N, S> {
         ensures apart { AreDistinct (flat_map T.numbers (take k (placed_view self.old).shown)) }
         ensures beside { I.beside into.old into.new }
     {
+        let known = place.known(Side::Take);
         let range = fabric
-            .at(place)
+            .at(place, Side::Take, known)
             .advance_take(&mut self.share, reserved.range, k, into);
         let rest = Reserved {
             ring: reserved.ring,
@@ -155,12 +162,14 @@ impl<T: Tagged, const N: usize, S: Stored<T>> HandInPlace<T, N, S> {
 
 impl<T: Word, const N: usize, S: Stored<T>> HandInPlace<T, N, S> {
     /// `try_take` on the ring at this place, of at most `most` words, which may be more than `N`. Requires: it
-    /// isn't more than any ring holds, and the word of a head/tail-sync side has room for as many.
+    /// isn't more than any ring holds, and the word of a head/tail-sync side has room for as many; what is `known` of
+    /// the take side is so.
     #[inline(always)]
     pub fn try_take_at(
         &mut self,
         fabric: &Fabric<T, N, S>,
         place: &Place,
+        known: Known,
         into: &mut [T],
         most: usize,
         how: How,
@@ -168,6 +177,7 @@ impl<T: Word, const N: usize, S: Stored<T>> HandInPlace<T, N, S> {
         requires of { IsPlacedOf fabric.now self.old }
         requires idle { self.old.span ≡ open_span.Idle }
         requires place { IsPlaceOf fabric.now place.now }
+        requires known { IsKnown place.now Take known }
         requires counts { HasCounts place.now Take most }
         requires small { N < most → most < 2 ^ 20 }
         ensures of { IsPlacedOf fabric.now self.new }
@@ -179,7 +189,7 @@ impl<T: Word, const N: usize, S: Stored<T>> HandInPlace<T, N, S> {
         ensures refused { IfErr result (λ e. RefusesTake T.numbers fabric.now most how (length into.old)
             (place_ring place.now) (placed_view self.old) into.old into.new self.new.span (placed_view self.new) e) }
     {
-        let target = fabric.at(place);
+        let target = fabric.at(place, Side::Take, known);
         let n = into.len();
         let mut front = Front {
             words: &mut *into,

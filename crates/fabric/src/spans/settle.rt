@@ -1,8 +1,8 @@
 //! Settling a span: its slots are filled, or the rest of a take is put back, and one step on a word returns them to the
 //! ring.
-ghost use Rattle.std.specs.Prelude.{◌≡◌, ◌+◌, ◌-◌, ◌<◌, ◌≤◌, ◌++◌, List, [], length, map, take, drop, replicate};
+ghost use Rattle.std.specs.Prelude.{◌≡◌, ◌==◌, ◌+◌, ◌-◌, ◌<◌, ◌≤◌, ◌++◌, List, [], length, map, take, drop, replicate};
 ghost use Rattle.std.specs.Prelude.{None, Some, IfNone, IfSome, IfOk, IfErr, true, false};
-ghost use Rattle.std.specs.List.{flat_map};
+ghost use Rattle.std.specs.List.{flat_map, list_all};
 ghost use Rattle.burst.specs.Numbers.{AreDistinct};
 ghost use Rattle.geom.specs.Plan.{mode_of};
 ghost use Rattle.geom.specs.declared.plan.Mode.TheVariants.{Multi};
@@ -15,12 +15,14 @@ ghost use Rattle.fabric_laws.specs.Refusals.{WasEarlier};
 ghost use Rattle.burst.specs.Items.{somes};
 ghost use Rattle.fabric.specs.Rings.{IsSameSeat, IsSeated, slots_of};
 ghost use Rattle.fabric.specs.Hands.{rings_of};
+ghost use Rattle.fabric.specs.Owned.{all_there, cleared};
 ghost use Rattle.fabric.specs.Refused.{IsUnsettled};
 ghost use Rattle.fabric.specs.Settles.{HoldsLess, HoldsMore, IsCount};
 ghost use Rattle.fabric.specs.declared.hand.SettleFault.TheVariants.{NotYours};
 ghost use Rattle.fabric.specs.Slots.{values};
 ghost use Rattle.fabric.specs.Views.{span_of};
 
+use crate::hand::owned::Owned;
 use crate::hand::{SettleFault, Share};
 use crate::items::{Items, PutItems};
 use crate::ring::{Positions, Ring};
@@ -31,18 +33,34 @@ use burst::Tagged;
 use fabric_laws::View;
 use geom::{Mode, Side};
 
-/// Whether `k` of a span's positions may be settled.
-pub(crate) fn is_count(mode: Mode, k: usize, count: usize) -> bool
-    ensures good { result ≡ true → IsCount mode k count }
-    ensures bad { result ≡ false → IsCount mode k count → ⊥ }
-{
-    match mode {
-        Mode::Multi => k == count,
-        Mode::Hts => k <= count,
-    }
-}
-
 impl<T: Tagged, const N: usize, S: Stored<T>> Ring<'_, T, N, S> {
+    /// Whether `k` positions of a side's span may be settled.
+    #[inline(always)]
+    fn is_count(&self, side: Side, k: usize, count: usize) -> bool
+        ensures good { result ≡ true → IsCount (mode_of self.now.shape.now.plan side) k count }
+        ensures bad { result ≡ false → IsCount (mode_of self.now.shape.now.plan side) k count → ⊥ }
+    {
+        match self.mode(side) {
+            Mode::Multi => k == count,
+            Mode::Hts => k <= count,
+        }
+    }
+
+    /// Clears the buffers of items that may be put here, as `PutItems::disown` does.
+    #[inline(always)]
+    pub(crate) fn disown<I: PutItems<T>>(&self, items: &I, owned: &mut Owned) -> bool
+        ensures mine { result ≡ true → (owned.new ≡ cleared owned.old (flat_map T.numbers (I.items items.now)))
+            × (all_there owned.old (flat_map T.numbers (I.items items.now)) ≡ true)
+            × (self.now.shape.now.plan.free ≡ true
+            → list_all (λ x. length (T.numbers x) == 1) (I.items items.now) ≡ true) }
+        ensures kept { result ≡ false → owned.new ≡ owned.old }
+        ensures other { result ≡ false → all_there owned.old (flat_map T.numbers (I.items items.now)) ≡ true
+            → (self.now.shape.now.plan.free ≡ true)
+            × (list_all (λ x. length (T.numbers x) == 1) (I.items items.now) ≡ false) }
+    {
+        items.disown(self.free, owned)
+    }
+
     /// Settles the first `k` positions of the open span of a side, in one step on a word. If an earlier span of a multi
     /// side isn't settled, nothing is done, and the tail found is returned.
     #[inline(always)]
@@ -69,7 +87,7 @@ impl<T: Tagged, const N: usize, S: Stored<T>> Ring<'_, T, N, S> {
         ensures true_refusal { IfSome result
             (λ x. WasEarlier T.numbers (span_of self.now.index side range.start range.count) seat.old.me.0 x) }
     {
-        match self.shape.plan.mode(side) {
+        match self.mode(side) {
             Mode::Hts => {
                 self.store(seat, side, range.start, k);
                 None
@@ -170,10 +188,10 @@ impl<T: Tagged, const N: usize, S: Stored<T>> Ring<'_, T, N, S> {
             (λ _. HoldsLess T.numbers share.old.seat.me.0 (I.items items.old) share.new.seat.me.0) }
     {
         let count = items.len();
-        if !is_count(self.shape.plan.put, count, range.count) {
+        if !self.is_count(Side::Put, count, range.count) {
             return Err(SettleFault::BadCount);
         }
-        if !items.disown(self.shape.plan.free, &mut share.owned) {
+        if !self.disown(items, &mut share.owned) {
             return Err(SettleFault::NotYours);
         }
         let Some(tail) = self.publish(&mut share.seat, range, items) else {
@@ -352,7 +370,7 @@ impl<T: Tagged, const N: usize, S: Stored<T>> Ring<'_, T, N, S> {
             (λ _. HoldsMore T.numbers share.old.seat.me.0 (take k (I.items items.old)) share.new.seat.me.0) }
         ensures beside { (before : I) → I.beside before items.old → I.beside before items.new }
     {
-        if !is_count(self.shape.plan.take, k, range.count) {
+        if !self.is_count(Side::Take, k, range.count) {
             return Err(SettleFault::BadCount);
         }
         match self.dequeue(&mut share.seat, range, k, items) {

@@ -11,7 +11,7 @@ use crate::hand::in_place::{HandInPlace, Reserved, WholeFault};
 use crate::items::PutItems;
 use crate::stored::Stored;
 use burst::{Tagged, Word};
-use geom::How;
+use geom::{How, Side};
 
 impl<T: Tagged, const N: usize, S: Stored<T>> HandInPlace<T, N, S> {
     /// Tries once to put the first of these words: by bulk all, by burst as many as there is room for. At most four
@@ -38,7 +38,9 @@ impl<T: Tagged, const N: usize, S: Stored<T>> HandInPlace<T, N, S> {
             (placed_view self.old) (I.items items.old) self.new.span (placed_view self.new) e
             × (I.items items.new ≡ I.items items.old)) }
     {
-        self.try_put_at(fabric, &fabric.place(ring), items, N, how)
+        let place = fabric.place(ring);
+        let known = place.known(Side::Put);
+        self.try_put_at(fabric, &place, known, items, N, how)
     }
 }
 
@@ -68,6 +70,8 @@ impl<T: Word, const N: usize, S: Stored<T>> HandInPlace<T, N, S> {
         ensures refused { IfErr result (λ e. RefusesTake T.numbers fabric.now N how (length into.old) ring
             (placed_view self.old) into.old into.new self.new.span (placed_view self.new) e) }
     {
-        self.try_take_at(fabric, &fabric.place(ring), into, N, how)
+        let place = fabric.place(ring);
+        let known = place.known(Side::Take);
+        self.try_take_at(fabric, &place, known, into, N, how)
     }
 }
