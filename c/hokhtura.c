@@ -39,12 +39,15 @@ extern int64_t hkx_ring_peek_take(struct hk_cell *h, size_t ring, uint64_t *word
 extern int64_t hkx_ring_finish_put(struct hk_cell *h, const uint64_t *words, size_t words_length);
 extern int64_t hkx_ring_finish_take(struct hk_cell *h, size_t n);
 extern int64_t hkx_ring_advance_put(struct hk_cell *h, const uint64_t *words, size_t words_length);
-extern int64_t hkx_ring_advance_put_one(struct hk_cell *h, uint64_t bits);
 extern int64_t hkx_ring_hold_take(struct hk_cell *h, size_t ring, size_t n, bool bulk);
 extern int64_t hkx_ring_advance_take(struct hk_cell *h, uint64_t *words, size_t words_length);
-extern int64_t hkx_ring_advance_take_one(struct hk_cell *h, uint64_t *word);
 extern int64_t hkx_ring_release_take(struct hk_cell *h, uint64_t *words, size_t words_length);
 extern int64_t hkx_ring_room(struct hk_cell *h, size_t ring, bool queued);
+extern int64_t hkx_end_open(struct hk_cell *h, size_t ring, bool takes);
+extern int64_t hkx_end_put(struct hk_cell *h, uint64_t bits);
+extern int64_t hkx_end_take(struct hk_cell *h, uint64_t *word);
+extern int64_t hkx_end_hold(struct hk_cell *h, size_t most, bool takes);
+extern int64_t hkx_end_release(struct hk_cell *h, bool takes, bool closes);
 extern int64_t hkx_pool_open(struct hk_cell *h, uint32_t n, uint32_t size, uint32_t rings);
 extern int64_t hkx_pool_split(struct hk_cell *h, struct hk_cell *second);
 extern int64_t hkx_pool_get(struct hk_cell *h, uint32_t *into, size_t into_length);
@@ -353,11 +356,6 @@ int64_t hk_ring_advance_put(hk_hand *hand, const uint64_t *words, size_t n) {
     return CALL_WITH(hkx_ring_advance_put, hand, words ? words : no_words, n);
 }
 
-int64_t hk_ring_advance_put_one(hk_hand *hand, uint64_t word) {
-    give_word(word);
-    return CALL_WITH(hkx_ring_advance_put_one, hand, word);
-}
-
 static inline int64_t hold_take(hk_hand *hand, size_t ring, size_t n, bool bulk) {
     if (!hand) return HK_E_NULL;
     int64_t code = hkx_ring_hold_take(CELL(hand), ring, n, bulk);
@@ -377,11 +375,6 @@ int64_t hk_ring_advance_take(hk_hand *hand, uint64_t *words, size_t n) {
     int64_t code = refused(words, n);
     if (code < 0) return code;
     return got_words(words, n, CALL_WITH(hkx_ring_advance_take, hand, words ? words : no_words, n));
-}
-
-int64_t hk_ring_advance_take_one(hk_hand *hand, uint64_t *word) {
-    if (!word) return HK_E_NULL;
-    return got_words(word, 1, CALL_WITH(hkx_ring_advance_take_one, hand, word));
 }
 
 int64_t hk_ring_release_take(hk_hand *hand, uint64_t *words, size_t n) {
@@ -414,6 +407,82 @@ int64_t hk_hand_drain(hk_hand *hand, size_t ring, uint64_t *words, size_t n) {
     int64_t code = refused(words, n);
     if (code < 0) return code;
     return got_words(words, n, CALL_WITH(hkx_hand_drain, hand, ring, words ? words : no_words, n));
+}
+
+/* ---- Ends ---- */
+
+/* An end is its hand's cell, too: what the end is bound to is in the hand. */
+
+int64_t hk_producer_open(hk_producer **out, hk_hand *hand, size_t ring) {
+    if (!out || !hand) return HK_E_NULL;
+    int64_t code = hkx_end_open(CELL(hand), ring, false);
+    if (code >= 0) *out = (hk_producer *)hand;
+    return code;
+}
+
+int64_t hk_producer_put_once(hk_producer *end, uint64_t word) {
+    give_word(word);
+    return CALL_WITH(hkx_end_put, end, word);
+}
+
+int64_t hk_producer_put_again(hk_producer *end, uint64_t word, int64_t code) {
+    if (!end) return HK_E_NULL;
+    TRY_AGAIN(code, HK_E_AGAIN, hkx_end_put(CELL(end), word))
+    code = settle_put(CELL(end), &word, 1, code);
+    return code < 0 ? code : HK_OK;
+}
+
+int64_t hk_producer_finish(hk_producer *end, uint64_t word) {
+    int64_t code = hk_ring_finish_put((hk_hand *)end, &word, 1);
+    return code < 0 ? code : HK_OK;
+}
+
+int64_t hk_producer_hold(hk_producer *end, size_t most) {
+    return CALL_WITH(hkx_end_hold, end, most, false);
+}
+
+int64_t hk_producer_release(hk_producer *end) {
+    return CALL_WITH(hkx_end_release, end, false, false);
+}
+
+void hk_producer_free(hk_producer *end) {
+    (void)CALL_WITH(hkx_end_release, end, false, true);
+}
+
+int64_t hk_consumer_open(hk_consumer **out, hk_hand *hand, size_t ring) {
+    if (!out || !hand) return HK_E_NULL;
+    int64_t code = hkx_end_open(CELL(hand), ring, true);
+    if (code >= 0) *out = (hk_consumer *)hand;
+    return code;
+}
+
+int64_t hk_consumer_take_once(hk_consumer *end, uint64_t *word) {
+    if (!word) return HK_E_NULL;
+    return got_words(word, 1, CALL_WITH(hkx_end_take, end, word));
+}
+
+int64_t hk_consumer_take_again(hk_consumer *end, uint64_t *word, int64_t code) {
+    if (!end || !word) return HK_E_NULL;
+    TRY_AGAIN(code, HK_E_AGAIN, hkx_end_take(CELL(end), word))
+    code = got_words(word, 1, settle_take(CELL(end), 1, code));
+    return code < 0 ? code : HK_OK;
+}
+
+int64_t hk_consumer_finish(hk_consumer *end) {
+    int64_t code = hk_ring_finish_take((hk_hand *)end, 1);
+    return code < 0 ? code : HK_OK;
+}
+
+int64_t hk_consumer_hold(hk_consumer *end, size_t most) {
+    return CALL_WITH(hkx_end_hold, end, most, true);
+}
+
+int64_t hk_consumer_release(hk_consumer *end) {
+    return CALL_WITH(hkx_end_release, end, true, false);
+}
+
+void hk_consumer_free(hk_consumer *end) {
+    (void)CALL_WITH(hkx_end_release, end, true, true);
 }
 
 /* ---- Pools ---- */

@@ -76,7 +76,7 @@ enum hk_code {
     HK_E_AGAIN = -2,    /* other threads came first on this side of the ring each time this call tried: call again */
     HK_E_PENDING = -3,  /* of a ring: the positions are reserved, an earlier call of another thread isn't finished yet:
                          * finish; of a forwarding table: nothing was changed, call again */
-    HK_E_OPEN = -4,     /* the hand has an open span: finish it first */
+    HK_E_OPEN = -4,     /* the hand has an open span: finish it first; or it has an end of that side already */
     HK_E_NOTOPEN = -5,  /* the hand has no open span of that side */
     HK_E_RING = -6,     /* there is no ring of this number */
     HK_E_COUNT = -7,    /* a count of 0, above the largest, or not that of the open span; no such port */
@@ -211,15 +211,12 @@ HK_API HK_CHECKED int64_t hk_ring_finish_take(hk_hand *hand, size_t n);
 
 /* Held sides, only head/tail-sync ones: a hand keeps its span open over several puts or takes, each of which is one
  * store. Other threads' calls on that side return HK_E_AGAIN meanwhile; those on the other side of the ring go on as
- * always. hokhtura_hold.h has calls that put and take word by word in this way.
+ * always. The ends below hold a side word by word.
  *
  * A put side is held from a peek to a finish. In between this call puts n words at the first positions of the span, and
  * keeps the others. Returns n. HK_E_NULL, HK_E_KIND, HK_E_NOTOPEN; HK_E_MODE: the side is multi; HK_E_COUNT: no
  * position would stay reserved, so hk_ring_finish_put has to put the last ones. */
 HK_API HK_CHECKED int64_t hk_ring_advance_put(hk_hand *hand, const uint64_t *words, size_t n);
-/* The same with one word, which is passed by value, in less time. Returns 1. HK_E_NULL, HK_E_KIND, HK_E_NOTOPEN,
- * HK_E_MODE, HK_E_COUNT. */
-HK_API HK_CHECKED int64_t hk_ring_advance_put_one(hk_hand *hand, uint64_t word);
 /* Holds a take side, with up to n of its words, which stay on the ring until they are taken. Returns how many.
  * HK_E_NULL, HK_E_KIND, HK_E_RING, HK_E_MODE, HK_E_OPEN, HK_E_COUNT, HK_E_NOROOM, HK_E_AGAIN. If the hand is freed
  * meanwhile, no call takes these words any more. */
@@ -228,8 +225,6 @@ HK_API HK_CHECKED int64_t hk_ring_hold_take_burst(hk_hand *hand, size_t ring, si
 /* Takes the next n words of the held side, and keeps the others. Returns n. HK_E_NULL, HK_E_KIND, HK_E_NOTOPEN;
  * HK_E_COUNT: none would be left, so hk_ring_release_take has to take the last ones. */
 HK_API HK_CHECKED int64_t hk_ring_advance_take(hk_hand *hand, uint64_t *words, size_t n);
-/* Takes the next word of the held side, in less time. Returns 1. HK_E_NULL, HK_E_KIND, HK_E_NOTOPEN, HK_E_COUNT. */
-HK_API HK_CHECKED int64_t hk_ring_advance_take_one(hk_hand *hand, uint64_t *word);
 /* Takes the next n words of the held side, or none, and gives it up: the others stay on the ring, in their order.
  * Returns n. HK_E_NULL, HK_E_KIND, HK_E_NOTOPEN, HK_E_COUNT. */
 HK_API HK_CHECKED int64_t hk_ring_release_take(hk_hand *hand, uint64_t *words, size_t n);
@@ -238,8 +233,8 @@ HK_API HK_CHECKED int64_t hk_ring_release_take(hk_hand *hand, uint64_t *words, s
  * HK_E_KIND. */
 HK_API int64_t hk_hand_span(const hk_hand *hand);
 /* What the last put, take or peek left: how many more words there was room for, or how many more were queued; after
- * HK_E_NOROOM, how many in all. After HK_E_COUNT, HK_E_WORN and HK_E_AGAIN it says nothing, and other codes leave it as
- * it was. HK_E_NULL, HK_E_KIND. */
+ * HK_E_NOROOM, how many in all. After HK_E_COUNT, HK_E_WORN and HK_E_AGAIN, and after a call of an end, it says
+ * nothing; other codes leave it as it was. HK_E_NULL, HK_E_KIND. */
 HK_API int64_t hk_hand_left(const hk_hand *hand);
 /* How many words are queued on a ring, and how many more there is room for, as found by two loads, between which and
  * after which others may put or take: the numbers of rte_ring_count and rte_ring_free_count. Spans may be open, of this
@@ -254,6 +249,65 @@ HK_API HK_CHECKED int64_t hk_hand_close(hk_hand *hand);
 /* Takes at most n words, 0 to HK_MOST, of those that are left on a ring of a closed set, the oldest first. Returns how
  * many: fewer than n if no more are left. HK_E_COUNT, HK_E_NULL, HK_E_KIND if the set isn't closed, HK_E_RING. */
 HK_API HK_CHECKED int64_t hk_hand_drain(hk_hand *hand, size_t ring, uint64_t *words, size_t n);
+
+/* ---- Ends: word by word ------------------------------------------------------------------------------------------ */
+
+/* An end is one side of one ring, which a hand opens to move word by word. The ring is looked up once, when the end is
+ * opened, so a call takes less time than hk_ring_try_put_one. A hand has at most one end on each side. Its other calls
+ * go on as always, on the same ring or on others.
+ * An end is part of its hand: a call on it is a call on the hand, by the thread that has the hand. It needs no memory,
+ * and it ends with the hand: free it before, or don't use it afterwards. */
+typedef struct hk_producer hk_producer;
+typedef struct hk_consumer hk_consumer;
+
+/* Opens an end that puts, or takes, on a ring. HK_E_NULL, HK_E_KIND, HK_E_RING; HK_E_OPEN: the hand has such an end. */
+HK_API HK_CHECKED int64_t hk_producer_open(hk_producer **out, hk_hand *hand, size_t ring);
+HK_API HK_CHECKED int64_t hk_consumer_open(hk_consumer **out, hk_hand *hand, size_t ring);
+/* What hk_producer_put and hk_consumer_take are made of: each step is tried once, and these go on with the code that
+ * the first one returned. A program in another language calls both, the second one only after a code below 0. The first
+ * ones return 1, the second ones HK_OK. HK_E_NULL, HK_E_KIND, HK_E_NOTOPEN, HK_E_OPEN, HK_E_NOROOM, HK_E_WORN (a put),
+ * HK_E_AGAIN, HK_E_PENDING: what they mean, the next two calls say. */
+HK_API HK_CHECKED int64_t hk_producer_put_once(hk_producer *end, uint64_t word);
+HK_API HK_CHECKED int64_t hk_producer_put_again(hk_producer *end, uint64_t word, int64_t code);
+HK_API HK_CHECKED int64_t hk_consumer_take_once(hk_consumer *end, uint64_t *word);
+HK_API HK_CHECKED int64_t hk_consumer_take_again(hk_consumer *end, uint64_t *word, int64_t code);
+
+/* Puts a word. Returns HK_OK. HK_E_NULL, HK_E_KIND; HK_E_NOTOPEN: the end was freed; HK_E_OPEN: the hand has another
+ * span open; HK_E_NOROOM, HK_E_WORN, HK_E_AGAIN: nothing was put. HK_E_PENDING, only on a multi side: call
+ * hk_producer_finish with this word. */
+static inline HK_CHECKED int64_t hk_producer_put(hk_producer *end, uint64_t word) {
+    int64_t code = hk_producer_put_once(end, word);
+    if (code >= 0) return HK_OK;
+    return hk_producer_put_again(end, word, code);
+}
+/* Takes the oldest word. Returns HK_OK. HK_E_NULL, HK_E_KIND; HK_E_NOTOPEN: the end was freed; HK_E_OPEN: the hand has
+ * another span open; HK_E_NOROOM, HK_E_AGAIN: nothing was taken. HK_E_PENDING, only on a multi side: the word is
+ * written, and still on the ring. Call hk_consumer_finish. */
+static inline HK_CHECKED int64_t hk_consumer_take(hk_consumer *end, uint64_t *word) {
+    int64_t code = hk_consumer_take_once(end, word);
+    if (code >= 0) return HK_OK;
+    return hk_consumer_take_again(end, word, code);
+}
+
+/* Finishes a put that returned HK_E_PENDING, with its word, and a take. Returns HK_OK. HK_E_NULL, HK_E_KIND,
+ * HK_E_NOTOPEN; HK_E_COUNT: the hand has a span of more words open; HK_E_PENDING: still open. */
+HK_API HK_CHECKED int64_t hk_producer_finish(hk_producer *end, uint64_t word);
+HK_API HK_CHECKED int64_t hk_consumer_finish(hk_consumer *end);
+
+/* Lets an end hold its side, which has to be head/tail-sync, for a thread that uses it most of the time: the next word
+ * reserves up to `most` positions, 1 to HK_MOST, and each word then takes one store. When the positions run out, the
+ * next word reserves again. Meanwhile the hand has an open span, calls of other threads on that side return HK_E_AGAIN,
+ * and a thread that stops stops that side. Returns HK_OK. HK_E_NULL, HK_E_KIND, HK_E_NOTOPEN, HK_E_MODE, HK_E_COUNT. */
+HK_API HK_CHECKED int64_t hk_producer_hold(hk_producer *end, size_t most);
+HK_API HK_CHECKED int64_t hk_consumer_hold(hk_consumer *end, size_t most);
+/* Gives up a side that an end holds: positions without a word, and words that weren't taken, are free for all threads
+ * again. Each word is a call of its own again. Returns HK_OK, also if the end holds nothing. HK_E_NULL, HK_E_KIND,
+ * HK_E_NOTOPEN. */
+HK_API HK_CHECKED int64_t hk_producer_release(hk_producer *end);
+HK_API HK_CHECKED int64_t hk_consumer_release(hk_consumer *end);
+/* Frees an end: gives up what it holds; null is allowed. The hand may open another one then. */
+HK_API void hk_producer_free(hk_producer *end);
+HK_API void hk_consumer_free(hk_consumer *end);
 
 /* ---- Pools of numbers -------------------------------------------------------------------------------------------- */
 

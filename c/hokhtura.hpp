@@ -131,11 +131,9 @@ public:
         return hk_ring_peek_take_burst(get(), ring, out.data(), out.size());
     }
     result advance_put(words in) noexcept { return hk_ring_advance_put(get(), in.data(), in.size()); }
-    result advance_put_one(std::uint64_t word) noexcept { return hk_ring_advance_put_one(get(), word); }
     result hold_take_bulk(std::size_t ring, std::size_t n) noexcept { return hk_ring_hold_take_bulk(get(), ring, n); }
     result hold_take_burst(std::size_t ring, std::size_t n) noexcept { return hk_ring_hold_take_burst(get(), ring, n); }
     result advance_take(places out) noexcept { return hk_ring_advance_take(get(), out.data(), out.size()); }
-    result advance_take_one(std::uint64_t &word) noexcept { return hk_ring_advance_take_one(get(), &word); }
     result release_take(places out) noexcept { return hk_ring_release_take(get(), out.data(), out.size()); }
     result finish_put(words in) noexcept { return hk_ring_finish_put(get(), in.data(), in.size()); }
     result finish_take(std::size_t n) noexcept { return hk_ring_finish_take(get(), n); }
@@ -148,6 +146,35 @@ public:
     result drain(std::size_t ring, places out) noexcept {
         return hk_hand_drain(get(), ring, out.data(), out.size());
     }
+};
+
+// An end of a hand that puts, and one that takes. It has to end before its hand does.
+class producer : public handle<hk_producer, hk_producer_free> {
+public:
+    result open(hand &of, std::size_t ring) noexcept {
+        hk_producer *made = nullptr;
+        auto code = hk_producer_open(&made, of.get(), ring);
+        return own(code, made);
+    }
+
+    result put(std::uint64_t word) noexcept { return hk_producer_put(get(), word); }
+    result finish(std::uint64_t word) noexcept { return hk_producer_finish(get(), word); }
+    result hold(std::size_t most) noexcept { return hk_producer_hold(get(), most); }
+    result release() noexcept { return hk_producer_release(get()); }
+};
+
+class consumer : public handle<hk_consumer, hk_consumer_free> {
+public:
+    result open(hand &of, std::size_t ring) noexcept {
+        hk_consumer *made = nullptr;
+        auto code = hk_consumer_open(&made, of.get(), ring);
+        return own(code, made);
+    }
+
+    result take(std::uint64_t &word) noexcept { return hk_consumer_take(get(), &word); }
+    result finish() noexcept { return hk_consumer_finish(get()); }
+    result hold(std::size_t most) noexcept { return hk_consumer_hold(get(), most); }
+    result release() noexcept { return hk_consumer_release(get()); }
 };
 
 // A thread's handle on a pool of numbers. Where it ends, what is cached is put on the free ring, if one try_flush does.

@@ -1,6 +1,6 @@
 /* Sides that a hand holds: what each call does, by one thread and beside a model, and threads that hold both sides by
  * turns. */
-#include "hokhtura_hold.h"
+#include "hokhtura.h"
 #include "tests.h"
 
 #include <pthread.h>
@@ -62,10 +62,13 @@ static void takes_by_one(void) {
 /* A side that is multi can't be held, and an open put there isn't advanced. */
 static void of_multi_sides(void) {
     hk_hand *hand = open_ring(ROOM, HK_MULTI, HK_MULTI);
-    hk_end end = hk_end_of(hand, 0, 4);
+    hk_producer *puts = NULL;
+    hk_consumer *takes = NULL;
     uint64_t word = 7;
-    IS(hk_end_put(&end, 1), HK_E_MODE), IS(hk_end_take(&end, &word), HK_E_MODE), IS(word, 7);
-    IS(hk_end_release_put(&end), HK_OK), IS(hk_end_release_take(&end), HK_OK);
+    IS(hk_producer_open(&puts, hand, 0), HK_OK), IS(hk_consumer_open(&takes, hand, 0), HK_OK);
+    IS(hk_producer_hold(puts, 4), HK_E_MODE), IS(hk_consumer_hold(takes, 4), HK_E_MODE);
+    IS(hk_producer_put(puts, 1), HK_OK), IS(hk_consumer_take(takes, &word), HK_OK), IS(word, 1);
+    IS(hk_producer_release(puts), HK_OK), IS(hk_consumer_release(takes), HK_OK);
     hk_hand_free(hand);
 }
 
@@ -83,27 +86,82 @@ static void freed_while_holding(void) {
     hk_hand_free(hand);
 }
 
-/* Two ends and a list that says what has to be on the ring: random puts, takes and releases, rings of 1 to 7 words. */
+/* An end that holds its side, by one thread. */
+static void ends_that_hold(void) {
+    hk_hand *hand = open_ring(ROOM, HK_HTS, HK_HTS), *other = NULL;
+    hk_producer *puts = NULL;
+    hk_consumer *takes = NULL;
+    uint64_t word = 9;
+    IS(hk_hand_split(hand, &other), HK_OK);
+    IS(hk_producer_open(&puts, hand, 0), HK_OK), IS(hk_consumer_open(&takes, other, 0), HK_OK);
+    IS(hk_producer_hold(puts, 0), HK_E_COUNT), IS(hk_producer_hold(puts, HK_MOST + 1), HK_E_COUNT);
+    IS(hk_producer_hold(puts, 3), HK_OK), IS(hk_hand_span(hand), 0), IS(hk_ring_try_put_bulk(other, 0, words, 1), 1);
+    /* The first word reserves, the third one gives up the side. */
+    IS(hk_producer_put(puts, 101), HK_OK), IS(hk_hand_span(hand), 1);
+    IS(hk_ring_try_put_bulk(other, 0, words, 1), HK_E_AGAIN), IS(hk_ring_try_take_bulk(hand, 0, out, 1), HK_E_OPEN);
+    IS(hk_producer_put(puts, 102), HK_OK), IS(hk_hand_span(hand), 1), IS(hk_producer_put(puts, 103), HK_OK);
+    IS(hk_hand_span(hand), 0), IS(hk_ring_count(hand, 0), 4);
+    /* The next one reserves again, as many as there is room for. */
+    IS(hk_producer_put(puts, 104), HK_OK), IS(hk_hand_span(hand), 1), IS(hk_producer_put(puts, 105), HK_OK);
+    IS(hk_hand_span(hand), 0), IS(hk_producer_put(puts, 106), HK_E_NOROOM), IS(hk_hand_span(hand), 0);
+    IS(hk_consumer_hold(takes, 4), HK_OK);
+    for (uint64_t i = 100; i < 103; i++) IS(hk_consumer_take(takes, &word), HK_OK), IS(word, i);
+    IS(hk_hand_span(other), 3), IS(hk_ring_hold_take_burst(hand, 0, 1), HK_E_AGAIN);
+    IS(hk_consumer_release(takes), HK_OK), IS(hk_hand_span(other), 0), IS(hk_ring_count(hand, 0), 3);
+    /* Each word is a call of its own again. */
+    IS(hk_consumer_take(takes, &word), HK_OK), IS(word, 103), IS(hk_hand_span(other), 0);
+    IS(hk_producer_put(puts, 107), HK_OK), IS(hk_hand_span(hand), 1);
+    hk_producer_free(puts), hk_consumer_free(takes);
+    IS(hk_hand_span(hand), 0), IS(hk_producer_put(puts, 1), HK_E_NOTOPEN), IS(hk_consumer_take(takes, &word), HK_E_NOTOPEN);
+    IS(hk_ring_try_take_burst(other, 0, out, 8), 3), IS(out[0], 104), IS(out[1], 105), IS(out[2], 107);
+    hk_hand_free(hand), hk_hand_free(other);
+}
+
+/* A span that the hand has open elsewhere isn't the end's, and giving the end up leaves it open. */
+static void other_spans(void) {
+    hk_ring_plan plans[2] = {{ROOM, 1, HK_HTS, HK_HTS, 0, 0}, {ROOM, 1, HK_HTS, HK_HTS, 0, 0}};
+    hk_hand *hand = NULL;
+    hk_producer *puts = NULL;
+    hk_consumer *takes = NULL;
+    uint64_t word = 9;
+    IS(hk_hand_open(&hand, plans, 2), HK_OK), IS(hk_ring_try_put_bulk(hand, 1, words, 2), 2);
+    IS(hk_producer_open(&puts, hand, 0), HK_OK), IS(hk_consumer_open(&takes, hand, 0), HK_OK);
+    IS(hk_producer_hold(puts, 2), HK_OK), IS(hk_consumer_hold(takes, 2), HK_OK);
+    IS(hk_ring_peek_put_bulk(hand, 1, 2), 2), IS(hk_producer_put(puts, 1), HK_E_OPEN);
+    IS(hk_consumer_take(takes, &word), HK_E_OPEN), IS(hk_producer_release(puts), HK_OK), IS(hk_hand_span(hand), 1);
+    IS(hk_ring_finish_put(hand, words + 2, 1), 1), IS(hk_ring_hold_take_bulk(hand, 1, 3), 3);
+    IS(hk_consumer_take(takes, &word), HK_E_OPEN), IS(word, 9);
+    hk_consumer_free(takes);
+    IS(hk_hand_span(hand), 3), IS(hk_ring_release_take(hand, out, 3), 3), IS(out[2], 102);
+    hk_hand_free(hand);
+}
+
+/* Two ends and a list that says what has to be on the ring: random puts, takes, holds and releases, rings of 1 to 7
+ * words. */
 static void beside_a_model(unsigned seed) {
     uint64_t queued[MOST_OF_MODEL], next = 1, word;
     size_t count = 0, room = 1 + seed % 7;
     hk_hand *hand = open_ring((uint32_t)room, HK_HTS, HK_HTS), *other = NULL;
     IS(hk_hand_split(hand, &other), HK_OK);
-    hk_end put = hk_end_of(hand, 0, 1 + seed % 5), take = hk_end_of(other, 0, 1 + seed % 3);
+    hk_producer *put = NULL;
+    hk_consumer *take = NULL;
+    IS(hk_producer_open(&put, hand, 0), HK_OK), IS(hk_consumer_open(&take, other, 0), HK_OK);
     int64_t wrong = 0;
     srand(seed);
     for (int step = 0; step < STEPS; step++) {
-        switch (rand() % 8) {
-        case 0: wrong += hk_end_release_put(&put) != HK_OK; break;
-        case 1: wrong += hk_end_release_take(&take) != HK_OK; break;
-        case 2: case 3: case 4:
+        switch (rand() % 16) {
+        case 0: wrong += hk_producer_release(put) != HK_OK; break;
+        case 1: wrong += hk_consumer_release(take) != HK_OK; break;
+        case 2: case 3: wrong += hk_producer_hold(put, 1 + seed % 5) != HK_OK; break;
+        case 4: case 5: wrong += hk_consumer_hold(take, 1 + seed % 3) != HK_OK; break;
+        case 6: case 7: case 8: case 9: case 10:
             word = next;
-            if (hk_end_put(&put, word) != (count < room ? HK_OK : HK_E_NOROOM)) wrong++;
+            if (hk_producer_put(put, word) != (count < room ? HK_OK : HK_E_NOROOM)) wrong++;
             else if (count < room) queued[count++] = next++;
             break;
         default:
             word = 0;
-            if (hk_end_take(&take, &word) != (count ? HK_OK : HK_E_NOROOM) || word != (count ? queued[0] : 0)) wrong++;
+            if (hk_consumer_take(take, &word) != (count ? HK_OK : HK_E_NOROOM) || word != (count ? queued[0] : 0)) wrong++;
             else if (count) memmove(queued, queued + 1, --count * sizeof *queued);
         }
     }
@@ -119,28 +177,32 @@ struct job {
 
 static void *puts_words(void *at) {
     struct job *job = at;
-    hk_end end = hk_end_of(job->hand, 0, 7);
+    hk_producer *end = NULL;
+    if (hk_producer_open(&end, job->hand, 0) != HK_OK || hk_producer_hold(end, 7) != HK_OK) return at;
     for (uint64_t i = 0; i < WORDS; i++) {
-        while (hk_end_put(&end, job->first + i) != HK_OK) sched_yield();
-        if (i % 5 == 0 && hk_end_release_put(&end) != HK_OK) return at;
+        while (hk_producer_put(end, job->first + i) != HK_OK) sched_yield();
+        if (i % 5 == 0 && (hk_producer_release(end) != HK_OK || hk_producer_hold(end, 7) != HK_OK)) return at;
     }
-    return hk_end_release_put(&end) == HK_OK ? NULL : at;
+    hk_producer_free(end);
+    return NULL;
 }
 
 /* Both takers see the words of each putter in their order. */
 static void *takes_words(void *at) {
     struct job *job = at;
-    hk_end end = hk_end_of(job->hand, 0, 5);
+    hk_consumer *end = NULL;
+    if (hk_consumer_open(&end, job->hand, 0) != HK_OK || hk_consumer_hold(end, 5) != HK_OK) return at;
     uint64_t last[2] = {0, 0}, word;
     for (uint64_t i = 0; i < WORDS; i++) {
-        while (hk_end_take(&end, &word) != HK_OK) sched_yield();
+        while (hk_consumer_take(end, &word) != HK_OK) sched_yield();
         size_t from = word > WORDS;
         if (word <= last[from]) return at;
         last[from] = word;
         job->sum += word;
-        if (i % 3 == 0 && hk_end_release_take(&end) != HK_OK) return at;
+        if (i % 3 == 0 && (hk_consumer_release(end) != HK_OK || hk_consumer_hold(end, 5) != HK_OK)) return at;
     }
-    return hk_end_release_take(&end) == HK_OK ? NULL : at;
+    hk_consumer_free(end);
+    return NULL;
 }
 
 static void threads(void) {
@@ -158,6 +220,8 @@ int main(void) {
     puts_by_one();
     takes_by_one();
     of_multi_sides();
+    ends_that_hold();
+    other_spans();
     freed_while_holding();
     for (unsigned seed = 0; seed < 21; seed++) beside_a_model(seed);
     threads();

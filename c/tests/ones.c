@@ -37,25 +37,6 @@ static void one_by_one(void) {
     hk_hand_free(hand);
 }
 
-/* Word by word on the sides that two hands hold; a hand that holds one of ring 1 puts and takes nothing elsewhere. */
-static void held(void) {
-    hk_hand *hand = open_rings(), *other = NULL;
-    uint64_t word = 9;
-    IS(hk_hand_split(hand, &other), HK_OK);
-    IS(hk_ring_try_put_one(hand, 3, 30), 1), IS(hk_ring_try_put_one(hand, 1, 100), 1);
-    IS(hk_ring_peek_put_bulk(hand, 1, 3), 3), IS(hk_ring_advance_put_one(hand, 101), 1);
-    IS(hk_ring_try_put_one(hand, 3, 31), HK_E_OPEN), IS(hk_ring_try_take_one(hand, 3, &word), HK_E_OPEN);
-    IS(hk_ring_try_put_one(other, 1, 1), HK_E_AGAIN), IS(hk_ring_advance_take_one(hand, &word), HK_E_NOTOPEN);
-    IS(hk_ring_advance_put_one(hand, 102), 1), IS(hk_ring_advance_put_one(hand, 103), HK_E_COUNT), IS(word, 9);
-    IS(hk_ring_hold_take_burst(other, 1, 3), 3), IS(hk_ring_advance_take_one(other, &word), 1), IS(word, 100);
-    IS(hk_ring_advance_put_one(other, 1), HK_E_NOTOPEN), IS(hk_ring_advance_take_one(other, NULL), HK_E_NULL);
-    IS(hk_ring_advance_take_one(other, &word), 1), IS(word, 101);
-    IS(hk_ring_advance_take_one(other, &word), HK_E_COUNT), IS(word, 101);
-    IS(hk_ring_release_take(other, &word, 1), 1), IS(word, 102), IS(hk_ring_finish_put(hand, NULL, 0), 0);
-    IS(hk_ring_try_take_one(other, 1, &word), HK_E_NOROOM), IS(hk_ring_try_take_one(hand, 3, &word), 1), IS(word, 30);
-    hk_hand_free(hand), hk_hand_free(other);
-}
-
 /* What has to be on each ring. */
 struct model {
     uint64_t words[MOST_OF_MODEL];
@@ -148,7 +129,6 @@ static void threads(void) {
 
 int main(void) {
     one_by_one();
-    held();
     for (unsigned seed = 0; seed < 12; seed++) beside_a_model(seed);
     threads();
     return hk_count_up("ones");

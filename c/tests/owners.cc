@@ -36,17 +36,21 @@ static void results() {
     static_assert(!std::is_constructible_v<hokhtura::places, const std::vector<std::uint64_t> &>);
 }
 
-// Words by value, on a multi ring, and on both sides of a ring that are held.
+// Words by value, on a multi ring, and by ends that hold both sides of a ring.
 static void one_by_one() {
     hokhtura::hand hand, other;
     const hk_ring_plan plans[] = {{8, 0, HK_HTS, HK_HTS, 0, 0}, {8, 0, HK_MULTI, HK_MULTI, 0, 0}};
     std::uint64_t word = 0;
     IS(hand.open(plans).code(), HK_OK), IS(hand.split(other).code(), HK_OK);
     IS(hand.try_put_one(1, 7).count(), 1), IS(other.try_take_one(1, word).count(), 1), IS(word, 7);
-    IS(hand.peek_put_bulk(0, 3).count(), 3), IS(hand.advance_put_one(8).count(), 1);
-    IS(hand.advance_put_one(9).count(), 1);
-    IS(other.hold_take_burst(0, 4).count(), 2), IS(other.advance_take_one(word).count(), 1), IS(word, 8);
-    IS(other.release_take({}).count(), 0), IS(hand.finish_put({}).count(), 0), IS(other.count(0).count(), 1);
+    hokhtura::producer puts;
+    hokhtura::consumer takes;
+    IS(puts.put(1).code(), HK_E_NULL), IS(takes.take(word).code(), HK_E_NULL);
+    IS(puts.open(hand, 0).code(), HK_OK), IS(takes.open(other, 0).code(), HK_OK);
+    IS(puts.hold(3).code(), HK_OK), IS(puts.put(8).code(), HK_OK), IS(puts.put(9).code(), HK_OK);
+    IS(puts.finish(9).code(), HK_OK), IS(takes.finish().code(), HK_E_NOTOPEN);
+    IS(takes.hold(4).code(), HK_OK), IS(takes.take(word).code(), HK_OK), IS(word, 8);
+    IS(takes.release().code(), HK_OK), IS(puts.release().code(), HK_OK), IS(other.count(0).count(), 2);
 }
 
 static void hands() {

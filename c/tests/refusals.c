@@ -17,6 +17,10 @@ enum { RINGS = 2, MULTI_RING = 1, SPAN = 3, LEFT = 4, NUMBERS = 8, POOL_RINGS = 
 /* Hands: without a span, with a span of a put and of a take, and one whose rings were closed. `other` shares the rings
  * of `idle`, and `sharer` the table of `shared`. */
 static hk_hand *idle, *other, *putting, *taking, *holding, *closed;
+/* Hands with ends on both sides of one ring. */
+static hk_hand *ended, *multi;
+static hk_producer *putter, *multi_putter;
+static hk_consumer *taker, *multi_taker;
 static hk_pool *pool;
 static hk_routes *table, *shared, *sharer;
 static hk_fib *fib;
@@ -26,6 +30,8 @@ static hk_reorder *window;
 /* What calls write to: handles, words and numbers. */
 static struct made {
     hk_hand *hand;
+    hk_producer *producer;
+    hk_consumer *consumer;
     hk_pool *pool;
     hk_routes *table;
     hk_fib *fib;
@@ -58,7 +64,7 @@ static const hk_frame too_long[2] = {{frame, HELD, HELD}, {frame, HELD, HELD - 1
 
 /* What is seen of all handles. */
 struct seen {
-    int64_t spans[4], rings[4], numbers[NUMBERS + 1], counts[1 + POOL_RINGS], hops[4], drawn[4], found[2];
+    int64_t spans[6], rings[6], numbers[NUMBERS + 1], counts[1 + POOL_RINGS], hops[4], drawn[4], found[2];
     int64_t verdict, class;
     uint64_t words[HK_MOST], next;
 };
@@ -79,6 +85,13 @@ static void open_hands(void) {
     IS(hk_ring_hold_take_bulk(holding, 0, SPAN), SPAN);
     IS(hk_ring_try_put_bulk(closed, 0, given, 2), 2);
     IS(hk_hand_close(closed), HK_OK);
+}
+
+static void open_ends(void) {
+    open_hand(&ended), open_hand(&multi);
+    IS(hk_producer_open(&putter, ended, 0), HK_OK), IS(hk_consumer_open(&taker, ended, 0), HK_OK);
+    IS(hk_producer_open(&multi_putter, multi, MULTI_RING), HK_OK), IS(hk_consumer_open(&multi_taker, multi, MULTI_RING), HK_OK);
+    IS(hk_producer_put(putter, 1), HK_OK), IS(hk_producer_put(multi_putter, 1), HK_OK);
 }
 
 /* The handle of the pool has got two numbers and has three in its cache; one is on the first ring of the pool. */
@@ -123,12 +136,13 @@ static void open_window(void) {
 
 /* What the calls that change nothing say of each handle; the words of `idle` are shown by a peek of `other`. */
 static void look(struct seen *seen) {
-    hk_hand *hands[4] = {idle, putting, taking, holding};
+    hk_hand *hands[6] = {idle, putting, taking, holding, ended, multi};
     memset(seen, 0, sizeof *seen);
-    for (int i = 0; i < 4; i++) seen->spans[i] = hk_hand_span(hands[i]);
+    for (int i = 0; i < 6; i++) seen->spans[i] = hk_hand_span(hands[i]);
     for (size_t i = 0; i < RINGS; i++) {
         seen->rings[2 * i] = hk_ring_count(idle, i), seen->rings[2 * i + 1] = hk_ring_room(idle, i);
     }
+    seen->rings[4] = hk_ring_count(ended, 0), seen->rings[5] = hk_ring_count(multi, MULTI_RING);
     for (uint32_t i = 0; i < NUMBERS; i++) seen->numbers[i] = hk_pool_owns(pool, i);
     seen->numbers[NUMBERS] = hk_pool_cached(pool);
     seen->counts[0] = hk_pool_free_count(pool);
@@ -198,6 +212,8 @@ static void contents(void) {
     IS(hk_ring_try_take_burst(taking, 0, words, HK_MOST), LEFT), IS(words[0], given[SPAN]);
     IS(hk_ring_release_take(holding, words, 1), 1), IS(words[0], given[0]);
     IS(hk_ring_try_take_burst(holding, 0, words, HK_MOST), SPAN + LEFT - 1), IS(words[0], given[1]);
+    IS(hk_producer_put(putter, 2), HK_OK), IS(hk_consumer_take(taker, words), HK_OK), IS(words[0], 1);
+    IS(hk_consumer_take(multi_taker, words), HK_OK), IS(words[0], 1);
     IS(hk_ring_try_take_burst(idle, 1, words, HK_MOST), 2), IS(memcmp(words, given, 2 * sizeof *words), 0);
     IS(hk_hand_drain(closed, 0, words, HK_MOST), 2), IS(memcmp(words, given, 2 * sizeof *words), 0);
     IS(hk_pool_try_receive_bulk(pool, 0, numbers, 1), 1);
@@ -207,7 +223,7 @@ static void contents(void) {
 
 static void free_all(void) {
     hk_hand_free(idle), hk_hand_free(other), hk_hand_free(putting), hk_hand_free(taking);
-    hk_hand_free(holding), hk_hand_free(closed);
+    hk_hand_free(holding), hk_hand_free(closed), hk_hand_free(ended), hk_hand_free(multi);
     hk_pool_free(pool);
     hk_routes_free(table), hk_routes_free(shared), hk_routes_free(sharer);
     hk_fib_free(fib), hk_forward_free(forwarder);
@@ -226,7 +242,7 @@ int main(void) {
     signal(SIGSEGV, died), signal(SIGBUS, died);
     setvbuf(stdout, NULL, _IONBF, 0);
     for (uint64_t i = 0; i <= HK_MOST; i++) given[i] = 100 + i;
-    open_hands(), open_pool(), open_tables(), open_forwarder(), open_window();
+    open_hands(), open_ends(), open_pool(), open_tables(), open_forwarder(), open_window();
     memset(places, 0xff, sizeof places), memset(numbers, 0xff, sizeof numbers);
     memset(&made, 0xff, sizeof made), unmade = made;
     look(&before), IS(before.words[0], 100), IS(before.numbers[own[0]], 1), IS(before.next, 1);

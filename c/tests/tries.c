@@ -73,6 +73,8 @@ int64_t hkx_ring_put(struct hk_cell *h, size_t ring, const uint64_t *at, size_t 
 int64_t hkx_ring_take(struct hk_cell *h, size_t ring, uint64_t *at, size_t n, bool bulk);
 int64_t hkx_ring_put_one(struct hk_cell *h, size_t ring, uint64_t word);
 int64_t hkx_ring_take_one(struct hk_cell *h, size_t ring, uint64_t *word);
+int64_t hkx_end_put(struct hk_cell *h, uint64_t word);
+int64_t hkx_end_take(struct hk_cell *h, uint64_t *word);
 int64_t hkx_ring_peek_put(struct hk_cell *h, size_t ring, size_t n, bool bulk);
 int64_t hkx_ring_peek_take(struct hk_cell *h, size_t ring, uint64_t *at, size_t n, bool bulk);
 int64_t hkx_ring_hold_take(struct hk_cell *h, size_t ring, size_t n, bool bulk);
@@ -89,6 +91,14 @@ int64_t hkx_ring_put_one(struct hk_cell *h, size_t ring, uint64_t word) {
 
 int64_t hkx_ring_take_one(struct hk_cell *h, size_t ring, uint64_t *word) {
     return begin(h, ring == RING && one_wanted && word == words);
+}
+
+int64_t hkx_end_put(struct hk_cell *h, uint64_t word) {
+    return begin(h, one_wanted && word == one_word);
+}
+
+int64_t hkx_end_take(struct hk_cell *h, uint64_t *word) {
+    return begin(h, one_wanted && word == words);
 }
 
 int64_t hkx_ring_take(struct hk_cell *h, size_t ring, uint64_t *at, size_t n, bool bulk) {
@@ -129,9 +139,10 @@ ONCE(hkx_hand_left)
 ONCE(hkx_hand_close)
 ONCE(hkx_hand_drain)
 ONCE(hkx_ring_advance_put)
-ONCE(hkx_ring_advance_put_one)
 ONCE(hkx_ring_advance_take)
-ONCE(hkx_ring_advance_take_one)
+ONCE(hkx_end_open)
+ONCE(hkx_end_hold)
+ONCE(hkx_end_release)
 ONCE(hkx_ring_release_take)
 ONCE(hkx_ring_room)
 ONCE(hkx_pool_open)
@@ -226,6 +237,27 @@ static int64_t take_one(void) {
     return hk_ring_try_take_one(hand, RING, words);
 }
 
+/* Of an end each call returns HK_OK where others return 1. */
+static int64_t counted(int64_t code) {
+    return code == HK_OK ? COUNT : code;
+}
+
+static int64_t end_put(void) {
+    return counted(hk_producer_put((hk_producer *)hand, one_word));
+}
+
+static int64_t end_take(void) {
+    return counted(hk_consumer_take((hk_consumer *)hand, words));
+}
+
+static int64_t end_finish_put(void) {
+    return counted(hk_producer_finish((hk_producer *)hand, one_word));
+}
+
+static int64_t end_finish_take(void) {
+    return counted(hk_consumer_finish((hk_consumer *)hand));
+}
+
 static int64_t peek_put_bulk(void) {
     return hk_ring_peek_put_bulk(hand, RING, COUNT);
 }
@@ -301,8 +333,6 @@ static void one_try(void) {
     BOTH(hk_hand_left(hand));
     BOTH(hk_ring_advance_put(hand, words, COUNT));
     BOTH(hk_ring_advance_take(hand, words, COUNT));
-    BOTH(hk_ring_advance_put_one(hand, words[0]));
-    BOTH(hk_ring_advance_take_one(hand, words));
     BOTH(hk_ring_release_take(hand, words, COUNT));
     BOTH(hk_ring_count(hand, RING));
     BOTH(hk_ring_room(hand, RING));
@@ -312,6 +342,29 @@ static void one_try(void) {
     told(never, never, never), IS(hk_hand_open(&second, &plan, HK_MOST_RINGS + 1), HK_E_PLAN), tried(0, 0, 0);
     IS(second == NULL, 1);
     told(never, never, never), hk_hand_free(hand), freed(1);
+}
+
+/* Ends are opened, held and given up by one try. */
+static void ends(void) {
+    hk_producer *puts = NULL, *made_puts = (hk_producer *)hand;
+    hk_consumer *takes = NULL, *made_takes = (hk_consumer *)hand;
+    BOTH(hk_producer_open(&puts, hand, RING));
+    BOTH(hk_consumer_open(&takes, hand, RING));
+    IS(puts == NULL && takes == NULL, 1);
+    BOTH(hk_producer_hold(made_puts, COUNT));
+    BOTH(hk_consumer_hold(made_takes, COUNT));
+    BOTH(hk_producer_release(made_puts));
+    BOTH(hk_consumer_release(made_takes));
+    told(never, never, never), hk_producer_free(made_puts), tried(0, 0, 1), IS(ended, 0);
+    told(never, never, never), hk_consumer_free(made_takes), tried(0, 0, 1), IS(ended, 0);
+    told(often(HK_E_AGAIN, 1, 0), never, never), IS(hk_producer_put_once(made_puts, 7), HK_E_AGAIN), IS(start.tried, 1);
+    told(often(HK_E_AGAIN, 1, 0), never, never), IS(hk_consumer_take_once(made_takes, words), HK_E_AGAIN);
+    told(never, never, never), IS(hk_producer_put_once(NULL, 7), HK_E_NULL), IS(hk_consumer_take_once(NULL, words), HK_E_NULL);
+    IS(hk_producer_put_again(NULL, 7, HK_E_AGAIN), HK_E_NULL), IS(hk_consumer_take_again(NULL, words, HK_E_AGAIN), HK_E_NULL);
+    IS(hk_consumer_take_once(made_takes, NULL), HK_E_NULL), IS(hk_consumer_take_again(made_takes, NULL, HK_E_AGAIN), HK_E_NULL);
+    tried(0, 0, 0);
+    told(never, never, none), IS(hk_producer_open(&puts, hand, RING), HK_OK), IS(puts == made_puts, 1);
+    told(never, never, none), IS(hk_consumer_open(&takes, hand, RING), HK_OK), IS(takes == made_takes, 1);
 }
 
 /* The tries of a pool's calls are made below its exports. */
@@ -415,12 +468,14 @@ int main(void) {
     both(take_bulk, true), both(take_burst, false);
     one_word = 7, one_wanted = true;
     both(put_one, true), both(take_one, true);
+    both(end_put, true), both(end_take, true), finishes(end_finish_put), finishes(end_finish_take);
     one_wanted = false;
     starts(peek_put_bulk, true), starts(peek_put_burst, false);
     starts(peek_take_bulk, true), starts(peek_take_burst, false);
     starts(hold_take_bulk, true), starts(hold_take_burst, false);
     finishes(finish_put), finishes(finish_take);
     one_try();
+    ends();
     pools();
     tables_and_windows();
     tables_that_change();

@@ -6,6 +6,16 @@ pub struct Hand {
 }
 
 #[repr(C)]
+pub struct Producer {
+    opaque: [u8; 0],
+}
+
+#[repr(C)]
+pub struct Consumer {
+    opaque: [u8; 0],
+}
+
+#[repr(C)]
 pub struct Pool {
     opaque: [u8; 0],
 }
@@ -83,11 +93,18 @@ extern "C" {
     pub fn hk_ring_try_take_one(hand: *mut Hand, ring: usize, word: *mut u64) -> i64;
     pub fn hk_ring_finish_put(hand: *mut Hand, words: *const u64, n: usize) -> i64;
     pub fn hk_ring_finish_take(hand: *mut Hand, n: usize) -> i64;
-    pub fn hk_ring_peek_put_burst(hand: *mut Hand, ring: usize, n: usize) -> i64;
-    pub fn hk_ring_advance_put_one(hand: *mut Hand, word: u64) -> i64;
-    pub fn hk_ring_hold_take_burst(hand: *mut Hand, ring: usize, n: usize) -> i64;
-    pub fn hk_ring_advance_take_one(hand: *mut Hand, word: *mut u64) -> i64;
-    pub fn hk_ring_release_take(hand: *mut Hand, words: *mut u64, n: usize) -> i64;
+    pub fn hk_producer_open(out: *mut *mut Producer, hand: *mut Hand, ring: usize) -> i64;
+    pub fn hk_producer_put_once(end: *mut Producer, word: u64) -> i64;
+    pub fn hk_producer_put_again(end: *mut Producer, word: u64, code: i64) -> i64;
+    pub fn hk_producer_finish(end: *mut Producer, word: u64) -> i64;
+    pub fn hk_producer_hold(end: *mut Producer, most: usize) -> i64;
+    pub fn hk_producer_release(end: *mut Producer) -> i64;
+    pub fn hk_consumer_open(out: *mut *mut Consumer, hand: *mut Hand, ring: usize) -> i64;
+    pub fn hk_consumer_take_once(end: *mut Consumer, word: *mut u64) -> i64;
+    pub fn hk_consumer_take_again(end: *mut Consumer, word: *mut u64, code: i64) -> i64;
+    pub fn hk_consumer_finish(end: *mut Consumer) -> i64;
+    pub fn hk_consumer_hold(end: *mut Consumer, most: usize) -> i64;
+    pub fn hk_consumer_release(end: *mut Consumer) -> i64;
     pub fn hk_ring_count(hand: *const Hand, ring: usize) -> i64;
     pub fn hk_ring_room(hand: *const Hand, ring: usize) -> i64;
     pub fn hk_pool_open(out: *mut *mut Pool, n: u32, cache: u32, rings: u32) -> i64;

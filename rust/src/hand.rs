@@ -3,7 +3,7 @@ use crate::error::{answer, Error};
 use crate::ffi;
 use crate::word::Word;
 use core::marker::PhantomData;
-use core::ptr::{null, null_mut, NonNull};
+use core::ptr::{null_mut, NonNull};
 
 /// How calls on one side of a ring share it.
 #[derive(Clone, Copy, Debug, PartialEq, Eq, Hash)]
@@ -23,8 +23,15 @@ impl Mode {
     }
 }
 
-/// A hand on a ring of words, and how many the ring holds. The marker makes it neither `Send` nor `Sync` by itself.
-pub(crate) struct Hand<T>(NonNull<ffi::Hand>, usize, PhantomData<(T, *mut u8)>);
+/// A hand on a ring of words with its ends, and how many the ring holds. The marker makes it neither `Send` nor `Sync` by
+/// itself.
+pub(crate) struct Hand<T> {
+    at: NonNull<ffi::Hand>,
+    puts: NonNull<ffi::Producer>,
+    takes: NonNull<ffi::Consumer>,
+    capacity: usize,
+    words: PhantomData<(T, *mut u8)>,
+}
 
 // SAFETY: a hand may go to another thread with the words that it may take. It isn't `Sync`: no two calls overlap.
 unsafe impl<T: Send> Send for Hand<T> {}
@@ -40,18 +47,32 @@ impl<T: Word> Hand<T> {
         let plan = ffi::Plan { size, exact: 1, put: put.number(), take: take.number(), last: 0, reserved: 0 };
         let mut at = null_mut();
         let code = unsafe { ffi::hk_hand_open(&raw mut at, &raw const plan, 1) };
-        Ok(Hand(made(at, code)?, capacity, PhantomData))
+        Self::with_ends(made(at, code)?, capacity)
+    }
+
+    /// A new hand, whose ends are opened.
+    fn with_ends(at: NonNull<ffi::Hand>, capacity: usize) -> Result<Self, Error> {
+        let (mut puts, mut takes) = (null_mut(), null_mut());
+        let put_code = unsafe { ffi::hk_producer_open(&raw mut puts, at.as_ptr(), 0) };
+        let take_code = unsafe { ffi::hk_consumer_open(&raw mut takes, at.as_ptr(), 0) };
+        match (made(puts, put_code), made(takes, take_code)) {
+            (Ok(puts), Ok(takes)) => Ok(Hand { at, puts, takes, capacity, words: PhantomData }),
+            (Err(error), _) | (_, Err(error)) => {
+                unsafe { ffi::hk_hand_free(at.as_ptr()) };
+                Err(error)
+            }
+        }
     }
 
     pub(crate) fn split(&mut self) -> Result<Self, Error> {
         let mut at = null_mut();
-        let code = unsafe { ffi::hk_hand_split(self.0.as_ptr(), &raw mut at) };
-        Ok(Hand(made(at, code)?, self.1, PhantomData))
+        let code = unsafe { ffi::hk_hand_split(self.at.as_ptr(), &raw mut at) };
+        Self::with_ends(made(at, code)?, self.capacity)
     }
 
     pub(crate) fn put(&mut self, words: &[T], bulk: bool) -> Result<usize, Error> {
         let (at, n) = (words.as_ptr().cast::<u64>(), words.len());
-        let hand = self.0.as_ptr();
+        let hand = self.at.as_ptr();
         answer(if bulk {
             unsafe { ffi::hk_ring_try_put_bulk(hand, 0, at, n) }
         } else {
@@ -61,7 +82,7 @@ impl<T: Word> Hand<T> {
 
     pub(crate) fn take(&mut self, words: &mut [T], bulk: bool) -> Result<usize, Error> {
         let (at, n) = (words.as_mut_ptr().cast::<u64>(), words.len());
-        let hand = self.0.as_ptr();
+        let hand = self.at.as_ptr();
         answer(if bulk {
             unsafe { ffi::hk_ring_try_take_bulk(hand, 0, at, n) }
         } else {
@@ -70,93 +91,101 @@ impl<T: Word> Hand<T> {
     }
 
     pub(crate) fn put_one(&mut self, word: T) -> Result<usize, Error> {
-        answer(unsafe { ffi::hk_ring_try_put_one(self.0.as_ptr(), 0, word.into_bits()) })
+        answer(unsafe { ffi::hk_ring_try_put_one(self.at.as_ptr(), 0, word.into_bits()) })
     }
 
     pub(crate) fn take_one(&mut self, word: &mut T) -> Result<usize, Error> {
-        answer(unsafe { ffi::hk_ring_try_take_one(self.0.as_ptr(), 0, (&raw mut *word).cast()) })
+        answer(unsafe { ffi::hk_ring_try_take_one(self.at.as_ptr(), 0, (&raw mut *word).cast()) })
     }
 
     /// The same where there is no word of the type yet.
     pub(crate) fn take_bits(&mut self, word: &mut u64) -> Result<usize, Error> {
-        answer(unsafe { ffi::hk_ring_try_take_one(self.0.as_ptr(), 0, word) })
+        answer(unsafe { ffi::hk_ring_try_take_one(self.at.as_ptr(), 0, word) })
     }
 
     pub(crate) fn finish_put(&mut self, words: &[T]) -> Result<usize, Error> {
-        answer(unsafe { ffi::hk_ring_finish_put(self.0.as_ptr(), words.as_ptr().cast(), words.len()) })
+        answer(unsafe { ffi::hk_ring_finish_put(self.at.as_ptr(), words.as_ptr().cast(), words.len()) })
     }
 
     pub(crate) fn finish_take(&mut self, n: usize) -> Result<usize, Error> {
-        answer(unsafe { ffi::hk_ring_finish_take(self.0.as_ptr(), n) })
+        answer(unsafe { ffi::hk_ring_finish_take(self.at.as_ptr(), n) })
     }
 
-    /// Holds the put side with at most so many positions. Returns how many.
-    pub(crate) fn hold_put(&mut self, most: usize) -> Result<usize, Error> {
-        answer(unsafe { ffi::hk_ring_peek_put_burst(self.0.as_ptr(), 0, most) })
+    /// Puts a word by the hand's end.
+    #[inline]
+    pub(crate) fn end_put(&mut self, word: u64) -> Result<(), Error> {
+        let end = self.puts.as_ptr();
+        let code = unsafe { ffi::hk_producer_put_once(end, word) };
+        if code >= 0 {
+            return Ok(());
+        }
+        answer(unsafe { ffi::hk_producer_put_again(end, word, code) }).map(drop)
     }
 
-    /// Puts a word on the held side; the last one of its positions gives it up.
-    pub(crate) fn put_held(&mut self, word: u64, is_last: bool) -> Result<usize, Error> {
-        let hand = self.0.as_ptr();
-        answer(if is_last {
-            unsafe { ffi::hk_ring_finish_put(hand, &raw const word, 1) }
-        } else {
-            unsafe { ffi::hk_ring_advance_put_one(hand, word) }
-        })
+    /// Takes a word by the hand's end.
+    #[inline]
+    pub(crate) fn end_take(&mut self, word: &mut u64) -> Result<(), Error> {
+        let end = self.takes.as_ptr();
+        let code = unsafe { ffi::hk_consumer_take_once(end, word) };
+        if code >= 0 {
+            return Ok(());
+        }
+        answer(unsafe { ffi::hk_consumer_take_again(end, word, code) }).map(drop)
     }
 
-    /// Gives up a held put side.
-    pub(crate) fn release_put(&mut self) -> Result<usize, Error> {
-        answer(unsafe { ffi::hk_ring_finish_put(self.0.as_ptr(), null(), 0) })
+    pub(crate) fn end_finish_put(&mut self, word: u64) -> Result<(), Error> {
+        answer(unsafe { ffi::hk_producer_finish(self.puts.as_ptr(), word) }).map(drop)
     }
 
-    /// Holds the take side with at most so many words. Returns how many.
-    pub(crate) fn hold_take(&mut self, most: usize) -> Result<usize, Error> {
-        answer(unsafe { ffi::hk_ring_hold_take_burst(self.0.as_ptr(), 0, most) })
+    pub(crate) fn end_finish_take(&mut self) -> Result<(), Error> {
+        answer(unsafe { ffi::hk_consumer_finish(self.takes.as_ptr()) }).map(drop)
     }
 
-    /// Takes the next word of the held side; the last one gives it up.
-    pub(crate) fn take_held(&mut self, word: &mut u64, is_last: bool) -> Result<usize, Error> {
-        let hand = self.0.as_ptr();
-        answer(if is_last {
-            unsafe { ffi::hk_ring_release_take(hand, word, 1) }
-        } else {
-            unsafe { ffi::hk_ring_advance_take_one(hand, word) }
-        })
+    /// Lets an end hold its side with at most so many positions at a time.
+    pub(crate) fn hold_puts(&mut self, most: usize) -> Result<(), Error> {
+        answer(unsafe { ffi::hk_producer_hold(self.puts.as_ptr(), most) }).map(drop)
     }
 
-    /// Gives up a held take side. What wasn't taken stays on the ring.
-    pub(crate) fn release_take(&mut self) -> Result<usize, Error> {
-        answer(unsafe { ffi::hk_ring_release_take(self.0.as_ptr(), null_mut(), 0) })
+    pub(crate) fn hold_takes(&mut self, most: usize) -> Result<(), Error> {
+        answer(unsafe { ffi::hk_consumer_hold(self.takes.as_ptr(), most) }).map(drop)
+    }
+
+    /// Gives up the side that an end holds.
+    pub(crate) fn release_puts(&mut self) -> Result<(), Error> {
+        answer(unsafe { ffi::hk_producer_release(self.puts.as_ptr()) }).map(drop)
+    }
+
+    pub(crate) fn release_takes(&mut self) -> Result<(), Error> {
+        answer(unsafe { ffi::hk_consumer_release(self.takes.as_ptr()) }).map(drop)
     }
 
     pub(crate) fn capacity(&self) -> usize {
-        self.1
+        self.capacity
     }
 
     pub(crate) fn left(&self) -> usize {
-        answer(unsafe { ffi::hk_hand_left(self.0.as_ptr()) }).unwrap_or(0)
+        answer(unsafe { ffi::hk_hand_left(self.at.as_ptr()) }).unwrap_or(0)
     }
 
     pub(crate) fn count(&self) -> usize {
-        answer(unsafe { ffi::hk_ring_count(self.0.as_ptr(), 0) }).unwrap_or(0)
+        answer(unsafe { ffi::hk_ring_count(self.at.as_ptr(), 0) }).unwrap_or(0)
     }
 
     pub(crate) fn room(&self) -> usize {
-        answer(unsafe { ffi::hk_ring_room(self.0.as_ptr(), 0) }).unwrap_or(0)
+        answer(unsafe { ffi::hk_ring_room(self.at.as_ptr(), 0) }).unwrap_or(0)
     }
 
     pub(crate) fn close(&mut self) -> Result<usize, Error> {
-        answer(unsafe { ffi::hk_hand_close(self.0.as_ptr()) })
+        answer(unsafe { ffi::hk_hand_close(self.at.as_ptr()) })
     }
 
     pub(crate) fn drain(&mut self, words: &mut [u64]) -> Result<usize, Error> {
-        answer(unsafe { ffi::hk_hand_drain(self.0.as_ptr(), 0, words.as_mut_ptr(), words.len()) })
+        answer(unsafe { ffi::hk_hand_drain(self.at.as_ptr(), 0, words.as_mut_ptr(), words.len()) })
     }
 }
 
 impl<T> Drop for Hand<T> {
     fn drop(&mut self) {
-        unsafe { ffi::hk_hand_free(self.0.as_ptr()) }
+        unsafe { ffi::hk_hand_free(self.at.as_ptr()) }
     }
 }

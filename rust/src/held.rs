@@ -12,8 +12,6 @@ use core::fmt;
 #[must_use]
 pub struct HeldPuts<'a, T: Word> {
     hand: &'a mut Hand<T>,
-    most: usize,
-    left: usize,
 }
 
 /// A consumer that reserves several words at once on the take side of a ring, which has to be head/tail-sync, and then
@@ -23,25 +21,27 @@ pub struct HeldPuts<'a, T: Word> {
 #[must_use]
 pub struct HeldTakes<'a, T: Word> {
     hand: &'a mut Hand<T>,
-    most: usize,
-    left: usize,
 }
 
 impl<T: Word> Producer<T> {
     /// A guard that holds the put side from its first `put` on: it reserves up to `most` positions at a time, 1 to
     /// `MOST`.
     ///
+    /// # Errors
+    ///
+    /// `Mode` if the side isn't head/tail-sync; `Count` if `most` is 0 or above `MOST`.
+    ///
     /// ```
     /// use hokhtura::{Mode, Ring};
     ///
     /// # fn main() -> Result<(), hokhtura::Error> {
     /// let (mut producer, mut consumer) = Ring::with_modes(100, Mode::Hts, Mode::Hts)?.split()?;
-    /// let mut puts = producer.hold(64);
+    /// let mut puts = producer.hold(64)?;
     /// for word in 0..10u64 {
     ///     puts.put(word)?;
     /// }
     /// drop(puts);
-    /// let mut takes = consumer.hold(64);
+    /// let mut takes = consumer.hold(64)?;
     /// assert_eq!(takes.take()?, 0);
     /// assert_eq!(takes.take()?, 1);
     /// drop(takes);
@@ -49,16 +49,22 @@ impl<T: Word> Producer<T> {
     /// # Ok(())
     /// # }
     /// ```
-    pub fn hold(&mut self, most: usize) -> HeldPuts<'_, T> {
-        HeldPuts { hand: self.hand(), most, left: 0 }
+    pub fn hold(&mut self, most: usize) -> Result<HeldPuts<'_, T>, Error> {
+        self.hand().hold_puts(most)?;
+        Ok(HeldPuts { hand: self.hand() })
     }
 }
 
 impl<T: Word> Consumer<T> {
     /// A guard that holds the take side from its first `take` on: it reserves up to `most` words at a time, 1 to
     /// `MOST`.
-    pub fn hold(&mut self, most: usize) -> HeldTakes<'_, T> {
-        HeldTakes { hand: self.hand(), most, left: 0 }
+    ///
+    /// # Errors
+    ///
+    /// `Mode` if the side isn't head/tail-sync; `Count` if `most` is 0 or above `MOST`.
+    pub fn hold(&mut self, most: usize) -> Result<HeldTakes<'_, T>, Error> {
+        self.hand().hold_takes(most)?;
+        Ok(HeldTakes { hand: self.hand() })
     }
 }
 
@@ -67,16 +73,10 @@ impl<T: Word> HeldPuts<'_, T> {
     ///
     /// # Errors
     ///
-    /// `Mode` if the side isn't head/tail-sync; `Open` if a forgotten guard holds it; `Count` if `most` is 0 or above
-    /// `MOST`; `NoRoom`; `Again`; `Worn`. The word wasn't put then, and this guard holds nothing.
+    /// `NoRoom`; `Again`; `Worn`. The word wasn't put then, and this guard holds nothing.
     #[inline]
     pub fn put(&mut self, word: T) -> Result<(), Error> {
-        if self.left == 0 {
-            self.left = self.hand.hold_put(self.most)?;
-        }
-        self.hand.put_held(word.into_bits(), self.left == 1)?;
-        self.left -= 1;
-        Ok(())
+        self.hand.end_put(word.into_bits())
     }
 }
 
@@ -85,45 +85,37 @@ impl<T: Word> HeldTakes<'_, T> {
     ///
     /// # Errors
     ///
-    /// `NoRoom` if the ring is empty; otherwise as `HeldPuts::put`, but never `Worn`.
+    /// `NoRoom` if the ring is empty; `Again`. This guard holds nothing then.
     #[inline]
     pub fn take(&mut self) -> Result<T, Error> {
-        if self.left == 0 {
-            self.left = self.hand.hold_take(self.most)?;
-        }
-        let mut word = 0;
-        self.hand.take_held(&mut word, self.left == 1)?;
-        self.left -= 1;
+        let mut bits = 0;
+        self.hand.end_take(&mut bits)?;
         // SAFETY: it was put on this ring, whose words are of this type.
-        Ok(unsafe { T::of_bits(word) })
+        Ok(unsafe { T::of_bits(bits) })
     }
 }
 
 impl<T: Word> Drop for HeldPuts<'_, T> {
     fn drop(&mut self) {
-        if self.left > 0 {
-            // On a head/tail-sync side nothing can refuse this.
-            let _ = self.hand.release_put();
-        }
+        // On a head/tail-sync side nothing can refuse this.
+        let _ = self.hand.release_puts();
     }
 }
 
 impl<T: Word> Drop for HeldTakes<'_, T> {
     fn drop(&mut self) {
-        if self.left > 0 {
-            let _ = self.hand.release_take();
-        }
+        let _ = self.hand.release_takes();
     }
 }
 
 impl<T: Word> fmt::Debug for HeldPuts<'_, T> {
     fn fmt(&self, f: &mut fmt::Formatter<'_>) -> fmt::Result {
-        f.debug_struct("HeldPuts").field("left", &self.left).finish_non_exhaustive()
+        f.debug_struct("HeldPuts").finish_non_exhaustive()
     }
 }
 
 impl<T: Word> fmt::Debug for HeldTakes<'_, T> {
     fn fmt(&self, f: &mut fmt::Formatter<'_>) -> fmt::Result {
-        f.debug_struct("HeldTakes").field("left", &self.left).finish_non_exhaustive()
+        f.debug_struct("HeldTakes").finish_non_exhaustive()
     }
 }

@@ -18,11 +18,15 @@ pub struct Ring<T: Word> {
 /// A thread's handle for putting words on a ring. It is dropped as a [`Ring`] is.
 pub struct Producer<T: Word> {
     hand: Hand<T>,
+    /// The word of a `put` that is pending.
+    pending: Option<u64>,
 }
 
 /// A thread's handle for taking words from a ring. It is dropped as a [`Ring`] is.
 pub struct Consumer<T: Word> {
     hand: Hand<T>,
+    /// The word of a take that is pending.
+    pending: Option<u64>,
 }
 
 macro_rules! puts {
@@ -171,14 +175,94 @@ macro_rules! both {
 }
 
 impl<T: Word> Producer<T> {
+    fn of(hand: Hand<T>) -> Self {
+        Producer { hand, pending: None }
+    }
+
     pub(crate) fn hand(&mut self) -> &mut Hand<T> {
         &mut self.hand
+    }
+
+    /// Puts a word in less time than `try_put_one`: it doesn't say how much room is left.
+    ///
+    /// ```
+    /// # fn main() -> Result<(), hokhtura::Error> {
+    /// let (mut producer, mut consumer) = hokhtura::Ring::new(7)?.split()?;
+    /// producer.put(1.5)?;
+    /// assert_eq!(consumer.take(), Ok(1.5));
+    /// assert_eq!(consumer.take(), Err(hokhtura::Error::NoRoom));
+    /// # Ok(())
+    /// # }
+    /// ```
+    ///
+    /// # Errors
+    ///
+    /// `Open`: an earlier call of this handle is pending; `NoRoom`; `Worn`; `Again`: the word wasn't put. `Pending`: the
+    /// position is reserved, and `finish` puts the word.
+    #[inline]
+    pub fn put(&mut self, word: T) -> Result<(), Error> {
+        let bits = word.into_bits();
+        let outcome = self.hand.end_put(bits);
+        if outcome == Err(Error::Pending) {
+            self.pending = Some(bits);
+        }
+        outcome
+    }
+
+    /// Finishes a `put` that returned `Pending`.
+    ///
+    /// # Errors
+    ///
+    /// `Pending`: not yet. `NotOpen`: no `put` is pending.
+    pub fn finish(&mut self) -> Result<(), Error> {
+        let bits = self.pending.ok_or(Error::NotOpen)?;
+        self.hand.end_finish_put(bits)?;
+        self.pending = None;
+        Ok(())
     }
 }
 
 impl<T: Word> Consumer<T> {
+    fn of(hand: Hand<T>) -> Self {
+        Consumer { hand, pending: None }
+    }
+
     pub(crate) fn hand(&mut self) -> &mut Hand<T> {
         &mut self.hand
+    }
+
+    /// Takes the oldest word in less time than `try_take_one`: it doesn't say how many are left.
+    ///
+    /// # Errors
+    ///
+    /// `Open`: an earlier call of this handle is pending; `NoRoom` if the ring is empty; `Again`. `Pending`: the word is
+    /// this handle's, and `finish` takes it off the ring and returns it.
+    #[inline]
+    pub fn take(&mut self) -> Result<T, Error> {
+        let mut bits = 0;
+        match self.hand.end_take(&mut bits) {
+            // SAFETY: it was put on this ring, whose words are of this type.
+            Ok(()) => Ok(unsafe { T::of_bits(bits) }),
+            Err(error) => {
+                if error == Error::Pending {
+                    self.pending = Some(bits);
+                }
+                Err(error)
+            }
+        }
+    }
+
+    /// Finishes a `take` that returned `Pending`, and returns its word.
+    ///
+    /// # Errors
+    ///
+    /// `Pending`: not yet. `NotOpen`: no `take` is pending.
+    pub fn finish(&mut self) -> Result<T, Error> {
+        let bits = self.pending.ok_or(Error::NotOpen)?;
+        self.hand.end_finish_take()?;
+        self.pending = None;
+        // SAFETY: it was put on this ring, whose words are of this type.
+        Ok(unsafe { T::of_bits(bits) })
     }
 }
 
@@ -218,7 +302,7 @@ impl<T: Word> Ring<T> {
     /// ```
     pub fn split(mut self) -> Result<(Producer<T>, Consumer<T>), Error> {
         let other = self.hand.split()?;
-        Ok((Producer { hand: self.hand }, Consumer { hand: other }))
+        Ok((Producer::of(self.hand), Consumer::of(other)))
     }
 
     /// Another hand on the same ring, for another thread.
@@ -245,7 +329,7 @@ impl<T: Word> Producer<T> {
     ///
     /// `Memory`, `Again`, `Parts`, `Open`.
     pub fn try_clone(&mut self) -> Result<Self, Error> {
-        Ok(Producer { hand: self.hand.split()? })
+        Ok(Producer::of(self.hand.split()?))
     }
 }
 
@@ -259,7 +343,7 @@ impl<T: Word> Consumer<T> {
     ///
     /// `Memory`, `Again`, `Parts`, `Open`.
     pub fn try_clone(&mut self) -> Result<Self, Error> {
-        Ok(Consumer { hand: self.hand.split()? })
+        Ok(Consumer::of(self.hand.split()?))
     }
 }
 

@@ -154,25 +154,78 @@ fn words_pass_one_by_one() -> Result<(), Error> {
 }
 
 #[test]
+fn ends_pass_words_one_by_one() -> Result<(), Error> {
+    for (put, take) in [(Mode::Multi, Mode::Multi), (Mode::Hts, Mode::Hts), (Mode::Multi, Mode::Hts)] {
+        let (mut producer, mut consumer) = Ring::with_modes(2, put, take)?.split()?;
+        assert_eq!(
+            (consumer.take(), consumer.finish(), producer.finish()),
+            (Err(Error::NoRoom), Err(Error::NotOpen), Err(Error::NotOpen))
+        );
+        assert_eq!((producer.put(1.5), producer.put(2.5), producer.put(3.5)), (Ok(()), Ok(()), Err(Error::NoRoom)));
+        assert_eq!((consumer.take(), producer.try_put_one(3.5), consumer.take()), (Ok(1.5), Ok(()), Ok(2.5)));
+        assert_eq!((consumer.len(), consumer.take(), consumer.take()), (1, Ok(3.5), Err(Error::NoRoom)));
+    }
+    Ok(())
+}
+
+#[test]
+fn threads_put_and_take_by_ends() -> Result<(), Error> {
+    const WORDS: u64 = 50_000;
+    for mode in [Mode::Multi, Mode::Hts] {
+        let (mut producer, mut consumer) = Ring::with_modes(20, mode, mode)?.split()?;
+        let mut second = producer.try_clone()?;
+        let puts = move |end: &mut hokhtura::Producer<u64>, first: u64| {
+            for word in first..first + WORDS {
+                let mut outcome = end.put(word);
+                while let Err(error) = outcome {
+                    thread::yield_now();
+                    outcome = if error == Error::Pending { end.finish() } else { end.put(word) };
+                }
+            }
+        };
+        let senders = [thread::spawn(move || puts(&mut producer, 0)), thread::spawn(move || puts(&mut second, WORDS))];
+        let (mut next, mut count) = ([0, WORDS], 0);
+        while count < 2 * WORDS {
+            let mut found = consumer.take();
+            while found == Err(Error::Pending) {
+                found = consumer.finish();
+            }
+            if let Ok(word) = found {
+                let from = usize::from(word >= WORDS);
+                assert_eq!(word, next[from]);
+                next[from] += 1;
+                count += 1;
+            } else {
+                thread::yield_now();
+            }
+        }
+        for sender in senders {
+            sender.join().unwrap();
+        }
+    }
+    Ok(())
+}
+
+#[test]
 fn a_held_side_is_given_back_when_it_is_dropped() -> Result<(), Error> {
     for most in [1, 2, 7, MOST] {
         let (mut producer, mut consumer) = Ring::with_modes(6, Mode::Hts, Mode::Hts)?.split()?;
-        let mut puts = producer.hold(most);
+        let mut puts = producer.hold(most)?;
         for word in 0..6u64 {
             puts.put(word)?;
         }
         assert_eq!(puts.put(6), Err(Error::NoRoom));
-        let mut takes = consumer.hold(most);
+        let mut takes = consumer.hold(most)?;
         assert_eq!((takes.take(), takes.take()), (Ok(0), Ok(1)));
         assert_eq!(puts.put(6), Ok(()));
         drop((puts, takes));
         assert_eq!((producer.room(), consumer.len()), (1, 5));
         assert_eq!(consumer.taken().collect::<Vec<_>>(), [2, 3, 4, 5, 6]);
-        assert_eq!(consumer.hold(most).take(), Err(Error::NoRoom));
+        assert_eq!(consumer.hold(most)?.take(), Err(Error::NoRoom));
     }
     let (mut producer, mut consumer) = Ring::<u64>::new(6)?.split()?;
-    assert_eq!(producer.hold(1).put(1), Err(Error::Mode));
-    assert_eq!(consumer.hold(1).take(), Err(Error::Mode));
+    assert_eq!(producer.hold(1).err(), Some(Error::Mode));
+    assert_eq!(consumer.hold(1).err(), Some(Error::Mode));
     Ok(())
 }
 
@@ -180,11 +233,11 @@ fn a_held_side_is_given_back_when_it_is_dropped() -> Result<(), Error> {
 fn a_ring_is_counted_while_its_sides_are_held() -> Result<(), Error> {
     let (mut producer, mut consumer) = Ring::with_modes(6, Mode::Hts, Mode::Hts)?.split()?;
     let other = producer.try_clone()?;
-    let mut puts = producer.hold(4);
+    let mut puts = producer.hold(4)?;
     puts.put(1u64)?;
     puts.put(2)?;
     assert_eq!((other.len(), other.room(), other.is_empty()), (2, 4, false));
-    let mut takes = consumer.hold(2);
+    let mut takes = consumer.hold(2)?;
     assert_eq!((other.len(), takes.take(), other.len(), other.room()), (2, Ok(1), 1, 5));
     Ok(())
 }
@@ -194,14 +247,14 @@ fn two_threads_hold_both_sides() -> Result<(), Error> {
     const WORDS: u64 = 50_000;
     let (mut producer, mut consumer) = Ring::with_modes(20, Mode::Hts, Mode::Hts)?.split()?;
     let sender = thread::spawn(move || {
-        let mut puts = producer.hold(7);
+        let mut puts = producer.hold(7).unwrap();
         for word in 0..WORDS {
             while puts.put(word).is_err() {
                 thread::yield_now();
             }
         }
     });
-    let mut takes = consumer.hold(5);
+    let mut takes = consumer.hold(5)?;
     for word in 0..WORDS {
         let mut found = takes.take();
         while found.is_err() {

@@ -8,8 +8,10 @@ pub mod Asking
 pub mod Emptying
 pub mod Filling
 pub mod Held
+pub mod EndCalls
 pub mod Limits
 pub mod Reserving
+mod EndRows
 mod HoldRows
 mod RingRows
 pub mod Settled

@@ -281,5 +281,8 @@ looks_and_shows m u other is = other is.shown
 looks_and_opens : (m u : Member) → u.port.hand.span ≢ m.port.hand.span → SameButLoads m u → ⊥
 looks_and_opens m u other is = other is.span
 
+looks_and_opens_an_end : (m u : Member) → u.ends ≢ m.ends → SameButLoads m u → ⊥
+looks_and_opens_an_end m u other is = other is.ends
+
 looks_and_tells : (m u : Member) → u.left ≢ m.left → SameButLoads m u → ⊥
 looks_and_tells m u other is = other is.left

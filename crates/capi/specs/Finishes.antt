@@ -21,6 +21,15 @@ abbrev pub DoesNotFit : Mode → ℕ → ℕ → Type 0
 DoesNotFit Multi n count = n < count
 DoesNotFit Hts n count = count < n
 
+-- how many of a span's positions a count of n settles: on a multi side all, on an HTS side n
+abbrev pub settled_by : Mode → ℕ → ℕ → ℕ
+settled_by Multi n count = count
+settled_by Hts n count = n
+
+-- and that may be settled
+abbrev pub Settles : Mode → ℕ → ℕ → ℕ → Type 0
+Settles mode n count k = (k ≡ settled_by mode n count) × IsCount mode k count
+
 module _ (f : Rings) (span : Span) (v : View Word64) where
   -- why the span is open as before
   abbrev pub StaysOpen : Side → ℕ → View Word64 → Fault → Type 0
@@ -28,14 +37,14 @@ module _ (f : Rings) (span : Span) (v : View Word64) where
       ((why ≡ fault.Count) × (w ≡ v) × OnRing f span.ring (λ plan. DoesNotFit (mode_of plan side) n span.count))
       ⊎ ((why ≡ fault.Pending) × IsEarly f span v w)
 
-  -- the first of these words were published at the first positions of the span
+  -- the first of these words were published at the first positions of the span: on an HTS side all of them
   abbrev pub FinishesPut : List Word64 → View Word64 → Outcome → Type 0
   FinishesPut words w (Ok count) = (count ≤ length words)
-      × OnRing f span.ring (λ plan. IsCount plan.put count span.count) × HasSettled span (take count words) v w
+      × OnRing f span.ring (λ plan. Settles plan.put (length words) span.count count) × HasSettled span (take count words) v w
   FinishesPut words w (Err why) = StaysOpen Put (length words) w why
 
   -- the first of the words that the take showed were taken
   abbrev pub FinishesTake : ℕ → View Word64 → Outcome → Type 0
-  FinishesTake n w (Ok count) = (count ≤ n) × OnRing f span.ring (λ plan. IsCount plan.take count span.count)
+  FinishesTake n w (Ok count) = (count ≤ n) × OnRing f span.ring (λ plan. Settles plan.take n span.count count)
       × HasSettled span (take count v.shown) v w
   FinishesTake n w (Err why) = StaysOpen Take n w why

@@ -14,7 +14,7 @@ use Rattle.fabric.specs.declared.hand.in_place.Reserved.{Reserved}
 use Rattle.capi.specs.Calls.{Refuses}
 use Rattle.capi.specs.Codes.{Outcome}
 use Rattle.capi.specs.Members.{Rings}
-use Rattle.capi.specs.RingCalls.{OnHts, OnPutting, SameMember, member_view}
+use Rattle.capi.specs.RingCalls.{KeepsRings, OnHts, OnPutting, SameMember, member_view}
 use Rattle.capi.specs.Spans.{HasReserved, HasSettled, limit_of}
 use Rattle.capi.specs.declared.rings.fault.Fault.TheVariants as fault
 use Rattle.capi.specs.declared.rings.member.Member.{Member}
@@ -65,7 +65,7 @@ module _ (same : Type 0) where
       same × (after ≡ before) × (why ≡ fault.Count) × (span.count < length before)
 
 abbrev pub AdvancesPut : List Word64 → Member → Member → Outcome → Type 0
-AdvancesPut words m u outcome = OnPutting m outcome (SameMember m u) (λ span v. (u.port.fabric ≡ m.port.fabric)
+AdvancesPut words m u outcome = OnPutting m outcome (SameMember m u) (λ span v. KeepsRings m u
     × Publishes (SameMember m u) m.port.fabric.value span v words u.port.hand.span (member_view u) outcome)
 
 module _ (f : Rings) (how : How) (n ring : ℕ) (v : View Word64) where
@@ -74,15 +74,15 @@ module _ (f : Rings) (how : How) (n ring : ℕ) (v : View Word64) where
   Holds left at w (Err why) = Refuses f (limit_of Hts) how n ring Take v why left w
 
 abbrev pub HoldsTake : ℕ → How → ℕ → Member → Member → Outcome → Type 0
-HoldsTake ring how n m u outcome = OnHts ring Take m outcome (SameMember m u) (λ v. (u.port.fabric ≡ m.port.fabric)
+HoldsTake ring how n m u outcome = OnHts ring Take m outcome (SameMember m u) (λ v. KeepsRings m u
     × Holds m.port.fabric.value how n ring v u.left u.port.hand.span (member_view u) outcome)
 
 abbrev pub AdvancesTake : List Word64 → List Word64 → Member → Member → Outcome → Type 0
 AdvancesTake before after m u outcome = OnHeld m.port.hand.span outcome (SameMember m u × (after ≡ before))
-    (λ span. (u.port.fabric ≡ m.port.fabric)
+    (λ span. KeepsRings m u
     × TakesNext (SameMember m u) span (member_view m) before after u.port.hand.span (member_view u) outcome)
 
 abbrev pub EndsHeld : List Word64 → List Word64 → Member → Member → Outcome → Type 0
 EndsHeld before after m u outcome = OnHeld m.port.hand.span outcome (SameMember m u × (after ≡ before))
-    (λ span. (u.port.fabric ≡ m.port.fabric)
+    (λ span. KeepsRings m u
     × TakesLast (SameMember m u) span (member_view m) before after u.port.hand.span (member_view u) outcome)

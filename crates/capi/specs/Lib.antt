@@ -17,6 +17,8 @@ pub mod Counts
 pub mod RingCalls
 pub mod MemberCalls
 pub mod Holding
+pub mod Ends
+pub mod EndCalls
 pub mod Plans
 pub mod Openings
 pub mod Rests

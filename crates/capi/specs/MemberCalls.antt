@@ -10,7 +10,7 @@ use Rattle.capi.specs.Calls.{PeeksPut, PeeksTake, Puts, Takes}
 use Rattle.capi.specs.Codes.{Outcome}
 use Rattle.capi.specs.Finishes.{FinishesPut, FinishesTake}
 use Rattle.capi.specs.Counts.{Looks}
-use Rattle.capi.specs.RingCalls.{OnHts, OnPutting, OnRings, OnTaking, SameButLoads, SameMember, member_view}
+use Rattle.capi.specs.RingCalls.{KeepsRings, OnHts, OnPutting, OnRings, OnTaking, SameButLoads, SameMember, member_view}
 use Rattle.capi.specs.Spans.{tags}
 use Rattle.capi.specs.declared.rings.fault.Fault.TheVariants as fault
 use Rattle.capi.specs.declared.rings.member.Member.{Member}
@@ -18,27 +18,27 @@ use Rattle.capi.specs.declared.rings.word64.Word64.{Word64}
 
 module _ (ring : ℕ) (how : How) where
   abbrev pub PutsWords : List Word64 → Member → Member → Outcome → Type 0
-  PutsWords words m u outcome = OnRings ring m outcome (SameMember m u) (λ v. (u.port.fabric ≡ m.port.fabric)
+  PutsWords words m u outcome = OnRings ring m outcome (SameMember m u) (λ v. KeepsRings m u
       × Puts m.port.fabric.value how ring v words u.left (member_view u) outcome)
 
   abbrev pub TakesWords : List Word64 → List Word64 → Member → Member → Outcome → Type 0
-  TakesWords before after m u outcome = OnRings ring m outcome (SameMember m u × (after ≡ before)) (λ v. (u.port.fabric ≡ m.port.fabric)
+  TakesWords before after m u outcome = OnRings ring m outcome (SameMember m u × (after ≡ before)) (λ v. KeepsRings m u
       × Takes m.port.fabric.value how ring v before after u.left (member_view u) outcome)
 
   abbrev pub OpensPut : ℕ → Member → Member → Outcome → Type 0
-  OpensPut n m u outcome = OnHts ring Put m outcome (SameMember m u) (λ v. (u.port.fabric ≡ m.port.fabric)
+  OpensPut n m u outcome = OnHts ring Put m outcome (SameMember m u) (λ v. KeepsRings m u
       × PeeksPut m.port.fabric.value how ring v n u.left (member_view u) outcome)
 
   abbrev pub OpensTake : List Word64 → List Word64 → Member → Member → Outcome → Type 0
-  OpensTake before after m u outcome = OnHts ring Take m outcome (SameMember m u × (after ≡ before)) (λ v. (u.port.fabric ≡ m.port.fabric)
+  OpensTake before after m u outcome = OnHts ring Take m outcome (SameMember m u × (after ≡ before)) (λ v. KeepsRings m u
       × PeeksTake m.port.fabric.value how ring v before after u.left (member_view u) outcome)
 
 abbrev pub EndsPut : List Word64 → Member → Member → Outcome → Type 0
-EndsPut words m u outcome = OnPutting m outcome (SameMember m u) (λ span v. (u.port.fabric ≡ m.port.fabric)
+EndsPut words m u outcome = OnPutting m outcome (SameMember m u) (λ span v. KeepsRings m u
     × FinishesPut m.port.fabric.value span v words (member_view u) outcome)
 
 abbrev pub EndsTake : ℕ → Member → Member → Outcome → Type 0
-EndsTake n m u outcome = OnTaking m outcome (SameMember m u) (λ span v. (u.port.fabric ≡ m.port.fabric)
+EndsTake n m u outcome = OnTaking m outcome (SameMember m u) (λ span v. KeepsRings m u
     × FinishesTake m.port.fabric.value span v n (member_view u) outcome)
 
 -- a look at a ring, with a span open or without

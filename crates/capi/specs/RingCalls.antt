@@ -26,6 +26,11 @@ pub record SameMember (m u : Member) : Type 0 where
   pub hand : u.port.hand ≡ m.port.hand
   pub shown : u.shown.value ≡ m.shown.value
   pub left : u.left ≡ m.left
+  pub ends : u.ends ≡ m.ends
+
+-- it is on the same rings, with the same ends
+abbrev pub KeepsRings : Member → Member → Type 0
+KeepsRings m u = (u.port.fabric ≡ m.port.fabric) × (u.ends ≡ m.ends)
 
 abbrev pub member_view : Member → View Word64
 member_view m = placed_view m.port.hand
@@ -76,6 +81,7 @@ pub record LikeMember (m u : Member) : Type 0 where
   pub view : IsSameBut (member_view m) (member_view u)
   pub shown : u.shown.value ≡ m.shown.value
   pub left : u.left ≡ m.left
+  pub ends : u.ends ≡ m.ends
 
 -- how many words are queued, or how many more there is room for
 abbrev pub room_side : Bool → Side
@@ -88,6 +94,7 @@ pub record SameButLoads (m u : Member) : Type 0 where
   pub span : u.port.hand.span ≡ m.port.hand.span
   pub shown : u.shown.value ≡ m.shown.value
   pub left : u.left ≡ m.left
+  pub ends : u.ends ≡ m.ends
 
 -- another thread has a hand now: the first keeps what it has done, the second has done nothing
 pub record Splits (m u other : Member) : Type 0 where

@@ -1,6 +1,5 @@
 //! The exports for a side that a hand holds.
-ghost use Rattle.std.specs.Prelude.{[], ◌∷◌};
-ghost use Rattle.capi.specs.Calls.{how_of, word_of};
+ghost use Rattle.capi.specs.Calls.{how_of};
 ghost use Rattle.capi.specs.Codes.{Answers};
 ghost use Rattle.capi.specs.HandCalls.{AtHand};
 ghost use Rattle.capi.specs.Holding.{AdvancesPut, AdvancesTake, EndsHeld, HoldsTake};
@@ -12,7 +11,6 @@ use crate::rings::{
     Fault, Word64, advance_put, advance_take, answer, hold_take, how, release_take,
 };
 use std::alloc::Global;
-use std::slice::from_mut;
 
 /// Publishes words at the first positions of the open span of a put. The other positions stay reserved.
 #[unsafe(no_mangle)]
@@ -50,21 +48,4 @@ pub extern "C" fn hkx_ring_release_take(alloc: Global, h: &mut Handle, words: &m
     ensures { Answers result (AtHand h.old.value h.new.value (EndsHeld words.old words.new)) }
 {
     with_object!(alloc, h, Hand(member) => release_take(member, words))
-}
-
-/// Publishes a word at the first position of the open span of a put. The other positions stay reserved.
-#[unsafe(no_mangle)]
-pub extern "C" fn hkx_ring_advance_put_one(alloc: Global, h: &mut Handle, bits: u64) -> i64
-    ensures { Answers result (AtHand h.old.value h.new.value (AdvancesPut (word_of bits ∷ []))) }
-{
-    with_object!(alloc, h, Hand(member) => advance_put(member, &[Word64 { bits }]))
-}
-
-/// Takes the next word of the held side. The others stay queued, and the side held.
-#[unsafe(no_mangle)]
-pub extern "C" fn hkx_ring_advance_take_one(alloc: Global, h: &mut Handle, word: &mut Word64) -> i64
-    ensures { Answers result
-        (AtHand h.old.value h.new.value (AdvancesTake (word.old ∷ []) (word.new ∷ []))) }
-{
-    with_object!(alloc, h, Hand(member) => advance_take(member, from_mut(word)))
 }

@@ -2,6 +2,7 @@
 //! windows, over handles that C keeps.
 #![tactic(auto)]
 
+mod end_exports;
 mod fib_exports;
 mod fibs;
 mod forward_exports;

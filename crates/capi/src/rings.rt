@@ -3,10 +3,14 @@
 //! `member` is a thread's hand on a set of rings, `opening` and `making` make it, `splitting` makes one for another
 //! thread, `member_calls` looks at rings, `closing` and `ending` close them. `reaching` finds the ring that a call is
 //! on. `whole_calls` puts and takes words in one call; `span_calls` peeks and finishes, through `peeking` and
-//! `finishing`; `holding` has the calls on a side that is held. Below these `starting` and `settling` are the two
-//! halves of a call. `word64` is a word, and `fault` what calls return.
+//! `finishing`; `holding` has the calls on a side that is held. `end` is a side of a ring that a hand opened to move
+//! words one by one, `ends` opens and holds it, `end_calls` has its puts and takes. Below these `starting` and
+//! `settling` are the two halves of a call. `word64` is a word, and `fault` what calls return.
 mod closing;
+mod end;
+mod end_calls;
 mod ending;
+mod ends;
 mod fault;
 mod finishing;
 mod holding;
@@ -24,7 +28,9 @@ mod whole_calls;
 mod word64;
 
 pub(crate) use closing::Rest;
+pub(crate) use end_calls::{end_put, end_take, usual_put, usual_take};
 pub(crate) use ending::{close, drain};
+pub(crate) use ends::{hold_end, open_end, release_end};
 pub(crate) use fault::{Fault, answer};
 pub(crate) use holding::{advance_put, advance_take, hold_take, release_take};
 pub(crate) use making::open;

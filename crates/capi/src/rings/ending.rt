@@ -28,6 +28,7 @@ pub fn close(member: Member) -> Result<Rest, (Member, Fault)>
         left,
         put_at,
         take_at,
+        ends,
         spares,
     } = member;
     let Port { fabric, hand } = port;
@@ -45,6 +46,7 @@ pub fn close(member: Member) -> Result<Rest, (Member, Fault)>
                 left,
                 put_at,
                 take_at,
+                ends,
                 spares,
             };
             Err((member, Fault::Shared))

@@ -5,9 +5,8 @@ ghost use Rattle.geom.specs.declared.plan.Side.TheVariants.{Put, Take};
 ghost use Rattle.fabric.specs.Hands.{rings_of};
 ghost use Rattle.fabric.specs.Held.{IsHtsOf, span_at};
 ghost use Rattle.fabric.specs.InPlace.{IsPlacedOf, placed_view};
-ghost use Rattle.fabric.specs.Settles.{IsCount};
 ghost use Rattle.fabric.specs.declared.hand.in_place.OpenSpan.TheVariants as open_span;
-ghost use Rattle.capi.specs.Finishes.{DoesNotFit, FinishesPut, FinishesTake};
+ghost use Rattle.capi.specs.Finishes.{DoesNotFit, FinishesPut, FinishesTake, Settles};
 ghost use Rattle.capi.specs.Members.{ArePlain, AreShown};
 ghost use Rattle.capi.specs.declared.rings.word64.Word64.{Word64 as Words};
 
@@ -21,7 +20,7 @@ use geom::{Mode, Side};
 /// How many of a span's positions are settled for a count of `n`: on a multi side all, and `n` is at least as many; on
 /// an HTS side `n`, and the span has at least as many. `None` if `n` doesn't fit.
 fn settled_count(mode: Mode, n: usize, count: usize) -> Option<usize>
-    ensures some { IfSome result (λ k. IsCount mode k count × (k ≤ n) × (k ≤ count)) }
+    ensures some { IfSome result (λ k. Settles mode n count k × (k ≤ n) × (k ≤ count)) }
     ensures none { IfNone result (DoesNotFit mode n count) }
 {
     match mode {

@@ -9,6 +9,7 @@ ghost use Rattle.capi.specs.Openings.{IsNewHand, RefusesRings};
 ghost use Rattle.capi.specs.RingCalls.{member_view};
 ghost use Rattle.capi.specs.declared.rings.fault.Fault.TheVariants as fault;
 
+use crate::rings::end::Ends;
 use crate::rings::fault::Fault;
 use crate::rings::member::{MOST, Member, WordSpares};
 use crate::rings::opening::{Asked, MOST_RINGS, plans};
@@ -63,6 +64,7 @@ fn first_member(
     let hand = HandInPlace::of(opened.hand);
     let put_at = fabric.place(0);
     let take_at = put_at;
+    let ends = Ends::closed(fabric.place(0));
     let port = Port { fabric, hand };
     Ok(Member {
         port,
@@ -70,6 +72,7 @@ fn first_member(
         left: 0,
         put_at,
         take_at,
+        ends,
         spares,
     })
 }

@@ -1,9 +1,11 @@
 //! One thread's hand on a set of rings, and what it has open between two calls.
 ghost use Rattle.std.specs.Prelude.{◌≡◌};
+ghost use Rattle.capi.specs.Ends.{AreEndsOf};
 ghost use Rattle.capi.specs.Members.{ArePlain, AreShown};
 ghost use Rattle.fabric.specs.Hands.{rings_of};
 ghost use Rattle.fabric.specs.Places.{IsPlaceOf};
 
+use crate::rings::end::Ends;
 use crate::rings::word64::Word64;
 use burst::Slot;
 use fabric::{Fabric, HandInPlace, Place};
@@ -39,10 +41,13 @@ pub struct Member {
     /// The ring of the last put, and that of the last take: a call on the same ring needn't look it up.
     pub put_at: Place,
     pub take_at: Place,
+    /// The sides that it has opened as ends.
+    pub ends: Ends,
     pub spares: Arc<WordSpares>,
     pub ghost plain: { ArePlain (rings_of port.fabric.value) },
     pub ghost shows: { AreShown port.hand shown.value },
     pub ghost puts: { IsPlaceOf port.fabric.value put_at },
     pub ghost takes: { IsPlaceOf port.fabric.value take_at },
+    pub ghost ended: { AreEndsOf port.fabric.value ends },
     pub ghost spare: { spares.value.lock.key ≡ port.fabric.value },
 }

@@ -6,6 +6,7 @@ ghost use Rattle.ringapi.specs.Spares.{IsSpareOf};
 ghost use Rattle.capi.specs.RingCalls.{LikeMember, RefusesSplit, Splits};
 ghost use Rattle.capi.specs.Spare.{RefusesSpare};
 
+use crate::rings::end::Ends;
 use crate::rings::fault::Fault;
 use crate::rings::member::{MOST, Member};
 use crate::rings::word64::Word64;
@@ -38,6 +39,7 @@ fn draw(alloc: Global, member: Member) -> (Member, Result<Hand<Word64, Slot<Word
         left,
         put_at,
         take_at,
+        ends,
         spares,
     } = member;
     let Port { fabric, hand } = port;
@@ -52,6 +54,7 @@ fn draw(alloc: Global, member: Member) -> (Member, Result<Hand<Word64, Slot<Word
         left,
         put_at,
         take_at,
+        ends,
         spares,
     };
     (member, drawn)
@@ -82,12 +85,14 @@ pub fn split(alloc: Global, member: Member) -> (Member, Result<Member, Fault>)
                 fabric,
                 hand: HandInPlace::of(hand),
             };
+            let ends = Ends::closed(member.put_at);
             let second = Member {
                 port,
                 shown,
                 left: 0,
                 put_at: member.put_at,
                 take_at: member.take_at,
+                ends,
                 spares,
             };
             (member, Ok(second))

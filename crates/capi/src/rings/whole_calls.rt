@@ -1,17 +1,23 @@
 //! Whole puts and takes of a member, each tried once.
-ghost use Rattle.std.specs.Prelude.{◌≡◌, ◌<◌, ◌≤◌, ◌↔◌, ◌^◌, [], ◌∷◌, false, length};
+ghost use Rattle.std.specs.Prelude.{◌≡◌, ◌<◌, ◌≤◌, ◌↔◌, ◌^◌, List, [], ◌∷◌, false, length};
 ghost use Rattle.geom.specs.declared.plan.How.TheVariants.{Bulk};
-ghost use Rattle.fabric.specs.Places.{HasCounts, IsPlaceOf, place_ring};
-ghost use Rattle.capi.specs.Calls.{how_of};
+ghost use Rattle.geom.specs.declared.plan.Side.TheVariants.{Put, Take};
+ghost use Rattle.fabric.specs.Hands.{rings_of};
+ghost use Rattle.fabric.specs.InPlace.{placed_view};
+ghost use Rattle.fabric.specs.Places.{HasCounts, IsPlaceOf, place_mode, place_ring};
+ghost use Rattle.fabric.specs.declared.hand.in_place.OpenSpan.TheVariants as open_span;
+ghost use Rattle.capi.specs.Calls.{Puts, Takes, how_of};
 ghost use Rattle.capi.specs.MemberCalls.{PutsWords, TakesWords};
+ghost use Rattle.capi.specs.Members.{ArePlain, AreShown};
 ghost use Rattle.capi.specs.Spans.{call_limit};
+ghost use Rattle.capi.specs.declared.rings.word64.Word64.{Word64 as Item};
 
 use crate::rings::fault::Fault;
-use crate::rings::member::{MOST, MOST_ON_MULTI, Member, Rings};
+use crate::rings::member::{MOST, MOST_ON_MULTI, Member, Rings, WordPort};
 use crate::rings::reaching::try_reach;
 use crate::rings::starting::{fault_of, room_in};
 use crate::rings::word64::Word64;
-use fabric::{OpenSpan, Place, WholeFault, Words};
+use fabric::{Known, OpenSpan, Place, WholeFault, Words};
 use geom::{How, Mode, Side};
 use std::slice::from_mut;
 
@@ -41,6 +47,117 @@ fn longest(_f: &Rings, place: &Place, side: Side, _n: usize, long: bool) -> usiz
     }
 }
 
+/// Puts the first of these words on the ring at a place, whose put side has this mode. It also returns how many more
+/// positions were free.
+#[inline(always)]
+fn put_in(
+    port: &mut WordPort,
+    place: &Place,
+    mode: Mode,
+    words: &[Word64],
+    how: How,
+    long: bool,
+) -> (u64, Result<u32, Fault>)
+    requires idle { port.old.hand.span ≡ open_span.Idle }
+    requires plain { ArePlain (rings_of port.old.fabric.value) }
+    requires place { IsPlaceOf port.old.fabric.value place.now }
+    requires mode { mode ≡ place_mode place.now Put }
+    requires short { long ≡ false → length words.now ≤ MOST }
+    ensures fabric { port.new.fabric ≡ port.old.fabric }
+    ensures shows { (shown : List Item) → AreShown port.new.hand shown }
+    ensures put { Puts port.old.fabric.value how (place_ring place.now) (placed_view port.old.hand) words.now result.0
+        (placed_view port.new.hand) result.1 }
+{
+    let most = longest(&port.fabric, place, Side::Put, words.len(), long);
+    let known = Known { mode, free: false };
+    match port.hand.try_put_at(&port.fabric, place, known, &mut Words { words }, most, how) {
+        Ok(reserved) => (reserved.left(), Ok(reserved.count() as u32)),
+        Err(WholeFault::Start(why)) => (room_in(why), Err(fault_of(why))),
+        Err(WholeFault::Settle(reserved, _fault)) => (reserved.left(), Err(Fault::Pending)),
+    }
+}
+
+/// Takes words from the ring at a place, whose take side has this mode, to the front of an array. It also returns how
+/// many more were queued.
+#[inline(always)]
+fn take_in(
+    port: &mut WordPort,
+    place: &Place,
+    mode: Mode,
+    words: &mut [Word64],
+    how: How,
+    long: bool,
+) -> (u64, Result<u32, Fault>)
+    requires idle { port.old.hand.span ≡ open_span.Idle }
+    requires plain { ArePlain (rings_of port.old.fabric.value) }
+    requires place { IsPlaceOf port.old.fabric.value place.now }
+    requires mode { mode ≡ place_mode place.now Take }
+    requires short { long ≡ false → length words.old ≤ MOST }
+    ensures fabric { port.new.fabric ≡ port.old.fabric }
+    ensures shows { (shown : List Item) → AreShown port.new.hand shown }
+    ensures take { Takes port.old.fabric.value how (place_ring place.now) (placed_view port.old.hand) words.old
+        words.new result.0 (placed_view port.new.hand) result.1 }
+{
+    let most = longest(&port.fabric, place, Side::Take, words.len(), long);
+    let known = Known { mode, free: false };
+    match port
+        .hand
+        .try_take_at(&port.fabric, place, known, words, most, how)
+    {
+        Ok(reserved) => (reserved.left(), Ok(reserved.count() as u32)),
+        Err(WholeFault::Start(why)) => (room_in(why), Err(fault_of(why))),
+        Err(WholeFault::Settle(reserved, _fault)) => (reserved.left(), Err(Fault::Pending)),
+    }
+}
+
+/// `put_in` on a ring of either mode. Each mode has its own code, which doesn't test it again.
+#[inline(always)]
+pub(crate) fn put_at(
+    port: &mut WordPort,
+    place: &Place,
+    words: &[Word64],
+    how: How,
+    long: bool,
+) -> (u64, Result<u32, Fault>)
+    requires idle { port.old.hand.span ≡ open_span.Idle }
+    requires plain { ArePlain (rings_of port.old.fabric.value) }
+    requires place { IsPlaceOf port.old.fabric.value place.now }
+    requires short { long ≡ false → length words.now ≤ MOST }
+    ensures fabric { port.new.fabric ≡ port.old.fabric }
+    ensures shows { (shown : List Item) → AreShown port.new.hand shown }
+    ensures put { Puts port.old.fabric.value how (place_ring place.now) (placed_view port.old.hand) words.now result.0
+        (placed_view port.new.hand) result.1 }
+{
+    match place.mode(Side::Put) {
+        Mode::Multi => put_in(port, place, Mode::Multi, words, how, long),
+        Mode::Hts => put_in(port, place, Mode::Hts, words, how, long),
+    }
+}
+
+/// `take_in` on a ring of either mode.
+#[inline(always)]
+pub(crate) fn take_at(
+    port: &mut WordPort,
+    place: &Place,
+    words: &mut [Word64],
+    how: How,
+    long: bool,
+) -> (u64, Result<u32, Fault>)
+    requires idle { port.old.hand.span ≡ open_span.Idle }
+    requires plain { ArePlain (rings_of port.old.fabric.value) }
+    requires place { IsPlaceOf port.old.fabric.value place.now }
+    requires short { long ≡ false → length words.old ≤ MOST }
+    ensures fabric { port.new.fabric ≡ port.old.fabric }
+    ensures shows { (shown : List Item) → AreShown port.new.hand shown }
+    ensures take { Takes port.old.fabric.value how (place_ring place.now) (placed_view port.old.hand) words.old
+        words.new result.0 (placed_view port.new.hand) result.1 }
+{
+    match place.mode(Side::Take) {
+        Mode::Multi => take_in(port, place, Mode::Multi, words, how, long),
+        Mode::Hts => take_in(port, place, Mode::Hts, words, how, long),
+    }
+}
+
 /// Puts the first of these words on a ring, as many as `how` says and there is room for. Requires: there are at most
 /// `MOST`, or the call is `long`. Errors: `Ring`, `Open`; those of a start; `Pending`, and the span stays open.
 #[inline(always)]
@@ -62,28 +179,9 @@ pub fn put_words(
         OpenSpan::Idle => (),
         _ => return Err(Fault::Open),
     }
-    let port = &mut member.port;
-    let most = longest(&port.fabric, &member.put_at, Side::Put, words.len(), long);
-    match port.hand.try_put_at(
-        &port.fabric,
-        &member.put_at,
-        &mut Words { words },
-        most,
-        how,
-    ) {
-        Ok(reserved) => {
-            member.left = reserved.left();
-            Ok(reserved.count() as u32)
-        }
-        Err(WholeFault::Start(why)) => {
-            member.left = room_in(why);
-            Err(fault_of(why))
-        }
-        Err(WholeFault::Settle(reserved, _fault)) => {
-            member.left = reserved.left();
-            Err(Fault::Pending)
-        }
-    }
+    let (left, outcome) = put_at(&mut member.port, &member.put_at, words, how, long);
+    member.left = left;
+    outcome
 }
 
 /// Takes words from a ring to the front of an array, as many as `how` says and are queued. Requires: it has at most
@@ -108,25 +206,9 @@ pub fn take_words(
         OpenSpan::Idle => (),
         _ => return Err(Fault::Open),
     }
-    let port = &mut member.port;
-    let most = longest(&port.fabric, &member.take_at, Side::Take, words.len(), long);
-    match port
-        .hand
-        .try_take_at(&port.fabric, &member.take_at, words, most, how)
-    {
-        Ok(reserved) => {
-            member.left = reserved.left();
-            Ok(reserved.count() as u32)
-        }
-        Err(WholeFault::Start(why)) => {
-            member.left = room_in(why);
-            Err(fault_of(why))
-        }
-        Err(WholeFault::Settle(reserved, _fault)) => {
-            member.left = reserved.left();
-            Err(Fault::Pending)
-        }
-    }
+    let (left, outcome) = take_at(&mut member.port, &member.take_at, words, how, long);
+    member.left = left;
+    outcome
 }
 
 /// Puts a word on a ring: `put_words` by bulk with it alone.

@@ -14,7 +14,7 @@ returns c =
     let same : c.deref.result.now ≡ m.port.fabric.value = search rules in
     inr (
       there,
-      record { fabric = refl; span = c.look_at.ensures.span; shown = refl; left = refl },
+      record { fabric = refl; span = c.look_at.ensures.span; shown = refl; left = refl; ends = refl },
       subst (λ (f : Rings). Looks tags f c.args.ring c.args.side (placed_view m.port.hand) (placed_view c.look_at.new.hand) (Ok c.look_at.result)) same
           c.look_at.ensures.found,
     )
@@ -31,7 +31,7 @@ invariant_of-member-2 c =
               let span = sym c.look_at.ensures.span ∙ is in
               let shown = m.shows r span (λ plan at. hts plan (ap (λ w. slice_get w.plans r.ring) view ∙ at)) in
               (shown.0, shown.1 ∙ ap (λ w. w.shown) (sym view)),
-          (m.puts, (m.takes, (m.spare, search))),
+          (m.puts, (m.takes, (m.ended, (m.spare, search)))),
         ),
       ),
     )

@@ -1,27 +1,22 @@
-use Rattle.std.proofs.Common.{◌≡◌, ◌<◌, ◌+◌, ◌-◌, ℕ, ap, arith, length, refl, rules, sym, take, ◌∙◌}
+use Rattle.std.proofs.Common.{◌≡◌, ◌+◌, ◌-◌, ℕ, ap, arith, length, refl, sym, take, ◌∙◌}
 use Rattle.std.proofs.lemmas.Grind.{common_steps}
 use Rattle.geom.specs.declared.plan.Side.TheVariants.{Take}
 use Rattle.fabric.specs.Held.{span_at}
 use Rattle.fabric.specs.InPlace.{placed_view}
-use Rattle.fabric.specs.declared.hand.in_place.OpenSpan.TheVariants as open_span
 use Rattle.capi.specs.Holding.{HasAdvanced}
-use Rattle.capi.proofs.Held.{taken_next}
-use Rattle.capi.proofs.rings.holding.advance_take.Goals as goal
+use Rattle.capi.proofs.rings.holding.withdraw_next.Goals as goal
 
-pub returns : goal.returns
-returns c =
-    let m = c.args.member.now in
-    let r = c.in-Held.reserved in
+pub returns-clause-next : goal.returns-clause-next
+returns-clause-next c =
+    let r = c.args.reserved in
     let rest = c.advance_take_at-rest.result in
-    let v = placed_view m.port.hand in
+    let v = placed_view c.args.port.now.hand in
     let w = placed_view c.advance_take_at-rest.new.self in
     let done = c.advance_take_at-rest.ensures in
     let k = length c.args.words.now in
-    let held : m.port.hand.span ≡ open_span.Held r = search rules in
     let long : length (take k v.shown) ≡ k = ap length (sym done.items) ∙ done.many in
-    let few : k < r.range.count = search rules in
     let advanced : HasAdvanced (span_at Take r) (take k v.shown) v w (span_at Take rest) = record {
-      fewer = omega (arith, long, few);
+      fewer = omega (arith, long, c.requires.fewer);
       view = done.view;
       rest = λ i. record {
         ring = done.rest.1.0 i;
@@ -30,4 +25,4 @@ returns c =
         count = (done.rest.1.1.1 ∙ ap (λ (n : ℕ). r.range.count - n) (sym long)) i;
       };
     } in
-    taken_next c.args.words.now _ m _ r rest held refl (grind (arith, common_steps)) done.rest.0 advanced
+    (refl, grind (arith, common_steps), rest, done.rest.0, advanced)

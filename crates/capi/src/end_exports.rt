@@ -1,0 +1,120 @@
+//! The exports for ends.
+ghost use Rattle.std.specs.Prelude.{◌≡◌, [], ◌∷◌, IfNone, IfSome};
+ghost use Rattle.capi.specs.Calls.{word_of};
+ghost use Rattle.capi.specs.Codes.{Answers};
+ghost use Rattle.capi.specs.EndCalls.{EndHolds, EndOpens, EndPuts, EndReleases, EndTakes};
+ghost use Rattle.capi.specs.HandCalls.{AtHand};
+ghost use Rattle.capi.specs.RingCalls.{room_side};
+
+use crate::handle::Handle;
+use crate::keeping::{borrow, with_object};
+use crate::object::Object;
+use crate::rings::{
+    Fault, Word64, answer, end_put, end_take, hold_end, open_end, release_end, side_of, usual_put,
+    usual_take,
+};
+use std::alloc::Global;
+
+/// Opens an end of a hand on a ring: one that takes, or one that puts.
+#[unsafe(no_mangle)]
+pub extern "C" fn hkx_end_open(alloc: Global, h: &mut Handle, ring: usize, takes: bool) -> i64
+    ensures { Answers result (AtHand h.old.value h.new.value (EndOpens (room_side takes) ring)) }
+{
+    with_object!(alloc, h, Hand(member) => open_end(member, side_of(takes), ring))
+}
+
+/// Lets an end hold its side from its next word on, with at most so many positions at a time.
+#[unsafe(no_mangle)]
+pub extern "C" fn hkx_end_hold(alloc: Global, h: &mut Handle, most: usize, takes: bool) -> i64
+    ensures { Answers result (AtHand h.old.value h.new.value (EndHolds (room_side takes) most)) }
+{
+    with_object!(alloc, h, Hand(member) => hold_end(member, side_of(takes), most))
+}
+
+/// Gives up the side that an end holds, and closes the end, or leaves it open.
+#[unsafe(no_mangle)]
+pub extern "C" fn hkx_end_release(alloc: Global, h: &mut Handle, takes: bool, closes: bool) -> i64
+    ensures { Answers result (AtHand h.old.value h.new.value (EndReleases (room_side takes) closes)) }
+{
+    with_object!(alloc, h, Hand(member) => release_end(member, side_of(takes), closes))
+}
+
+/// Puts a word by the hand's end, if that is a usual put. At `None` nothing was done.
+#[inline(always)]
+fn try_put(alloc: Global, h: &mut Handle, bits: u64) -> Option<i64>
+    ensures done { IfSome result
+        (λ code. Answers code (AtHand h.old.value h.new.value (EndPuts (word_of bits)))) }
+    ensures none { IfNone result (h.new.value ≡ h.old.value) }
+{
+    let Some(mut slot) = borrow(alloc, h) else {
+        return None;
+    };
+    let outcome = match &mut *slot {
+        Some(Object::Hand(member)) => usual_put(member, Word64 { bits }),
+        _ => None,
+    };
+    *h = Handle::of(slot);
+    match outcome {
+        Some(outcome) => Some(answer(outcome)),
+        None => None,
+    }
+}
+
+/// Takes a word by the hand's end, if that is a usual take. At `None` nothing was done.
+#[inline(always)]
+fn try_take(alloc: Global, h: &mut Handle, word: &mut Word64) -> Option<i64>
+    ensures done { IfSome result
+        (λ code. Answers code (AtHand h.old.value h.new.value (EndTakes (word.old ∷ []) (word.new ∷ [])))) }
+    ensures none { IfNone result ((h.new.value ≡ h.old.value) × (word.new ≡ word.old)) }
+{
+    let Some(mut slot) = borrow(alloc, h) else {
+        return None;
+    };
+    let outcome = match &mut *slot {
+        Some(Object::Hand(member)) => usual_take(member, word),
+        _ => None,
+    };
+    *h = Handle::of(slot);
+    match outcome {
+        Some(outcome) => Some(answer(outcome)),
+        None => None,
+    }
+}
+
+/// Any put of a word, apart from the usual ones.
+#[inline(never)]
+fn put_rarely(alloc: Global, h: &mut Handle, bits: u64) -> i64
+    ensures { Answers result (AtHand h.old.value h.new.value (EndPuts (word_of bits))) }
+{
+    with_object!(alloc, h, Hand(member) => end_put(member, Word64 { bits }))
+}
+
+/// Any take of a word.
+#[inline(never)]
+fn take_rarely(alloc: Global, h: &mut Handle, word: &mut Word64) -> i64
+    ensures { Answers result (AtHand h.old.value h.new.value (EndTakes (word.old ∷ []) (word.new ∷ []))) }
+{
+    with_object!(alloc, h, Hand(member) => end_take(member, word))
+}
+
+/// Puts a word by the hand's end.
+#[unsafe(no_mangle)]
+pub extern "C" fn hkx_end_put(alloc: Global, h: &mut Handle, bits: u64) -> i64
+    ensures { Answers result (AtHand h.old.value h.new.value (EndPuts (word_of bits))) }
+{
+    match try_put(alloc, h, bits) {
+        Some(code) => code,
+        None => put_rarely(alloc, h, bits),
+    }
+}
+
+/// Takes a word by the hand's end.
+#[unsafe(no_mangle)]
+pub extern "C" fn hkx_end_take(alloc: Global, h: &mut Handle, word: &mut Word64) -> i64
+    ensures { Answers result (AtHand h.old.value h.new.value (EndTakes (word.old ∷ []) (word.new ∷ []))) }
+{
+    match try_take(alloc, h, word) {
+        Some(code) => code,
+        None => take_rarely(alloc, h, word),
+    }
+}
