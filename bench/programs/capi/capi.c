@@ -2,8 +2,8 @@
  *
  *   capi alone                        one thread puts words and takes them again: ns an item
  *   capi alone NAME TURNS             only these turns, to count their instructions; multi-one, hts-one: a word by
- *                                     value; held-1: word by word, by ends that hold their sides, 64 puts and 64 takes in
- *                                     turn
+ *                                     value; multi-end, hts-end: by ends; held-1: word by word, by ends that hold their
+ *                                     sides, 64 puts and 64 takes in turn
  *   capi pools                        one thread gets numbers of a pool through its cache and puts them again: ns a number
  *   capi lookups                      lookups with 1,000 routes, one by one and in bursts of 32, in a table and by a reader
  *   capi publishes                    100 changes of 1,000 routes that are published, while three readers look up: us
@@ -12,14 +12,13 @@
  *                                     the names that yardsticks/ipv4.c prints
  *   capi threads MODE PAIRS N CALLS   PAIRS producers and as many consumers, each on a processor of its own, make CALLS
  *                                     calls of N words each: millions of items a second. MODE is multi or hts; with one
- *                                     word a call also ones, multi sides and the word by value, and held, by ends that
- *                                     hold their sides
+ *                                     word a call also ends, multi sides by ends, and held, by ends that hold their sides
  *
  * A producer writes numbers into its table before each call, a consumer adds up what it took; the sums are compared. A
  * call that does nothing is made again, one that stays pending is finished. */
 #include "bench.h"
 #include "lists.h"
-#include <hokhtura_hold.h>
+#include <hokhtura.h>
 #include <pthread.h>
 #include <sched.h>
 #include <unistd.h>
@@ -56,18 +55,27 @@ static __attribute__((noinline)) void one_turns(hk_hand *hand, uint64_t *words, 
 		if (hk_ring_try_put_one(hand, 0, words[0]) != 1 || hk_ring_try_take_one(hand, 0, words) != 1) exit(1);
 }
 
-/* The same word by word, by ends that hold both sides: a burst of puts, and as many takes. They are in variables of the
- * loop, as in a program. */
-static __attribute__((noinline)) void held_turns(hk_end *puts, hk_end *takes, uint64_t *words, unsigned long count)
+/* The same by ends. */
+static __attribute__((noinline)) void end_turns(hk_producer *put, hk_consumer *take, uint64_t *words, unsigned long count)
 {
-	hk_end put = *puts, take = *takes;
+	for (unsigned long i = 0; i < count; i++)
+		if (hk_producer_put(put, words[0]) != HK_OK || hk_consumer_take(take, words) != HK_OK) exit(1);
+}
+
+/* The same by ends that hold both sides: a burst of puts, and as many takes. */
+static __attribute__((noinline)) void held_turns(hk_producer *put, hk_consumer *take, uint64_t *words, unsigned long count)
+{
 	for (unsigned long i = 0; i < count; i += HELD) {
 		for (unsigned j = 0; j < HELD; j++)
-			if (hk_end_put(&put, words[j]) != HK_OK) exit(1);
+			if (hk_producer_put(put, words[j]) != HK_OK) exit(1);
 		for (unsigned j = 0; j < HELD; j++)
-			if (hk_end_take(&take, &words[j]) != HK_OK) exit(1);
+			if (hk_consumer_take(take, &words[j]) != HK_OK) exit(1);
 	}
-	*puts = put, *takes = take;
+}
+
+static void open_ends(hk_hand *hand, hk_producer **put, hk_hand *other, hk_consumer **take)
+{
+	if (hk_producer_open(put, hand, 0) < 0 || hk_consumer_open(take, other, 0) < 0) exit(1);
 }
 
 static void held(uint64_t *words, int counted, unsigned long count)
@@ -75,11 +83,14 @@ static void held(uint64_t *words, int counted, unsigned long count)
 	double ns;
 	hk_hand *hand = ring_of(1), *other;
 	if (hk_hand_split(hand, &other) < 0) exit(1);
-	hk_end put = hk_end_of(hand, 0, HELD), take = hk_end_of(other, 0, HELD);
-	if (counted) held_turns(&put, &take, words, count);
+	hk_producer *put;
+	hk_consumer *take;
+	open_ends(hand, &put, other, &take);
+	if (hk_producer_hold(put, HELD) < 0 || hk_consumer_hold(take, HELD) < 0) exit(1);
+	if (counted) held_turns(put, take, words, count);
 	else {
-		held_turns(&put, &take, words, WARM);
-		TIMED(ns, CHUNK / HELD * HELD, held_turns(&put, &take, words, CHUNK / HELD * HELD););
+		held_turns(put, take, words, WARM);
+		TIMED(ns, CHUNK / HELD * HELD, held_turns(put, take, words, CHUNK / HELD * HELD););
 		report("held-1", ns, "ns/item");
 	}
 	hk_hand_free(hand), hk_hand_free(other);
@@ -101,6 +112,25 @@ static void ones(const char *only, uint64_t *words, int hts, unsigned long count
 	hk_hand_free(hand);
 }
 
+/* The same by the ends of one hand. */
+static void ends(const char *only, uint64_t *words, int hts, unsigned long count)
+{
+	const char *name = hts ? "hts-end" : "multi-end";
+	double ns;
+	hk_producer *put;
+	hk_consumer *take;
+	if (only && strcmp(only, name)) return;
+	hk_hand *hand = ring_of(hts);
+	open_ends(hand, &put, hand, &take);
+	if (only) end_turns(put, take, words, count);
+	else {
+		end_turns(put, take, words, WARM);
+		TIMED(ns, CHUNK, end_turns(put, take, words, CHUNK););
+		report(name, ns, "ns/item");
+	}
+	hk_hand_free(hand);
+}
+
 /* All names, each timed; or only one name, for `count` turns without a clock. */
 static void alone(const char *only, unsigned long count)
 {
@@ -108,7 +138,7 @@ static void alone(const char *only, unsigned long count)
 	uint64_t words[MOST];
 	for (unsigned i = 0; i < MOST; i++) words[i] = i + 1;
 	if (!only || strcmp(only, "held-1") == 0) held(words, only != NULL, count);
-	for (int hts = 0; hts < 2; hts++) ones(only, words, hts, count);
+	for (int hts = 0; hts < 2; hts++) ones(only, words, hts, count), ends(only, words, hts, count);
 	for (int hts = 0; hts < 2; hts++)
 		for (unsigned s = 0; s < sizeof sizes / sizeof *sizes; s++) {
 			size_t n = sizes[s];
@@ -436,32 +466,30 @@ static void forwards(void)
 	measure_forward(forward, routes, "forward-64-alone", forward_alone);
 }
 
-enum by { LISTS, ONES, ENDS };
+enum by { LISTS, ENDS, HELD_ENDS };
 
 struct job { hk_hand *hand; enum by by; size_t n; unsigned cpu; unsigned long calls; uint64_t sum; };
 
 static inline void pause_a_moment(void) { __asm__ volatile("pause"); }
 
-static inline void put(struct job *job, hk_end *end, const uint64_t *table)
+static inline void put(struct job *job, hk_producer *end, const uint64_t *table)
 {
 	int64_t done = 0;
 	do {
 		if (done < 0) pause_a_moment();
 		if (done == HK_E_PENDING) done = hk_ring_finish_put(job->hand, table, job->n);
-		else if (job->by == ENDS) done = hk_end_put(end, *table);
-		else if (job->by == ONES) done = hk_ring_try_put_one(job->hand, 0, *table);
+		else if (job->by != LISTS) done = hk_producer_put(end, *table);
 		else done = hk_ring_try_put_bulk(job->hand, 0, table, job->n);
 	} while (done < 0);
 }
 
-static inline void take(struct job *job, hk_end *end, uint64_t *table)
+static inline void take(struct job *job, hk_consumer *end, uint64_t *table)
 {
 	int64_t done = 0;
 	do {
 		if (done < 0) pause_a_moment();
 		if (done == HK_E_PENDING) done = hk_ring_finish_take(job->hand, job->n);
-		else if (job->by == ENDS) done = hk_end_take(end, table);
-		else if (job->by == ONES) done = hk_ring_try_take_one(job->hand, 0, table);
+		else if (job->by != LISTS) done = hk_consumer_take(end, table);
 		else done = hk_ring_try_take_bulk(job->hand, 0, table, job->n);
 	} while (done < 0);
 }
@@ -469,17 +497,18 @@ static inline void take(struct job *job, hk_end *end, uint64_t *table)
 static void *produce(void *given)
 {
 	struct job *job = given;
-	hk_end end = hk_end_of(job->hand, 0, HELD);
+	hk_producer *end;
 	uint64_t table[MOST], next = 0, sum = 0;
 	pin(job->cpu);
+	if (hk_producer_open(&end, job->hand, 0) < 0 || (job->by == HELD_ENDS && hk_producer_hold(end, HELD) < 0)) exit(1);
 	for (unsigned long i = 0; i < job->calls; i++) {
 		for (size_t k = 0; k < job->n; k++) {
 			sum += next;
 			table[k] = next++;
 		}
-		put(job, &end, table);
+		put(job, end, table);
 	}
-	if (hk_end_release_put(&end) < 0) exit(1);
+	hk_producer_free(end);
 	job->sum = sum;
 	return NULL;
 }
@@ -487,14 +516,15 @@ static void *produce(void *given)
 static void *consume(void *given)
 {
 	struct job *job = given;
-	hk_end end = hk_end_of(job->hand, 0, HELD);
+	hk_consumer *end;
 	uint64_t table[MOST], sum = 0;
 	pin(job->cpu);
+	if (hk_consumer_open(&end, job->hand, 0) < 0 || (job->by == HELD_ENDS && hk_consumer_hold(end, HELD) < 0)) exit(1);
 	for (unsigned long i = 0; i < job->calls; i++) {
-		take(job, &end, table);
+		take(job, end, table);
 		for (size_t k = 0; k < job->n; k++) sum += table[k];
 	}
-	if (hk_end_release_take(&end) < 0) exit(1);
+	hk_consumer_free(end);
 	job->sum = sum;
 	return NULL;
 }
@@ -534,7 +564,7 @@ int main(int argc, char **argv)
 	else if (argc == 2 && !strcmp(argv[1], "forwards")) forwards();
 	else if (argc == 6 && !strcmp(argv[1], "threads") && atoi(argv[3]) <= 4 && atoi(argv[4]) <= MOST) {
 		int held = !strcmp(argv[2], "held"), hts = held || !strcmp(argv[2], "hts");
-		enum by by = held ? ENDS : !strcmp(argv[2], "ones") ? ONES : LISTS;
+		enum by by = held ? HELD_ENDS : !strcmp(argv[2], "ends") ? ENDS : LISTS;
 		threads(hts, by, atoi(argv[3]), by == LISTS ? atoi(argv[4]) : 1, strtoul(argv[5], NULL, 10));
 	}
 	else return 2;

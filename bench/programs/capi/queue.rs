@@ -1,7 +1,7 @@
 //! A ring of words through the Rust crate, against crossbeam-queue's ArrayQueue: one thread, one word a call, in a slice
-//! and by value, and bursts of 32; and word by word by ends that hold their sides, 64 puts and 64 takes in turn, as
-//! then the queue, too; a queue of values in boxes; and one producer and one consumer. Prints lines `name value unit`,
-//! and the rounds are the caller's.
+//! and by ends, and bursts of 32; and word by word by ends that hold their sides, 64 puts and 64 takes in turn, as then
+//! the queue, too; a queue of values in boxes; and one producer and one consumer. Prints lines `name value unit`, and
+//! the rounds are the caller's.
 use crossbeam_queue::ArrayQueue;
 use hokhtura::{Mode, Queue, Ring};
 use std::hint::{black_box, spin_loop};
@@ -64,8 +64,8 @@ fn threads() -> Result<(), hokhtura::Error> {
     let (mut producer, mut consumer) = Ring::<u64>::new(CAPACITY)?.split()?;
     across(
         "across-one",
-        |_| producer.try_put_one(black_box(7)).is_ok().into(),
-        |_| consumer.try_take_one(&mut 0).is_ok().into(),
+        |_| producer.put(black_box(7)).is_ok().into(),
+        |_| consumer.take().is_ok().into(),
     );
     let (mut producer, mut consumer) = Ring::<u64>::new(CAPACITY)?.split()?;
     let (words, mut taken) = ([7; BURST], [0; BURST]);
@@ -90,9 +90,10 @@ fn alone() -> Result<(), hokhtura::Error> {
         assert_eq!(ring.try_put_bulk(&word), Ok(1));
         assert_eq!(ring.try_take_bulk(&mut word), Ok(1));
     });
-    timed("value", 1, || {
-        assert_eq!(ring.try_put_one(black_box(7)), Ok(()));
-        assert_eq!(ring.try_take_one(&mut word[0]), Ok(()));
+    let (mut producer, mut consumer) = Ring::new(CAPACITY)?.split()?;
+    timed("end", 1, || {
+        assert_eq!(producer.put(black_box(7u64)), Ok(()));
+        assert!(consumer.take().is_ok());
     });
     let mut words = [0u64; 32];
     timed("burst", 32, || {
@@ -100,7 +101,7 @@ fn alone() -> Result<(), hokhtura::Error> {
         assert_eq!(ring.try_take_burst(&mut words), Ok(32));
     });
     let (mut producer, mut consumer) = Ring::with_modes(CAPACITY, Mode::Hts, Mode::Hts)?.split()?;
-    let (mut puts, mut takes) = (producer.hold(LAP), consumer.hold(LAP));
+    let (mut puts, mut takes) = (producer.hold(LAP)?, consumer.hold(LAP)?);
     timed("held", LAP, || {
         for word in 0..LAP as u64 {
             assert_eq!(puts.put(black_box(word)), Ok(()));
