@@ -47,8 +47,8 @@ errors! {
     /// Other threads came first each time that the call tried, or one holds this side: nothing was done, call again.
     Again = 2, "other threads came first, or hold the side: call again";
     /// Of a ring: the positions are reserved, and an earlier call of another thread isn't finished yet. Finish the call
-    /// before the handle is dropped: otherwise its positions stay reserved, and that side is blocked. Of a `Fib`:
-    /// nothing was changed.
+    /// before the handle is dropped, by `finish` after `put` or `take`, and by `finish_put` or `finish_take` after the
+    /// others: otherwise its positions stay reserved, and that side is blocked. Of a `Fib`: nothing was changed.
     Pending = 3, "not finished: an earlier call of another thread, or a reader, isn't done";
     /// A call of this handle isn't finished, or it holds a side: finish the call, or release the side, first.
     Open = 4, "a call is unfinished, or a side is held";

@@ -23,13 +23,15 @@ impl Mode {
     }
 }
 
-/// A hand on a ring of words with its ends, and how many the ring holds. The marker makes it neither `Send` nor `Sync` by
-/// itself.
+/// A hand on a ring of words with its ends, and how many the ring holds. The marker makes it neither `Send` nor `Sync`
+/// by itself.
 pub(crate) struct Hand<T> {
     at: NonNull<ffi::Hand>,
     puts: NonNull<ffi::Producer>,
     takes: NonNull<ffi::Consumer>,
     capacity: usize,
+    /// The word of a put or a take by an end that is pending.
+    pending: Option<u64>,
     words: PhantomData<(T, *mut u8)>,
 }
 
@@ -56,7 +58,7 @@ impl<T: Word> Hand<T> {
         let put_code = unsafe { ffi::hk_producer_open(&raw mut puts, at.as_ptr(), 0) };
         let take_code = unsafe { ffi::hk_consumer_open(&raw mut takes, at.as_ptr(), 0) };
         match (made(puts, put_code), made(takes, take_code)) {
-            (Ok(puts), Ok(takes)) => Ok(Hand { at, puts, takes, capacity, words: PhantomData }),
+            (Ok(puts), Ok(takes)) => Ok(Hand { at, puts, takes, capacity, pending: None, words: PhantomData }),
             (Err(error), _) | (_, Err(error)) => {
                 unsafe { ffi::hk_hand_free(at.as_ptr()) };
                 Err(error)
@@ -104,14 +106,32 @@ impl<T: Word> Hand<T> {
     }
 
     pub(crate) fn finish_put(&mut self, words: &[T]) -> Result<usize, Error> {
-        answer(unsafe { ffi::hk_ring_finish_put(self.at.as_ptr(), words.as_ptr().cast(), words.len()) })
+        let code = unsafe { ffi::hk_ring_finish_put(self.at.as_ptr(), words.as_ptr().cast(), words.len()) };
+        self.finished(code)
     }
 
     pub(crate) fn finish_take(&mut self, n: usize) -> Result<usize, Error> {
-        answer(unsafe { ffi::hk_ring_finish_take(self.at.as_ptr(), n) })
+        let code = unsafe { ffi::hk_ring_finish_take(self.at.as_ptr(), n) };
+        self.finished(code)
     }
 
-    /// Puts a word by the hand's end.
+    /// What a call that finishes another one answers. No word is pending once that is done.
+    fn finished(&mut self, code: i64) -> Result<usize, Error> {
+        let count = answer(code)?;
+        self.pending = None;
+        Ok(count)
+    }
+
+    /// What a put or a take by an end answers. Its word is kept if it is pending.
+    fn kept_if_pending(&mut self, word: u64, code: i64) -> Result<(), Error> {
+        let outcome = answer(code).map(drop);
+        if outcome == Err(Error::Pending) {
+            self.pending = Some(word);
+        }
+        outcome
+    }
+
+    /// Puts a word by the hand's end. If it is pending, `end_finish_put` goes on with it.
     #[inline]
     pub(crate) fn end_put(&mut self, word: u64) -> Result<(), Error> {
         let end = self.puts.as_ptr();
@@ -119,10 +139,11 @@ impl<T: Word> Hand<T> {
         if code >= 0 {
             return Ok(());
         }
-        answer(unsafe { ffi::hk_producer_put_again(end, word, code) }).map(drop)
+        let code = unsafe { ffi::hk_producer_put_again(end, word, code) };
+        self.kept_if_pending(word, code)
     }
 
-    /// Takes a word by the hand's end.
+    /// Takes a word by the hand's end. If it is pending, `end_finish_take` goes on with it.
     #[inline]
     pub(crate) fn end_take(&mut self, word: &mut u64) -> Result<(), Error> {
         let end = self.takes.as_ptr();
@@ -130,15 +151,22 @@ impl<T: Word> Hand<T> {
         if code >= 0 {
             return Ok(());
         }
-        answer(unsafe { ffi::hk_consumer_take_again(end, word, code) }).map(drop)
+        let code = unsafe { ffi::hk_consumer_take_again(end, word, code) };
+        self.kept_if_pending(*word, code)
     }
 
-    pub(crate) fn end_finish_put(&mut self, word: u64) -> Result<(), Error> {
-        answer(unsafe { ffi::hk_producer_finish(self.puts.as_ptr(), word) }).map(drop)
+    /// Finishes the put by the end that is pending.
+    pub(crate) fn end_finish_put(&mut self) -> Result<(), Error> {
+        let word = self.pending.ok_or(Error::NotOpen)?;
+        let code = unsafe { ffi::hk_producer_finish(self.puts.as_ptr(), word) };
+        self.finished(code).map(drop)
     }
 
-    pub(crate) fn end_finish_take(&mut self) -> Result<(), Error> {
-        answer(unsafe { ffi::hk_consumer_finish(self.takes.as_ptr()) }).map(drop)
+    /// Finishes the take by the end that is pending. Returns its word.
+    pub(crate) fn end_finish_take(&mut self) -> Result<u64, Error> {
+        let word = self.pending.ok_or(Error::NotOpen)?;
+        let code = unsafe { ffi::hk_consumer_finish(self.takes.as_ptr()) };
+        self.finished(code).map(|_| word)
     }
 
     /// Lets an end hold its side with at most so many positions at a time.

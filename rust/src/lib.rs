@@ -23,7 +23,7 @@
 //!
 //! | side | calls | for |
 //! |---|---|---|
-//! | `Mode::Multi` | `try_put_bulk`, `try_take_burst`, ..; word by word [`Producer::put`], [`Consumer::take`] | any number of threads |
+//! | `Mode::Multi` | `try_put_bulk`, ..; word by word [`Producer::put`], [`Consumer::take`] | any number of threads |
 //! | `Mode::Hts` | the same, one call of the side at a time | sides that are held now and then |
 //! | `Mode::Hts`, held | [`Producer::hold`], [`Consumer::hold`] | words one by one, by one thread for a while |
 //!

@@ -104,7 +104,7 @@ impl Pool {
     ///
     /// # Errors
     ///
-    /// In the order of the tests: `Ring`, `Count`, `NotYours`, `Worn`, `Again`.
+    /// `NotYours` as of [`try_put_bulk`](Pool::try_put_bulk); `Ring`, `Count`, `Again`, `Worn`.
     pub fn try_send_bulk(&mut self, ring: usize, numbers: &[u32]) -> Result<(), Error> {
         let pool = self.0.as_ptr();
         answer(unsafe { ffi::hk_pool_try_send_bulk(pool, ring, numbers.as_ptr(), numbers.len()) }).map(drop)

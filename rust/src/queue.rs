@@ -7,8 +7,8 @@ use alloc::sync::Arc;
 use core::fmt;
 
 /// One thread's handle on a ring of values of any `Send` type. Each value is in a box while it is on the ring, and it
-/// is owned by one side at a time: a put moves it in, a take moves it out. The last handle drops the values that are left
-/// on the ring; if the drop of one panics, the values after it leak.
+/// is owned by one side at a time: a put moves it in, a take moves it out. The last handle drops the values that are
+/// left on the ring; if the drop of one panics, the values after it leak.
 ///
 /// Both sides are head/tail-sync, so no method returns `Pending`: a call is done, or nothing is changed.
 ///

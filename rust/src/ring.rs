@@ -18,15 +18,11 @@ pub struct Ring<T: Word> {
 /// A thread's handle for putting words on a ring. It is dropped as a [`Ring`] is.
 pub struct Producer<T: Word> {
     hand: Hand<T>,
-    /// The word of a `put` that is pending.
-    pending: Option<u64>,
 }
 
 /// A thread's handle for taking words from a ring. It is dropped as a [`Ring`] is.
 pub struct Consumer<T: Word> {
     hand: Hand<T>,
-    /// The word of a take that is pending.
-    pending: Option<u64>,
 }
 
 macro_rules! puts {
@@ -154,7 +150,8 @@ macro_rules! both {
         }
 
         /// After a put, how much room was left; after a take, how many words were left; after `NoRoom`, how much or
-        /// how many there were in all. After `Count`, `Again` and `Worn` it means nothing.
+        /// how many there were in all. It means nothing after `put` and `take`, also of a held side, and after `Count`,
+        /// `Again` and `Worn`.
         #[must_use]
         pub fn left(&self) -> usize {
             self.hand.left()
@@ -176,7 +173,7 @@ macro_rules! both {
 
 impl<T: Word> Producer<T> {
     fn of(hand: Hand<T>) -> Self {
-        Producer { hand, pending: None }
+        Producer { hand }
     }
 
     pub(crate) fn hand(&mut self) -> &mut Hand<T> {
@@ -197,34 +194,26 @@ impl<T: Word> Producer<T> {
     ///
     /// # Errors
     ///
-    /// `Open`: an earlier call of this handle is pending; `NoRoom`; `Worn`; `Again`: the word wasn't put. `Pending`: the
-    /// position is reserved, and `finish` puts the word.
+    /// `Open`: an earlier call of this handle is pending; `NoRoom`; `Worn`; `Again`: the word wasn't put. `Pending`:
+    /// the position is reserved, and `finish` puts the word.
     #[inline]
     pub fn put(&mut self, word: T) -> Result<(), Error> {
-        let bits = word.into_bits();
-        let outcome = self.hand.end_put(bits);
-        if outcome == Err(Error::Pending) {
-            self.pending = Some(bits);
-        }
-        outcome
+        self.hand.end_put(word.into_bits())
     }
 
-    /// Finishes a `put` that returned `Pending`.
+    /// Finishes a `put` that returned `Pending`. Other puts are finished by `finish_put`.
     ///
     /// # Errors
     ///
-    /// `Pending`: not yet. `NotOpen`: no `put` is pending.
+    /// `Pending`: not yet. `NotOpen`: no `put` is pending, though another put may be.
     pub fn finish(&mut self) -> Result<(), Error> {
-        let bits = self.pending.ok_or(Error::NotOpen)?;
-        self.hand.end_finish_put(bits)?;
-        self.pending = None;
-        Ok(())
+        self.hand.end_finish_put()
     }
 }
 
 impl<T: Word> Consumer<T> {
     fn of(hand: Hand<T>) -> Self {
-        Consumer { hand, pending: None }
+        Consumer { hand }
     }
 
     pub(crate) fn hand(&mut self) -> &mut Hand<T> {
@@ -235,32 +224,24 @@ impl<T: Word> Consumer<T> {
     ///
     /// # Errors
     ///
-    /// `Open`: an earlier call of this handle is pending; `NoRoom` if the ring is empty; `Again`. `Pending`: the word is
-    /// this handle's, and `finish` takes it off the ring and returns it.
+    /// `Open`: an earlier call of this handle is pending; `NoRoom` if the ring is empty; `Again`. `Pending`: the word
+    /// is this handle's, and `finish` takes it off the ring and returns it.
     #[inline]
     pub fn take(&mut self) -> Result<T, Error> {
         let mut bits = 0;
-        match self.hand.end_take(&mut bits) {
-            // SAFETY: it was put on this ring, whose words are of this type.
-            Ok(()) => Ok(unsafe { T::of_bits(bits) }),
-            Err(error) => {
-                if error == Error::Pending {
-                    self.pending = Some(bits);
-                }
-                Err(error)
-            }
-        }
+        self.hand.end_take(&mut bits)?;
+        // SAFETY: it was put on this ring, whose words are of this type.
+        Ok(unsafe { T::of_bits(bits) })
     }
 
-    /// Finishes a `take` that returned `Pending`, and returns its word.
+    /// Finishes a `take` that returned `Pending`, and returns its word, which `finish_take` would lose. Other takes are
+    /// finished by `finish_take`.
     ///
     /// # Errors
     ///
-    /// `Pending`: not yet. `NotOpen`: no `take` is pending.
+    /// `Pending`: not yet. `NotOpen`: no `take` is pending, though another take may be.
     pub fn finish(&mut self) -> Result<T, Error> {
-        let bits = self.pending.ok_or(Error::NotOpen)?;
-        self.hand.end_finish_take()?;
-        self.pending = None;
+        let bits = self.hand.end_finish_take()?;
         // SAFETY: it was put on this ring, whose words are of this type.
         Ok(unsafe { T::of_bits(bits) })
     }

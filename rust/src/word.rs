@@ -5,8 +5,8 @@ use core::ptr::NonNull;
 ///
 /// # Safety
 ///
-/// The type has the size and the alignment of `u64` and no padding, and no value of it owns anything. A type of the
-/// program's has no pointer in it, which would lose its provenance on the way: its address goes as a `usize`.
+/// The type must have the size and the alignment of `u64` and no padding, and its values must own nothing. Don't
+/// implement it for a type with a pointer inside: the pointer would lose its provenance. Put its address, as a `usize`.
 pub unsafe trait Word: Copy {
     /// The bits of the word. Those of a pointer are its address, whose provenance is exposed.
     #[doc(hidden)]
