@@ -6,8 +6,8 @@
     X(HK_E_NOROOM, "too little room, or too few words")                       \
     X(HK_E_AGAIN, "other threads came first, or hold the side: call again")   \
     X(HK_E_PENDING, "not finished: an earlier call of another thread, or a reader, isn't done") \
-    X(HK_E_OPEN, "the hand has an open span")                                 \
-    X(HK_E_NOTOPEN, "the hand has no open span of that side")                 \
+    X(HK_E_OPEN, "the hand has an open span, or an end of that side")         \
+    X(HK_E_NOTOPEN, "no open span, or no end, of that side")                  \
     X(HK_E_RING, "no ring of this number")                                    \
     X(HK_E_COUNT, "a count of 0, above the limit, or not that of the span; no such port") \
     X(HK_E_MODE, "the side is not head/tail-sync")                            \

@@ -162,7 +162,7 @@ void hk_hand_free(hk_hand *hand) {
 }
 
 /* An export of a ring tries each step once. If another thread came first, the calls below try that step again, until
- * they have tried it this often. A put or a take that was answered HK_E_PENDING has tried to settle once. Pools and
+ * they have tried it this often. A put or a take that returned HK_E_PENDING has tried to settle once. Pools and
  * splits repeat their tries below their exports. */
 enum { TURNS = 1024 };
 

@@ -77,7 +77,7 @@ enum hk_code {
     HK_E_PENDING = -3,  /* of a ring: the positions are reserved, an earlier call of another thread isn't finished yet:
                          * finish; of a forwarding table: nothing was changed, call again */
     HK_E_OPEN = -4,     /* the hand has an open span: finish it first; or it has an end of that side already */
-    HK_E_NOTOPEN = -5,  /* the hand has no open span of that side */
+    HK_E_NOTOPEN = -5,  /* the hand has no open span, or no end, of that side */
     HK_E_RING = -6,     /* there is no ring of this number */
     HK_E_COUNT = -7,    /* a count of 0, above the largest, or not that of the open span; no such port */
     HK_E_MODE = -8,     /* that side of the ring is not head/tail-sync */
@@ -159,10 +159,11 @@ HK_API HK_CHECKED int64_t hk_hand_open(hk_hand **out, const hk_ring_plan *plans,
  * doesn't make room for another. HK_E_AGAIN: other threads were splitting hands of these rings each of the 1,024 times
  * that the call tried. HK_E_NULL, HK_E_KIND, HK_E_OPEN, HK_E_AGAIN, HK_E_PARTS, HK_E_MEMORY. */
 HK_API HK_CHECKED int64_t hk_hand_split(hk_hand *hand, hk_hand **out);
-/* Frees a hand, and with the last one the rings; null is allowed. Like every call that frees, it frees a handle of any
- * kind. A span that the hand has open stays reserved forever: no word of an open put comes out, and none that an open
- * take showed comes out any more. From then on the calls of other threads on that side return HK_E_AGAIN if it is
- * head/tail-sync, and if it is multi HK_E_PENDING, or HK_E_NOROOM once no position is left. */
+/* Frees a hand, and with the last one the rings; null is allowed. Like every call that frees a handle (not those of
+ * ends), it takes a handle of any kind. A span that the hand has open stays reserved forever: no word of an open put
+ * comes out, and none that an open take showed comes out any more. From then on the calls of other threads on that side
+ * return HK_E_AGAIN if it is head/tail-sync, and if it is multi HK_E_PENDING, or HK_E_NOROOM once no position is
+ * left. */
 HK_API void hk_hand_free(hk_hand *hand);
 
 /* Puts n words on a ring, 1 to HK_MOST, or to HK_MOST_ON_MULTI on a multi side: by bulk all of them or none, by burst
@@ -253,10 +254,12 @@ HK_API HK_CHECKED int64_t hk_hand_drain(hk_hand *hand, size_t ring, uint64_t *wo
 /* ---- Ends: word by word ------------------------------------------------------------------------------------------ */
 
 /* An end is one side of one ring, which a hand opens to move word by word. The ring is looked up once, when the end is
- * opened, so a call takes less time than hk_ring_try_put_one. A hand has at most one end on each side. Its other calls
- * go on as always, on the same ring or on others.
+ * opened: in one thread a call takes less time than hk_ring_try_put_one. Between threads no gain was measured, but for
+ * sides that are held. A hand has at most one end on each side. Its other calls go on as always, on the same ring or on
+ * others.
  * An end is part of its hand: a call on it is a call on the hand, by the thread that has the hand. It needs no memory,
- * and it ends with the hand: free it before, or don't use it afterwards. */
+ * and it ends with the hand: free it before, or don't use it afterwards. A call on a freed end returns HK_E_NOTOPEN
+ * until the hand opens another one on that side. From then on the old pointer is the new end: don't use it. */
 typedef struct hk_producer hk_producer;
 typedef struct hk_consumer hk_consumer;
 
@@ -272,25 +275,31 @@ HK_API HK_CHECKED int64_t hk_producer_put_again(hk_producer *end, uint64_t word,
 HK_API HK_CHECKED int64_t hk_consumer_take_once(hk_consumer *end, uint64_t *word);
 HK_API HK_CHECKED int64_t hk_consumer_take_again(hk_consumer *end, uint64_t *word, int64_t code);
 
-/* Puts a word. Returns HK_OK. HK_E_NULL, HK_E_KIND; HK_E_NOTOPEN: the end was freed; HK_E_OPEN: the hand has another
- * span open; HK_E_NOROOM, HK_E_WORN, HK_E_AGAIN: nothing was put. HK_E_PENDING, only on a multi side: call
- * hk_producer_finish with this word. */
+/* Puts a word. Returns HK_OK. HK_E_NULL, HK_E_KIND; HK_E_NOTOPEN: the end was freed, and no other was opened on that
+ * side; HK_E_OPEN: the hand has a span open; HK_E_NOROOM, HK_E_WORN, HK_E_AGAIN: nothing was put. HK_E_PENDING, only on
+ * a multi side: call hk_producer_finish with this word.
+ * An end that holds its side uses the span that the hand has open there, also that of a peek; only a span on another
+ * ring or side is HK_E_OPEN then. */
 static inline HK_CHECKED int64_t hk_producer_put(hk_producer *end, uint64_t word) {
     int64_t code = hk_producer_put_once(end, word);
     if (code >= 0) return HK_OK;
     return hk_producer_put_again(end, word, code);
 }
-/* Takes the oldest word. Returns HK_OK. HK_E_NULL, HK_E_KIND; HK_E_NOTOPEN: the end was freed; HK_E_OPEN: the hand has
- * another span open; HK_E_NOROOM, HK_E_AGAIN: nothing was taken. HK_E_PENDING, only on a multi side: the word is
- * written, and still on the ring. Call hk_consumer_finish. */
+/* Takes the oldest word. Returns HK_OK. HK_E_NULL, HK_E_KIND; HK_E_NOTOPEN: the end was freed, and no other was opened
+ * on that side; HK_E_OPEN: the hand has a span open; HK_E_NOROOM, HK_E_AGAIN: nothing was taken. HK_E_PENDING, only on
+ * a multi side: the word is written, and still on the ring. Call hk_consumer_finish.
+ * An end that holds its side uses the span by which the hand holds that side, also that of hk_ring_hold_take_bulk or
+ * _burst; a span on another ring or side, and that of a peek, is HK_E_OPEN then. */
 static inline HK_CHECKED int64_t hk_consumer_take(hk_consumer *end, uint64_t *word) {
     int64_t code = hk_consumer_take_once(end, word);
     if (code >= 0) return HK_OK;
     return hk_consumer_take_again(end, word, code);
 }
 
-/* Finishes a put that returned HK_E_PENDING, with its word, and a take. Returns HK_OK. HK_E_NULL, HK_E_KIND,
- * HK_E_NOTOPEN; HK_E_COUNT: the hand has a span of more words open; HK_E_PENDING: still open. */
+/* Finishes a put that returned HK_E_PENDING, with its word, or such a take. Call these only after HK_E_PENDING of this
+ * end: they are hk_ring_finish_put and hk_ring_finish_take with n = 1, for the put or the take that the hand has open,
+ * on any ring. They return HK_OK. HK_E_NULL, HK_E_KIND, HK_E_NOTOPEN; HK_E_COUNT: it has more words, on a multi side;
+ * HK_E_PENDING: still open. */
 HK_API HK_CHECKED int64_t hk_producer_finish(hk_producer *end, uint64_t word);
 HK_API HK_CHECKED int64_t hk_consumer_finish(hk_consumer *end);
 
@@ -301,11 +310,12 @@ HK_API HK_CHECKED int64_t hk_consumer_finish(hk_consumer *end);
 HK_API HK_CHECKED int64_t hk_producer_hold(hk_producer *end, size_t most);
 HK_API HK_CHECKED int64_t hk_consumer_hold(hk_consumer *end, size_t most);
 /* Gives up a side that an end holds: positions without a word, and words that weren't taken, are free for all threads
- * again. Each word is a call of its own again. Returns HK_OK, also if the end holds nothing. HK_E_NULL, HK_E_KIND,
- * HK_E_NOTOPEN. */
+ * again. Each word is a call of its own again. This settles the span that the hand has open on that side of that ring,
+ * also one of hk_ring_peek_put_bulk or hk_ring_hold_take_bulk or of their bursts; other spans stay open, and all do if
+ * the end doesn't hold its side. Returns HK_OK, also if the end holds nothing. HK_E_NULL, HK_E_KIND, HK_E_NOTOPEN. */
 HK_API HK_CHECKED int64_t hk_producer_release(hk_producer *end);
 HK_API HK_CHECKED int64_t hk_consumer_release(hk_consumer *end);
-/* Frees an end: gives up what it holds; null is allowed. The hand may open another one then. */
+/* Frees an end: gives up what it holds, as a release; null is allowed. The hand may open another one then. */
 HK_API void hk_producer_free(hk_producer *end);
 HK_API void hk_consumer_free(hk_consumer *end);
 

@@ -136,6 +136,27 @@ static void other_spans(void) {
     hk_hand_free(hand);
 }
 
+/* A span of its side that another call of its hand opened is used, and given up, by an end that holds the side, but for
+ * that of a peek of a take. */
+static void spans_of_its_side(void) {
+    hk_hand *hand = open_ring(ROOM, HK_HTS, HK_HTS);
+    hk_producer *puts = NULL;
+    hk_consumer *takes = NULL;
+    uint64_t word = 9;
+    IS(hk_producer_open(&puts, hand, 0), HK_OK), IS(hk_consumer_open(&takes, hand, 0), HK_OK);
+    IS(hk_ring_peek_put_bulk(hand, 0, 3), 3), IS(hk_producer_put(puts, 100), HK_E_OPEN);
+    IS(hk_producer_release(puts), HK_OK), IS(hk_hand_span(hand), 1);
+    IS(hk_producer_hold(puts, 1), HK_OK), IS(hk_producer_put(puts, 100), HK_OK), IS(hk_producer_put(puts, 101), HK_OK);
+    IS(hk_hand_span(hand), 1), IS(hk_producer_release(puts), HK_OK), IS(hk_hand_span(hand), 0);
+    IS(hk_ring_count(hand, 0), 2), IS(hk_ring_peek_take_bulk(hand, 0, out, 1), 1);
+    IS(hk_consumer_hold(takes, 1), HK_OK), IS(hk_consumer_take(takes, &word), HK_E_OPEN), IS(word, 9);
+    IS(hk_consumer_release(takes), HK_OK), IS(hk_hand_span(hand), 2), IS(hk_ring_finish_take(hand, 0), 0);
+    IS(hk_ring_hold_take_bulk(hand, 0, 2), 2), IS(hk_consumer_hold(takes, 1), HK_OK);
+    IS(hk_consumer_take(takes, &word), HK_OK), IS(word, 100), IS(hk_hand_span(hand), 3);
+    IS(hk_consumer_release(takes), HK_OK), IS(hk_hand_span(hand), 0), IS(hk_ring_count(hand, 0), 1);
+    hk_hand_free(hand);
+}
+
 /* Two ends and a list that says what has to be on the ring: random puts, takes, holds and releases, rings of 1 to 7
  * words. */
 static void beside_a_model(unsigned seed) {
@@ -222,6 +243,7 @@ int main(void) {
     of_multi_sides();
     ends_that_hold();
     other_spans();
+    spans_of_its_side();
     freed_while_holding();
     for (unsigned seed = 0; seed < 21; seed++) beside_a_model(seed);
     threads();
