@@ -147,16 +147,27 @@ def merged(rows):
 MEASURED = ["crates", "crates.txt", "c", "bench", ":!bench/results"]
 
 
+def git(*words):
+    """What git says at the top of the repository; None if it fails."""
+    done = subprocess.run(["git", *words], cwd=os.path.dirname(BENCH), capture_output=True, text=True)
+    return done.stdout.strip() if done.returncode == 0 else None
+
+
 def commit():
     """The last commit that changed what is measured."""
-    top = os.path.dirname(BENCH)
-
-    def git(*words):
-        done = subprocess.run(["git", *words], cwd=top, capture_output=True, text=True)
-        return done.stdout.strip() if done.returncode == 0 else ""
-
     changed = git("status", "--porcelain", "--", *MEASURED)
     return (git("log", "-1", "--format=%h", "--abbrev=7", "--", *MEASURED) or NONE) + ("+" if changed else "")
+
+
+def unknown_commits():
+    """Each commit in a file of results that git doesn't know, with the file. None is looked up without a repository, or
+    in one that has only the latest commits."""
+    if git("rev-parse", "--is-shallow-repository") != "false":
+        return
+    for name in (name for area in AREAS for name in area.names):
+        for named in sorted({row.commit.rstrip("+") for row in read(name)} - {NONE}):
+            if git("cat-file", "-e", f"{named}^{{commit}}") is None:
+                yield os.path.relpath(file_of(name), os.path.dirname(BENCH)), named
 
 
 def machine():
@@ -214,6 +225,7 @@ class Results:
         with open(file_of(self.name), "w", encoding="utf-8") as file:
             for row in [Row._fields, *before, *(row._replace(series=str(series)) for row in self.rows)]:
                 file.write("\t".join(row) + "\n")
-        print(f"bench: series {series}, {len(self.rows)} rows, in {os.path.relpath(file_of(self.name))}", file=sys.stderr)
+        print(f"bench: series {series}, {len(self.rows)} rows, in {os.path.relpath(file_of(self.name))}",
+              file=sys.stderr)
         for what in sorted(missed):
             print(f"bench: not measured: {what}", file=sys.stderr)
