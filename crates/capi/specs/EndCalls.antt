@@ -124,7 +124,7 @@ EndHolds side most m u outcome =
     × ((((most ≡ 0) ⊎ (4095 < most)) × (outcome ≡ Err fault.Count) × SameMember m u)
     ⊎ ((0 < most) × (most ≤ 4095) × (outcome ≡ Ok 0) × ChangesEnd side (record (end_on m.ends side) { state = Holds most }) m u)))))
 
--- a span that an end holds is settled with no word; no other span is touched
+-- the span that is open on that side of that ring, by whichever call, is settled with no word; no other is touched
 abbrev pub GivesUpPut : EndState → ℕ → OpenSpan → Member → Member → Outcome → Type 0
 GivesUpPut (Holds most) ring (open_span.Put r) m u outcome =
     ((r.ring ≡ ring) × EndsPut [] m u outcome) ⊎ ((r.ring ≢ ring) × (outcome ≡ Ok 0) × SameMember m u)
