@@ -5,7 +5,6 @@ use mathlib.Core.Option.{some, none}
 use lib.ListN.{get_elem?}
 use Rattle.std.proofs.lemmas.Bool.Decides.{nat_tests}
 use Rattle.std.proofs.lemmas.Option.{slice_get_within}
-use Rattle.std.proofs.Math.Nat.{div-add-mod'}
 use Rattle.atomic_table.specs.Table.{Me, step, keeps, Allows}
 use Rattle.geom.specs.declared.plan.Mode.{Mode}
 use Rattle.geom.specs.declared.plan.Mode.TheVariants.{Multi, Hts}
@@ -60,7 +59,7 @@ module _ {T : Type 0} (tags : T → List ℕ) (plans : List RingPlan) (pool : �
       abbrev found : ℕ
       found = get_or s.words (own_at r side) 0
 
-      looked_true : (whole : mode_of plan side ≡ Hts → (q : ℕ) × (found ≡ q * range_of plan.geometry)) → IsTrueView plans parties (looked r side found v)
+      pub looked_true : (whole : mode_of plan side ≡ Hts → (q : ℕ) × (found ≡ q * range_of plan.geometry)) → IsTrueView plans parties (looked r side found v)
       looked_true whole =
           let seen : Observed = record { ring = r; side = side; looked_at = found; tail_seen = None } in
           still_true (looked r side found v) refl refl (λ o e. subst (λ (z : Observed). TrueObserved plans parties z × IsBehind plans parties z) (same_plan e) (
@@ -163,7 +162,7 @@ module _ {T : Type 0} (tags : T → List ℕ) (plans : List RingPlan) (pool : �
             ∙ position_base plan.geometry Hts other (λ _. (side_ruled tags plans pool s c r plan at (other_side side)).small e)
 
     module _ (o : Observed) (seen : v.observed ≡ Some o) (on_ring : o.ring ≡ r) (on_side : o.side ≡ side) where
-      room_true : IsTrueView plans (parties_of_views s.views) (view_after_room other.len v)
+      pub room_true : IsTrueView plans (parties_of_views s.views) (view_after_room other.len v)
       room_true =
           let old = (c.views id v here).observed o seen in
           still_true s c id v here alive r plan at (view_after_room other.len v) refl refl
