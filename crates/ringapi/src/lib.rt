@@ -3,10 +3,13 @@
 //!
 //! `put` and `take` have the bodies, for any list of items, by bulk or burst. The calls by name are over them: `lent`
 //! for bursts, `values` for bursts by value, `slices` for the words of a slice. `port` is a hand with its rings in one
-//! value, and `port_calls` has its calls, which require nothing.
+//! value, and `port_calls` has its calls, which require nothing; `ends` are ports that stay at one side of one ring,
+//! and `end_calls` has theirs.
 #![tactic(auto)]
 
 mod answers;
+mod end_calls;
+mod ends;
 mod keyed_lock;
 mod lent;
 mod pauses;
@@ -23,6 +26,7 @@ mod unfinished;
 mod values;
 
 pub use answers::{Moved, PutAnswer, Refusal, TakeAnswer};
+pub use ends::{Consumer, Producer};
 pub use keyed_lock::{Keeps, KeyedLock, Taken, Ticket};
 pub use lent::{
     put_bulk_from, put_burst_from, put_own_bulk_from, put_own_burst_from, take_bulk_into,
