@@ -7,7 +7,7 @@
 #include <stdlib.h>
 #include <string.h>
 
-enum { RINGS = 3, ROOM = 3, WORDS = 100000, STEPS = 200000, TURNS = 100000 };
+enum { RINGS = 3, ROOM = 5, WORDS = 100000, STEPS = 200000, TURNS = 100000 };
 
 static hk_hand *open_rings(uint32_t mode) {
     hk_ring_plan plans[RINGS];
@@ -28,6 +28,7 @@ static void one_by_one(uint32_t mode) {
     IS(hk_consumer_open(&takes, hand, 1), HK_OK), IS(hk_consumer_take(takes, &word), HK_E_NOROOM), IS(word, 9);
     IS(hk_producer_put(puts, 10), HK_OK), IS(hk_ring_try_put_one(hand, 0, 20), 1), IS(hk_producer_put(puts, 11), HK_OK);
     IS(hk_ring_count(hand, 0), 1), IS(hk_ring_count(hand, 1), 2), IS(hk_ring_try_put_one(hand, 1, 12), 1);
+    IS(hk_producer_put(puts, 16), HK_OK), IS(hk_producer_put(puts, 17), HK_OK), IS(hk_ring_count(hand, 1), ROOM);
     IS(hk_producer_put(puts, 13), HK_E_NOROOM), IS(hk_consumer_take(takes, &word), HK_OK), IS(word, 10);
     IS(hk_ring_try_take_one(hand, 0, &word), 1), IS(word, 20), IS(hk_consumer_take(takes, &word), HK_OK), IS(word, 11);
     IS(hk_hand_left(hand), 0), IS(hk_producer_finish(puts, 1), HK_E_NOTOPEN), IS(hk_consumer_finish(takes), HK_E_NOTOPEN);
@@ -57,30 +58,55 @@ static void busy(void) {
     hk_hand_free(hand);
 }
 
-/* Two ends and a list that says what has to be on the ring. */
-static void beside_a_model(uint32_t mode, unsigned seed) {
-    uint64_t queued[ROOM], next = 1, word;
-    size_t count = 0;
-    hk_hand *hand = open_rings(mode), *other = NULL;
-    hk_producer *put = NULL;
-    hk_consumer *take = NULL;
-    IS(hk_hand_split(hand, &other), HK_OK);
-    IS(hk_producer_open(&put, hand, 1), HK_OK), IS(hk_consumer_open(&take, other, 1), HK_OK);
+/* What has to be on the ring: `count` words, the oldest first. */
+struct model {
+    uint64_t queued[ROOM], next;
+    size_t count;
+};
+
+static void put_in(struct model *model) { model->queued[model->count++] = model->next++; }
+
+static void take_off(struct model *model) {
+    memmove(model->queued, model->queued + 1, --model->count * sizeof *model->queued);
+}
+
+/* Two producers, two consumers, each by a hand of its own, or two ends by one hand, and calls of other hands on the same
+ * sides between theirs: what an end saw last is out of date by turns. */
+static void beside_a_model(uint32_t mode, int own_hands, unsigned seed) {
+    enum { HANDS = 4 };
+    struct model model = {{0}, 1, 0};
+    hk_hand *hands[HANDS] = {open_rings(mode)};
+    hk_producer *puts[2] = {NULL, NULL};
+    hk_consumer *takes[2] = {NULL, NULL};
     int64_t wrong = 0;
+    for (int i = 1; i < HANDS; i++) IS(hk_hand_split(hands[0], &hands[i]), HK_OK);
+    for (int i = 0; i < 2; i++) {
+        IS(hk_producer_open(&puts[i], hands[i], 1), HK_OK);
+        IS(hk_consumer_open(&takes[i], hands[own_hands ? i + 2 : i], 1), HK_OK);
+    }
     srand(seed);
     for (int step = 0; step < STEPS; step++) {
-        word = rand() % 2 ? next : 0;
-        if (word) {
-            if (hk_producer_put(put, word) != (count < ROOM ? HK_OK : HK_E_NOROOM)) wrong++;
-            else if (count < ROOM) queued[count++] = next++;
-        } else if (hk_consumer_take(take, &word) != (count ? HK_OK : HK_E_NOROOM) || word != (count ? queued[0] : 0)) {
-            wrong++;
-        } else if (count) {
-            memmove(queued, queued + 1, --count * sizeof *queued);
+        int kind = rand() % 16, end = rand() % 8 == 0;
+        uint64_t word = 0;
+        int64_t can_put = model.count < ROOM ? HK_OK : HK_E_NOROOM, can_take = model.count ? HK_OK : HK_E_NOROOM;
+        if (kind < 7) {
+            wrong += hk_producer_put(puts[end], model.next) != can_put;
+            if (can_put == HK_OK) put_in(&model);
+        } else if (kind < 14) {
+            wrong += hk_consumer_take(takes[end], &word) != can_take || word != (model.count ? model.queued[0] : 0);
+            if (can_take == HK_OK) take_off(&model);
+        } else if (kind == 14) {
+            wrong += hk_ring_try_put_one(hands[end], 1, model.next) != (can_put == HK_OK ? 1 : can_put);
+            if (can_put == HK_OK) put_in(&model);
+        } else {
+            wrong += hk_ring_try_take_one(hands[end], 1, &word) != (can_take == HK_OK ? 1 : can_take);
+            wrong += word != (model.count ? model.queued[0] : 0);
+            if (can_take == HK_OK) take_off(&model);
         }
+        if (rand() % 64 == 0) wrong += hk_ring_count(hands[end], 1) != (int64_t)model.count;
     }
     IS(wrong, 0);
-    hk_hand_free(hand), hk_hand_free(other);
+    for (int i = 0; i < HANDS; i++) hk_hand_free(hands[i]);
 }
 
 /* Two threads put and two take, each by an end of its own. */
@@ -155,7 +181,7 @@ static void handed_over(void) {
 int main(void) {
     one_by_one(HK_MULTI), one_by_one(HK_HTS);
     busy();
-    for (unsigned seed = 0; seed < 10; seed++) beside_a_model(seed % 2 ? HK_HTS : HK_MULTI, seed);
+    for (unsigned seed = 0; seed < 12; seed++) beside_a_model(seed % 2 ? HK_HTS : HK_MULTI, seed / 2 % 2, seed);
     threads(HK_MULTI), threads(HK_HTS);
     handed_over();
     return hk_count_up("ends");

@@ -38,6 +38,25 @@ static void ends(uint32_t put, uint32_t take) {
     IS(hk_hand_close(hand), HK_OK), hk_hand_free(hand);
 }
 
+/* Word by word by ends, up to the last word. */
+static void ends_at_the_end(uint32_t mode) {
+    hk_hand *hand = open_ring(mode, mode, LAST), *other = NULL;
+    hk_producer *put = NULL;
+    hk_consumer *take = NULL;
+    IS(hk_hand_split(hand, &other), HK_OK);
+    IS(hk_producer_open(&put, hand, 0), HK_OK), IS(hk_consumer_open(&take, other, 0), HK_OK);
+    for (uint64_t word = 1; word <= LAST; word++) {
+        uint64_t found = 0;
+        IS(hk_producer_put(put, word), HK_OK);
+        if (word % 2) continue;
+        IS(hk_consumer_take(take, &found), HK_OK), IS(found, word - 1);
+        IS(hk_consumer_take(take, &found), HK_OK), IS(found, word);
+        IS(hk_consumer_take(take, &found), HK_E_NOROOM);
+    }
+    IS(hk_producer_put(put, 1), HK_E_WORN), IS(hk_producer_put(put, 1), HK_E_WORN), IS(hk_ring_count(hand, 0), 0);
+    hk_hand_free(hand), hk_hand_free(other);
+}
+
 /* Peeks and held sides up to the last word, and not across it. */
 static void peeks(void) {
     hk_hand *hand = open_ring(HK_HTS, HK_HTS, LAST);
@@ -133,6 +152,7 @@ int main(void) {
         far(put, take, near - 3), far(put, take, near + 5), far(put, take, widest);
     }
     far(HK_MULTI, HK_MULTI, (UINT64_C(1) << 63) - 1000);
+    ends_at_the_end(HK_MULTI), ends_at_the_end(HK_HTS);
     peeks();
     plans();
     return hk_count_up("worn.c");

@@ -1,6 +1,6 @@
 -- Calls of ends, from what their steps did
 use Rattle.std.proofs.Common.{◌≡◌, ◌<◌, ℕ, List, [], ◌∷◌, Ok, inl, inr, subst, sym, ◌∙◌}
-use Rattle.geom.specs.declared.plan.How.TheVariants.{Bulk, Burst}
+use Rattle.geom.specs.declared.plan.How.TheVariants.{Burst}
 use Rattle.geom.specs.declared.plan.Side.TheVariants.{Put, Take}
 use Rattle.fabric.specs.Held.{span_at}
 use Rattle.fabric.specs.Places.{IsPlaceOf}
@@ -8,7 +8,7 @@ use Rattle.fabric.specs.declared.place.Place.{Place}
 use Rattle.fabric.specs.declared.hand.in_place.OpenSpan.{OpenSpan}
 use Rattle.fabric.specs.declared.hand.in_place.OpenSpan.TheVariants as open_span
 use Rattle.fabric.specs.declared.hand.in_place.Reserved.{Reserved}
-use Rattle.capi.specs.Calls.{Puts, Takes}
+use Rattle.capi.specs.Calls.{PutsOne, TakesOne}
 use Rattle.capi.specs.Codes.{Outcome}
 use Rattle.capi.specs.EndCalls.{NotTaken, PutsAlone, PutsHeld, PutsNext, TakesAlone, TakesHeld, TakesNextWord}
 use Rattle.capi.specs.Ends.{AreEndsOf}
@@ -31,12 +31,11 @@ closed_ends f at e ats shut place = (
 )
 
 module _ (ring : ℕ) (word : Word64) (m u : Member) where
-  pub alone_put : (outcome : Outcome) (left : ℕ) → m.port.hand.span ≡ open_span.Idle → KeepsRings m u
-      → Puts m.port.fabric.value Bulk ring (member_view m) (word ∷ []) left (member_view u) outcome → PutsAlone ring word m u outcome
-  alone_put outcome left idle keeps puts =
+  pub alone_put : (outcome : Outcome) → m.port.hand.span ≡ open_span.Idle → KeepsRings m u
+      → PutsOne m.port.fabric.value ring (member_view m) word (member_view u) outcome → PutsAlone ring word m u outcome
+  alone_put outcome idle keeps puts =
       subst (λ (s : OpenSpan). OnIdle s outcome (SameMember m u) (KeepsRings m u
-      × ((n : ℕ) × Puts m.port.fabric.value Bulk ring (member_view m) (word ∷ []) n (member_view u) outcome)))
-      (sym idle) (keeps, (left, puts))
+      × PutsOne m.port.fabric.value ring (member_view m) word (member_view u) outcome)) (sym idle) (keeps, puts)
 
   pub advanced_put : (r rest : Reserved) (k : ℕ) → m.port.hand.span ≡ open_span.Put r → r.ring ≡ ring → 1 < r.range.count
       → KeepsRings m u → u.port.hand.span ≡ open_span.Put rest
@@ -53,13 +52,12 @@ module _ (ring : ℕ) (word : Word64) (m u : Member) where
       subst (λ (s : OpenSpan). PutsHeld ring word most s m u outcome) (sym idle) (inr (mid, k, opened, next))
 
 module _ (ring : ℕ) (before after : List Word64) (m u : Member) where
-  pub alone_take : (outcome : Outcome) (left : ℕ) → m.port.hand.span ≡ open_span.Idle → KeepsRings m u
-      → Takes m.port.fabric.value Bulk ring (member_view m) before after left (member_view u) outcome
+  pub alone_take : (outcome : Outcome) → m.port.hand.span ≡ open_span.Idle → KeepsRings m u
+      → TakesOne m.port.fabric.value ring (member_view m) before after (member_view u) outcome
       → TakesAlone ring before after m u outcome
-  alone_take outcome left idle keeps takes =
+  alone_take outcome idle keeps takes =
       subst (λ (s : OpenSpan). OnIdle s outcome (NotTaken ring before after m u) (KeepsRings m u
-      × ((n : ℕ) × Takes m.port.fabric.value Bulk ring (member_view m) before after n (member_view u) outcome)))
-      (sym idle) (keeps, (left, takes))
+      × TakesOne m.port.fabric.value ring (member_view m) before after (member_view u) outcome)) (sym idle) (keeps, takes)
 
   pub advanced_take : (r : Reserved) (k : ℕ) → m.port.hand.span ≡ open_span.Held r → r.ring ≡ ring → 1 < r.range.count
       → KeepsRings m u

@@ -1,8 +1,9 @@
 -- Settles of open spans, and whole calls
-use Rattle.std.proofs.Common.{◌≡◌, ◌<◌, ◌≤◌, arith, ℕ, List, [], ◌∷◌, Bool, true, false, inl, inr, length, refl, ap, subst, sym, ◌∙◌}
+use Rattle.std.proofs.Common.{◌≡◌, ◌<◌, ◌≤◌, ◌⊎◌, arith, ℕ, List, Option, [], ◌∷◌, Bool, true, false, inl, inr, length, refl, ap, subst, sym, ◌∙◌}
 use Rattle.std.specs.Prelude.{slice_get}
 use Rattle.std.specs.List.{flat_map}
 use Rattle.geom.specs.declared.plan.How.{How}
+use Rattle.geom.specs.declared.plan.How.TheVariants.{Bulk}
 use Rattle.geom.specs.declared.plan.Mode.{Mode}
 use Rattle.geom.specs.declared.plan.Mode.TheVariants.{Hts, Multi}
 use Rattle.geom.specs.declared.plan.RingPlan.{RingPlan}
@@ -14,17 +15,21 @@ use Rattle.fabric_laws.specs.declared.view.View.{View}
 use Rattle.fabric_laws.specs.Changes.{settled}
 use Rattle.fabric.specs.declared.hand.SettleFault.{SettleFault}
 use Rattle.fabric.specs.declared.hand.SettleFault.TheVariants.{BadCount, NotYet, NotYours}
+use Rattle.fabric.specs.declared.hand.StartFault.{StartFault}
+use Rattle.fabric.specs.declared.hand.StartFault.TheVariants as start
 use Rattle.fabric.specs.declared.hand.in_place.Reserved.{Reserved}
 use Rattle.fabric.specs.Advances.{RefusesAdvance}
 use Rattle.fabric.specs.Hands.{OnRing, rings_of}
 use Rattle.fabric.specs.Held.{span_at}
-use Rattle.fabric.specs.Refused.{IsUnsettled}
+use Rattle.fabric.specs.Refused.{IsRefused, IsUnsettled}
 use Rattle.fabric.specs.Settles.{AreNotYours, IsCount}
+use Rattle.fabric.specs.Starts.{RefusesStart}
 use Rattle.fabric.specs.WholeCalls.{HasMoved, HasOpen, StaysOpen}
 use Rattle.fabric.proofs.Told.{ring_at}
-use Rattle.capi.specs.Calls.{Moves, Waits}
+use Rattle.capi.specs.Calls.{Moves, Refuses, Waits}
 use Rattle.capi.specs.Members.{ArePlain, Rings}
-use Rattle.capi.specs.Spans.{HasReserved, HasSettled, IsEarly, call_limit, tags}
+use Rattle.capi.specs.Spans.{HasReserved, HasSettled, IsEarly, call_limit, limit_in, limit_of, room_of, start_fault, tags}
+use Rattle.capi.specs.declared.rings.fault.Fault.{Fault}
 use Rattle.capi.specs.declared.rings.word64.Word64.{Word64}
 use Rattle.capi.proofs.Reserving.{reserved_of}
 
@@ -123,3 +128,38 @@ module _ (f : Rings) (most : ℕ) (how : How) (n ring : ℕ) (v : View Word64) (
         (reserved_in s.opened s.start);
     early = early_of f ring k side r words s.opened u s.start.at there plain (λ plan _. all (mode_of plan side)) e s.refused;
   }
+
+-- a refusal says the same by another limit that a count of `n` keeps
+bad_count : (most limit n : ℕ) (X : Type 0) → n ≤ limit → (n ≤ limit → n ≤ most) → (n ≡ 0) ⊎ ((most < n) ⊎ X) → (n ≡ 0) ⊎ ((limit < n) ⊎ X)
+bad_count most limit n X fits to (inl none) = inl none
+bad_count most limit n X fits to (inr (inl more)) = absurd (omega (arith, more, to fits))
+bad_count most limit n X fits to (inr (inr few)) = inr (inr few)
+
+by_limit : (most limit : ℕ) (how : How) (n ring : ℕ) (side : Side) (plan : RingPlan) (v w : View Word64) (e : StartFault) → n ≤ limit
+    → (n ≤ limit → n ≤ most) → RefusesStart tags most how n ring side plan v w e → RefusesStart tags limit how n ring side plan v w e
+by_limit most limit how n ring side plan v w (start.Busy x) fits to refused = refused
+by_limit most limit how n ring side plan v w (start.Contended x) fits to refused = refused
+by_limit most limit how n ring side plan v w (start.NoRoom left) fits to refused = refused
+by_limit most limit how n ring side plan v w start.Worn fits to refused = refused
+by_limit most limit how n ring side plan v w start.BadCount fits to refused = (bad_count most limit n _ fits to refused.0, refused.1)
+
+limit_some : (m : Mode) → 1 ≤ limit_of m
+limit_some Multi = omega arith
+limit_some Hts = omega arith
+
+-- a start of one position that was refused
+pub refused_one : (f : Rings) (most ring : ℕ) (side : Side) (v w : View Word64) (e : StartFault) (why : Fault) → why ≡ start_fault e
+    → ring < length (rings_of f) → (1 ≤ call_limit f ring side → 1 ≤ most) → OnRing f ring (λ plan. IsRefused tags most Bulk 1 ring side plan v w e)
+    → Refuses f (call_limit f ring side) Bulk 1 ring side v why (room_of e) w
+refused_one f most ring side v w e why is there to refused =
+    let p = ring_at (rings_of f) ring there in
+    let some : 1 ≤ call_limit f ring side = subst (λ (o : Option RingPlan). 1 ≤ limit_in o side) (sym p.1) (limit_some (mode_of p.0 side)) in
+    record {
+      reason = e;
+      named = is;
+      found = refl;
+      refused = record {
+        found = λ plan at. by_limit most (call_limit f ring side) Bulk 1 ring side plan v w e some to (refused plan at).steps;
+        kept = (refused p.0 p.1).kept;
+      };
+    }

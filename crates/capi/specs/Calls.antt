@@ -1,5 +1,5 @@
 -- What calls on rings leave of a hand that has no open span
-use Rattle.std.specs.Prelude.{◌≡◌, ℕ, ◌⊎◌, ◌++◌, Bool, true, false, List, [], length, take, drop, Ok, Err}
+use Rattle.std.specs.Prelude.{◌≡◌, ℕ, ◌⊎◌, ◌++◌, Bool, true, false, List, [], ◌∷◌, length, take, drop, Ok, Err}
 use Rattle.geom.specs.declared.plan.How.{How}
 use Rattle.geom.specs.declared.plan.How.TheVariants.{Bulk, Burst}
 use Rattle.geom.specs.declared.plan.Mode.TheVariants.{Hts}
@@ -7,6 +7,7 @@ use Rattle.geom.specs.declared.plan.Side.{Side}
 use Rattle.geom.specs.declared.plan.Side.TheVariants.{Put, Take}
 use Rattle.ringcore_laws.specs.declared.protocol.Span.{Span}
 use Rattle.fabric_laws.specs.declared.view.View.{View}
+use Rattle.fabric.specs.AtOnce.{IsLoaded}
 use Rattle.fabric.specs.declared.hand.StartFault.{StartFault}
 use Rattle.capi.specs.Codes.{Outcome}
 use Rattle.capi.specs.Members.{Rings}
@@ -64,6 +65,16 @@ module _ (f : Rings) (how : How) (ring : ℕ) (v : View Word64) where
       ((why ≡ fault.Pending) × (shown : List Word64) × (after ≡ shown ++ drop (length shown) before)
       × Waits f (call_limit f ring Take) how (length before) ring Take v left shown w)
       ⊎ ((after ≡ before) × Refuses f (call_limit f ring Take) how (length before) ring Take v why left w)
+
+-- A put and a take of one word by bulk, which don't say how many more positions are free, or words queued. An exchange
+-- that was lost counts as a load
+module _ (f : Rings) (ring : ℕ) (v : View Word64) where
+  abbrev pub PutsOne : Word64 → View Word64 → Outcome → Type 0
+  PutsOne word w outcome = (u : View Word64) × (left : ℕ) × IsLoaded v u × Puts f Bulk ring u (word ∷ []) left w outcome
+
+  abbrev pub TakesOne : List Word64 → List Word64 → View Word64 → Outcome → Type 0
+  TakesOne before after w outcome =
+      (u : View Word64) × (left : ℕ) × IsLoaded v u × Takes f Bulk ring u before after left w outcome
 
 -- a span of the side was reserved, and stays open
 pub record Opens (f : Rings) (how : How) (n ring : ℕ) (side : Side) (v : View Word64) (count left : ℕ)

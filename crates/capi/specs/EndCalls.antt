@@ -1,6 +1,6 @@
 -- What the calls of an end do to its hand: `m` is the hand before the call, `u` after it
 use Rattle.std.specs.Prelude.{◌≡◌, ◌≢◌, Bool, true, false, ℕ, ◌<◌, ◌≤◌, ◌⊎◌, List, [], ◌∷◌, length, Ok, Err}
-use Rattle.geom.specs.declared.plan.How.TheVariants.{Bulk, Burst}
+use Rattle.geom.specs.declared.plan.How.TheVariants.{Burst}
 use Rattle.geom.specs.declared.plan.Mode.TheVariants.{Hts, Multi}
 use Rattle.geom.specs.declared.plan.Side.{Side}
 use Rattle.geom.specs.declared.plan.Side.TheVariants.{Put, Take}
@@ -8,7 +8,7 @@ use Rattle.fabric.specs.Hands.{rings_of}
 use Rattle.fabric.specs.Places.{place_mode, place_ring}
 use Rattle.fabric.specs.declared.hand.in_place.OpenSpan.{OpenSpan}
 use Rattle.fabric.specs.declared.hand.in_place.OpenSpan.TheVariants as open_span
-use Rattle.capi.specs.Calls.{Puts, Takes}
+use Rattle.capi.specs.Calls.{PutsOne, TakesOne}
 use Rattle.capi.specs.Codes.{Outcome}
 use Rattle.capi.specs.Ends.{end_on, with_end}
 use Rattle.capi.specs.Holding.{AdvancesPut, AdvancesTake, EndsHeld, HoldsTake}
@@ -31,7 +31,7 @@ module _ (ring : ℕ) (word : Word64) where
   -- by a whole call. It doesn't say how much room is left
   abbrev pub PutsAlone : Member → Member → Outcome → Type 0
   PutsAlone m u outcome = OnIdle m.port.hand.span outcome (SameMember m u) (KeepsRings m u
-      × ((left : ℕ) × Puts m.port.fabric.value Bulk ring (member_view m) (word ∷ []) left (member_view u) outcome))
+      × PutsOne m.port.fabric.value ring (member_view m) word (member_view u) outcome)
 
   -- at the next position of an open span on the ring. With its last position the span is settled
   abbrev pub PutsNext : OpenSpan → Member → Member → Outcome → Type 0
@@ -68,7 +68,7 @@ module _ (ring : ℕ) (before after : List Word64) where
 
   abbrev pub TakesAlone : Member → Member → Outcome → Type 0
   TakesAlone m u outcome = OnIdle m.port.hand.span outcome (NotTaken m u) (KeepsRings m u
-      × ((left : ℕ) × Takes m.port.fabric.value Bulk ring (member_view m) before after left (member_view u) outcome))
+      × TakesOne m.port.fabric.value ring (member_view m) before after (member_view u) outcome)
 
   -- the next word of a held side of the ring. With its last word the side is given up
   abbrev pub TakesNextWord : OpenSpan → Member → Member → Outcome → Type 0

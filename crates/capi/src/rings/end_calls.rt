@@ -15,7 +15,7 @@ use crate::rings::holding::{hold_take, publish_next, release_take, withdraw_next
 use crate::rings::member::Member;
 use crate::rings::span_calls::finish_put_of;
 use crate::rings::starting::{fault_of, room_in, start_put};
-use crate::rings::whole_calls::{put_at, take_at};
+use crate::rings::whole_calls::{put_one_at, take_one_at};
 use crate::rings::word64::Word64;
 use fabric::{OpenSpan, Reserved};
 use geom::{How, Side};
@@ -30,14 +30,7 @@ fn put_alone(member: &mut Member, word: Word64) -> Result<u32, Fault>
         OpenSpan::Idle => (),
         _ => return Err(Fault::Open),
     }
-    let (_left, outcome) = put_at(
-        &mut member.port,
-        &member.ends.put.at,
-        &[word],
-        How::Bulk,
-        false,
-    );
-    outcome
+    put_one_at(&mut member.port, &member.ends.put.at, word)
 }
 
 /// A put at the next position of the open span.
@@ -171,14 +164,7 @@ fn take_alone(member: &mut Member, words: &mut [Word64]) -> Result<u32, Fault>
         OpenSpan::Idle => (),
         _ => return Err(Fault::Open),
     }
-    let (_left, outcome) = take_at(
-        &mut member.port,
-        &member.ends.take.at,
-        words,
-        How::Bulk,
-        false,
-    );
-    outcome
+    take_one_at(&mut member.port, &member.ends.take.at, words)
 }
 
 /// A take of the next word of a held side.

@@ -6,7 +6,7 @@ ghost use Rattle.fabric.specs.Hands.{rings_of};
 ghost use Rattle.fabric.specs.InPlace.{placed_view};
 ghost use Rattle.fabric.specs.Places.{HasCounts, IsPlaceOf, place_mode, place_ring};
 ghost use Rattle.fabric.specs.declared.hand.in_place.OpenSpan.TheVariants as open_span;
-ghost use Rattle.capi.specs.Calls.{Puts, Takes, how_of};
+ghost use Rattle.capi.specs.Calls.{Puts, PutsOne, Takes, TakesOne, how_of};
 ghost use Rattle.capi.specs.MemberCalls.{PutsWords, TakesWords};
 ghost use Rattle.capi.specs.Members.{ArePlain, AreShown};
 ghost use Rattle.capi.specs.Spans.{call_limit};
@@ -155,6 +155,100 @@ pub(crate) fn take_at(
     match place.mode(Side::Take) {
         Mode::Multi => take_in(port, place, Mode::Multi, words, how, long),
         Mode::Hts => take_in(port, place, Mode::Hts, words, how, long),
+    }
+}
+
+/// Puts a word on the ring at a place, whose put side has this mode.
+#[inline(always)]
+fn put_one_in(port: &mut WordPort, place: &Place, mode: Mode, word: Word64) -> Result<u32, Fault>
+    requires idle { port.old.hand.span ≡ open_span.Idle }
+    requires plain { ArePlain (rings_of port.old.fabric.value) }
+    requires place { IsPlaceOf port.old.fabric.value place.now }
+    requires mode { mode ≡ place_mode place.now Put }
+    ensures fabric { port.new.fabric ≡ port.old.fabric }
+    ensures shows { (shown : List Item) → AreShown port.new.hand shown }
+    ensures put { PutsOne port.old.fabric.value (place_ring place.now) (placed_view port.old.hand) word
+        (placed_view port.new.hand) result }
+{
+    let most = longest(&port.fabric, place, Side::Put, 1, false);
+    let known = Known { mode, free: false };
+    let words = &[word];
+    match port
+        .hand
+        .try_put_one_at(&port.fabric, place, known, &mut Words { words }, most)
+    {
+        Ok(reserved) => Ok(reserved.count() as u32),
+        Err(WholeFault::Start(why)) => Err(fault_of(why)),
+        Err(WholeFault::Settle(_reserved, _fault)) => Err(Fault::Pending),
+    }
+}
+
+/// Takes a word from the ring at a place, whose take side has this mode, to an array of one place.
+#[inline(always)]
+fn take_one_in(
+    port: &mut WordPort,
+    place: &Place,
+    mode: Mode,
+    words: &mut [Word64],
+) -> Result<u32, Fault>
+    requires idle { port.old.hand.span ≡ open_span.Idle }
+    requires plain { ArePlain (rings_of port.old.fabric.value) }
+    requires place { IsPlaceOf port.old.fabric.value place.now }
+    requires mode { mode ≡ place_mode place.now Take }
+    requires one { length words.old ≡ 1 }
+    ensures fabric { port.new.fabric ≡ port.old.fabric }
+    ensures shows { (shown : List Item) → AreShown port.new.hand shown }
+    ensures take { TakesOne port.old.fabric.value (place_ring place.now) (placed_view port.old.hand) words.old
+        words.new (placed_view port.new.hand) result }
+{
+    let most = longest(&port.fabric, place, Side::Take, 1, false);
+    let known = Known { mode, free: false };
+    match port
+        .hand
+        .try_take_one_at(&port.fabric, place, known, words, most)
+    {
+        Ok(reserved) => Ok(reserved.count() as u32),
+        Err(WholeFault::Start(why)) => Err(fault_of(why)),
+        Err(WholeFault::Settle(_reserved, _fault)) => Err(Fault::Pending),
+    }
+}
+
+/// `put_one_in` on a ring of either mode. Each mode has its own code, which doesn't test it again.
+#[inline(always)]
+pub(crate) fn put_one_at(port: &mut WordPort, place: &Place, word: Word64) -> Result<u32, Fault>
+    requires idle { port.old.hand.span ≡ open_span.Idle }
+    requires plain { ArePlain (rings_of port.old.fabric.value) }
+    requires place { IsPlaceOf port.old.fabric.value place.now }
+    ensures fabric { port.new.fabric ≡ port.old.fabric }
+    ensures shows { (shown : List Item) → AreShown port.new.hand shown }
+    ensures put { PutsOne port.old.fabric.value (place_ring place.now) (placed_view port.old.hand) word
+        (placed_view port.new.hand) result }
+{
+    match place.mode(Side::Put) {
+        Mode::Multi => put_one_in(port, place, Mode::Multi, word),
+        Mode::Hts => put_one_in(port, place, Mode::Hts, word),
+    }
+}
+
+/// `take_one_in` on a ring of either mode.
+#[inline(always)]
+pub(crate) fn take_one_at(
+    port: &mut WordPort,
+    place: &Place,
+    words: &mut [Word64],
+) -> Result<u32, Fault>
+    requires idle { port.old.hand.span ≡ open_span.Idle }
+    requires plain { ArePlain (rings_of port.old.fabric.value) }
+    requires place { IsPlaceOf port.old.fabric.value place.now }
+    requires one { length words.old ≡ 1 }
+    ensures fabric { port.new.fabric ≡ port.old.fabric }
+    ensures shows { (shown : List Item) → AreShown port.new.hand shown }
+    ensures take { TakesOne port.old.fabric.value (place_ring place.now) (placed_view port.old.hand) words.old
+        words.new (placed_view port.new.hand) result }
+{
+    match place.mode(Side::Take) {
+        Mode::Multi => take_one_in(port, place, Mode::Multi, words),
+        Mode::Hts => take_one_in(port, place, Mode::Hts, words),
     }
 }
 

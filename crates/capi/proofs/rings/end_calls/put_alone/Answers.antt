@@ -7,4 +7,4 @@ pub returns : goal.returns
 returns c =
     let m = c.args.member.now in
     let idle : m.port.hand.span ≡ open_span.Idle = search rules in
-    alone_put _ _ m _ _ _ idle (c.put_at-left.ensures.fabric, refl) c.put_at-left.ensures.put
+    alone_put _ _ m _ _ idle (c.put_one_at.ensures.fabric, refl) c.put_one_at.ensures.put

@@ -7,4 +7,4 @@ pub returns : goal.returns
 returns c =
     let m = c.args.member.now in
     let idle : m.port.hand.span ≡ open_span.Idle = search rules in
-    alone_take _ _ _ m _ _ _ idle (c.take_at-left.ensures.fabric, refl) c.take_at-left.ensures.take
+    alone_take _ _ _ m _ _ idle (c.take_one_at.ensures.fabric, refl) c.take_one_at.ensures.take
