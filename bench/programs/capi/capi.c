@@ -2,7 +2,8 @@
  *
  *   capi alone                        one thread puts words and takes them again: ns an item
  *   capi alone NAME TURNS             only these turns, to count their instructions; multi-one, hts-one: a word by
- *                                     value; multi-end, hts-end: by ends; held-1: word by word, by ends that hold their
+ *                                     value; multi-end, hts-end: by ends, each by a hand of its own; multi-both,
+ *                                     hts-both: by both ends of one hand; held-1: word by word, by ends that hold their
  *                                     sides, 64 puts and 64 takes in turn
  *   capi pools                        one thread gets numbers of a pool through its cache and puts them again: ns a number
  *   capi lookups                      lookups with 1,000 routes, one by one and in bursts of 32, in a table and by a reader
@@ -112,23 +113,25 @@ static void ones(const char *only, uint64_t *words, int hts, unsigned long count
 	hk_hand_free(hand);
 }
 
-/* The same by the ends of one hand. */
-static void ends(const char *only, uint64_t *words, int hts, unsigned long count)
+/* The same by ends: each by a hand of its own, or both by one hand. */
+static void ends(const char *only, uint64_t *words, int hts, int both, unsigned long count)
 {
-	const char *name = hts ? "hts-end" : "multi-end";
+	static const char *const names[2][2] = { { "multi-end", "multi-both" }, { "hts-end", "hts-both" } };
+	const char *name = names[hts][both];
 	double ns;
 	hk_producer *put;
 	hk_consumer *take;
 	if (only && strcmp(only, name)) return;
-	hk_hand *hand = ring_of(hts);
-	open_ends(hand, &put, hand, &take);
+	hk_hand *hand = ring_of(hts), *other = NULL;
+	if (!both && hk_hand_split(hand, &other) < 0) exit(1);
+	open_ends(hand, &put, both ? hand : other, &take);
 	if (only) end_turns(put, take, words, count);
 	else {
 		end_turns(put, take, words, WARM);
 		TIMED(ns, CHUNK, end_turns(put, take, words, CHUNK););
 		report(name, ns, "ns/item");
 	}
-	hk_hand_free(hand);
+	hk_hand_free(hand), hk_hand_free(other);
 }
 
 /* All names, each timed; or only one name, for `count` turns without a clock. */
@@ -138,7 +141,10 @@ static void alone(const char *only, unsigned long count)
 	uint64_t words[MOST];
 	for (unsigned i = 0; i < MOST; i++) words[i] = i + 1;
 	if (!only || strcmp(only, "held-1") == 0) held(words, only != NULL, count);
-	for (int hts = 0; hts < 2; hts++) ones(only, words, hts, count), ends(only, words, hts, count);
+	for (int hts = 0; hts < 2; hts++) {
+		ones(only, words, hts, count);
+		for (int both = 0; both < 2; both++) ends(only, words, hts, both, count);
+	}
 	for (int hts = 0; hts < 2; hts++)
 		for (unsigned s = 0; s < sizeof sizes / sizeof *sizes; s++) {
 			size_t n = sizes[s];
