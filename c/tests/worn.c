@@ -95,26 +95,37 @@ static void plans(void) {
     IS(hk_hand_open(&hand, &later, 1), HK_E_PLAN), IS(hand == NULL, 1);
 }
 
-/* The block of the words of one ring: 64 words, of which the numbers 0, 16, 32 and 48 are its heads and tails. */
-enum { BLOCK = 64 * sizeof(uint64_t) };
-static uint64_t *block;
+/* The block of the words of one ring: 64 words, of which the numbers 0, 16, 32 and 48 are its heads and tails. Of the
+ * blocks of this size it is the one that is all 0 in a new set of rings. */
+enum { BLOCK = 64 * sizeof(uint64_t), BLOCKS = 8 };
+static uint64_t *blocks[BLOCKS];
 
 static void *allocate(size_t size) {
     void *there = aligned_alloc(64, size);
-    if (size == BLOCK) block = there;
+    for (int i = 0; size == BLOCK && i < BLOCKS; i++) {
+        if (blocks[i]) continue;
+        blocks[i] = there;
+        break;
+    }
     return there;
 }
 
 static void release(void *there) {
-    if (there == block) block = NULL;
+    for (int i = 0; i < BLOCKS; i++) if (blocks[i] == there) blocks[i] = NULL;
     free(there);
+}
+
+static uint64_t *words_of_a_new_ring(void) {
+    static const uint64_t none[BLOCK / sizeof(uint64_t)];
+    for (int i = 0; i < BLOCKS; i++) if (blocks[i] && memcmp(blocks[i], none, BLOCK) == 0) return blocks[i];
+    return NULL;
 }
 
 /* An empty ring that stands after `at` words, as it would after as many puts and takes: the words of a multi side are
  * the number itself, and a head/tail-sync word has it above 12 bits for a count. Bulks, bursts and peeks go on there. */
 static void far(uint32_t put, uint32_t take, uint64_t at) {
-    block = NULL;
     hk_hand *hand = open_ring(put, take, 0);
+    uint64_t *block = words_of_a_new_ring();
     IS(block != NULL, 1);
     if (!block) return;
     if (put == HK_MULTI) block[0] = at, block[16] = at;
