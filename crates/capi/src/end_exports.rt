@@ -10,8 +10,8 @@ use crate::handle::Handle;
 use crate::keeping::{borrow, with_object};
 use crate::object::Object;
 use crate::rings::{
-    Fault, Word64, answer, end_put, end_take, hold_end, open_end, release_end, side_of, usual_put,
-    usual_take,
+    Fault, Word64, answer, end_put, end_take, hold_end, open_end, put_on_held, put_when_idle,
+    release_end, side_of, take_on_held, take_when_idle,
 };
 use std::alloc::Global;
 
@@ -39,49 +39,65 @@ pub extern "C" fn hkx_end_release(alloc: Global, h: &mut Handle, takes: bool, cl
     with_object!(alloc, h, Hand(member) => release_end(member, side_of(takes), closes))
 }
 
-/// Puts a word by the hand's end, if that is a usual put. At `None` nothing was done.
+/// A call on the hand at a handle, which may do nothing.
+macro_rules! on_hand {
+    ($alloc:ident, $h:ident, $member:ident => $call:expr) => {{
+        let Some(mut slot) = borrow($alloc, $h) else {
+            return None;
+        };
+        let outcome = match &mut *slot {
+            Some(Object::Hand($member)) => $call,
+            _ => None,
+        };
+        *$h = Handle::of(slot);
+        match outcome {
+            Some(outcome) => Some(answer(outcome)),
+            None => None,
+        }
+    }};
+}
+
+/// Puts a word by the hand's end, if that holds its side. At `None` nothing was done.
 #[inline(always)]
-fn try_put(alloc: Global, h: &mut Handle, bits: u64) -> Option<i64>
+fn try_put_held(alloc: Global, h: &mut Handle, bits: u64) -> Option<i64>
     ensures done { IfSome result
         (λ code. Answers code (AtHand h.old.value h.new.value (EndPuts (word_of bits)))) }
     ensures none { IfNone result (h.new.value ≡ h.old.value) }
 {
-    let Some(mut slot) = borrow(alloc, h) else {
-        return None;
-    };
-    let outcome = match &mut *slot {
-        Some(Object::Hand(member)) => usual_put(member, Word64 { bits }),
-        _ => None,
-    };
-    *h = Handle::of(slot);
-    match outcome {
-        Some(outcome) => Some(answer(outcome)),
-        None => None,
-    }
+    on_hand!(alloc, h, member => put_on_held(member, Word64 { bits }))
 }
 
-/// Takes a word by the hand's end, if that is a usual take. At `None` nothing was done.
+/// Puts a word by the hand's end, if that doesn't hold its side. At `None` nothing was done.
 #[inline(always)]
-fn try_take(alloc: Global, h: &mut Handle, word: &mut Word64) -> Option<i64>
+fn try_put_idle(alloc: Global, h: &mut Handle, bits: u64) -> Option<i64>
+    ensures done { IfSome result
+        (λ code. Answers code (AtHand h.old.value h.new.value (EndPuts (word_of bits)))) }
+    ensures none { IfNone result (h.new.value ≡ h.old.value) }
+{
+    on_hand!(alloc, h, member => put_when_idle(member, Word64 { bits }))
+}
+
+/// Takes a word by the hand's end, if that holds its side. At `None` nothing was done.
+#[inline(always)]
+fn try_take_held(alloc: Global, h: &mut Handle, word: &mut Word64) -> Option<i64>
     ensures done { IfSome result
         (λ code. Answers code (AtHand h.old.value h.new.value (EndTakes (word.old ∷ []) (word.new ∷ [])))) }
     ensures none { IfNone result ((h.new.value ≡ h.old.value) × (word.new ≡ word.old)) }
 {
-    let Some(mut slot) = borrow(alloc, h) else {
-        return None;
-    };
-    let outcome = match &mut *slot {
-        Some(Object::Hand(member)) => usual_take(member, word),
-        _ => None,
-    };
-    *h = Handle::of(slot);
-    match outcome {
-        Some(outcome) => Some(answer(outcome)),
-        None => None,
-    }
+    on_hand!(alloc, h, member => take_on_held(member, word))
 }
 
-/// Any put of a word, apart from the usual ones.
+/// Takes a word by the hand's end, if that doesn't hold its side. At `None` nothing was done.
+#[inline(always)]
+fn try_take_idle(alloc: Global, h: &mut Handle, word: &mut Word64) -> Option<i64>
+    ensures done { IfSome result
+        (λ code. Answers code (AtHand h.old.value h.new.value (EndTakes (word.old ∷ []) (word.new ∷ [])))) }
+    ensures none { IfNone result ((h.new.value ≡ h.old.value) × (word.new ≡ word.old)) }
+{
+    on_hand!(alloc, h, member => take_when_idle(member, word))
+}
+
+/// Any put of a word.
 #[inline(never)]
 fn put_rarely(alloc: Global, h: &mut Handle, bits: u64) -> i64
     ensures { Answers result (AtHand h.old.value h.new.value (EndPuts (word_of bits))) }
@@ -97,14 +113,37 @@ fn take_rarely(alloc: Global, h: &mut Handle, word: &mut Word64) -> i64
     with_object!(alloc, h, Hand(member) => end_take(member, word))
 }
 
+/// A put of a word that isn't one on a held side. It is a function of its own, so that one on a held side saves no
+/// registers.
+#[inline(never)]
+fn put_not_held(alloc: Global, h: &mut Handle, bits: u64) -> i64
+    ensures { Answers result (AtHand h.old.value h.new.value (EndPuts (word_of bits))) }
+{
+    match try_put_idle(alloc, h, bits) {
+        Some(code) => code,
+        None => put_rarely(alloc, h, bits),
+    }
+}
+
+/// A take of a word that isn't one of a held side.
+#[inline(never)]
+fn take_not_held(alloc: Global, h: &mut Handle, word: &mut Word64) -> i64
+    ensures { Answers result (AtHand h.old.value h.new.value (EndTakes (word.old ∷ []) (word.new ∷ []))) }
+{
+    match try_take_idle(alloc, h, word) {
+        Some(code) => code,
+        None => take_rarely(alloc, h, word),
+    }
+}
+
 /// Puts a word by the hand's end.
 #[unsafe(no_mangle)]
 pub extern "C" fn hkx_end_put(alloc: Global, h: &mut Handle, bits: u64) -> i64
     ensures { Answers result (AtHand h.old.value h.new.value (EndPuts (word_of bits))) }
 {
-    match try_put(alloc, h, bits) {
+    match try_put_held(alloc, h, bits) {
         Some(code) => code,
-        None => put_rarely(alloc, h, bits),
+        None => put_not_held(alloc, h, bits),
     }
 }
 
@@ -113,8 +152,8 @@ pub extern "C" fn hkx_end_put(alloc: Global, h: &mut Handle, bits: u64) -> i64
 pub extern "C" fn hkx_end_take(alloc: Global, h: &mut Handle, word: &mut Word64) -> i64
     ensures { Answers result (AtHand h.old.value h.new.value (EndTakes (word.old ∷ []) (word.new ∷ []))) }
 {
-    match try_take(alloc, h, word) {
+    match try_take_held(alloc, h, word) {
         Some(code) => code,
-        None => take_rarely(alloc, h, word),
+        None => take_not_held(alloc, h, word),
     }
 }

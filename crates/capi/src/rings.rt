@@ -28,7 +28,9 @@ mod whole_calls;
 mod word64;
 
 pub(crate) use closing::Rest;
-pub(crate) use end_calls::{end_put, end_take, usual_put, usual_take};
+pub(crate) use end_calls::{
+    end_put, end_take, put_on_held, put_when_idle, take_on_held, take_when_idle,
+};
 pub(crate) use ending::{close, drain};
 pub(crate) use ends::{hold_end, open_end, release_end};
 pub(crate) use fault::{Fault, answer};

@@ -134,22 +134,30 @@ pub fn end_put(member: &mut Member, word: Word64) -> Result<u32, Fault>
     }
 }
 
-/// `end_put` as it usually is: a whole call, or a word on a held side that isn't its last one. At `None` nothing was
-/// done. It calls no other function, so its caller saves no registers.
+/// `end_put` of a word on a held side that isn't its last one. At `None` nothing was done. It calls no other function,
+/// so its caller saves no registers.
 #[inline(always)]
-pub fn usual_put(member: &mut Member, word: Word64) -> Option<Result<u32, Fault>>
+pub fn put_on_held(member: &mut Member, word: Word64) -> Option<Result<u32, Fault>>
     ensures done { IfSome result (λ outcome. EndPuts word member.old member.new outcome) }
     ensures none { IfNone result (member.new ≡ member.old) }
 {
     match member.port.span() {
-        OpenSpan::Idle => match member.ends.put.state {
-            EndState::Open => Some(put_alone(member, word)),
-            _ => None,
-        },
         OpenSpan::Put(reserved) => match member.ends.put.state {
             EndState::Holds(_) => put_more(member, reserved, word),
             _ => None,
         },
+        _ => None,
+    }
+}
+
+/// `end_put` of a word by a whole call. At `None` nothing was done.
+#[inline(always)]
+pub fn put_when_idle(member: &mut Member, word: Word64) -> Option<Result<u32, Fault>>
+    ensures done { IfSome result (λ outcome. EndPuts word member.old member.new outcome) }
+    ensures none { IfNone result (member.new ≡ member.old) }
+{
+    match member.ends.put.state {
+        EndState::Open => Some(put_alone(member, word)),
         _ => None,
     }
 }
@@ -253,18 +261,14 @@ fn take_by_end(member: &mut Member, words: &mut [Word64]) -> Result<u32, Fault>
     }
 }
 
-/// `take_by_end` as it usually is. At `None` nothing was done.
+/// `take_by_end` of a word of a held side that isn't its last one. At `None` nothing was done.
 #[inline(always)]
-fn take_as_usual(member: &mut Member, words: &mut [Word64]) -> Option<Result<u32, Fault>>
+fn take_by_held(member: &mut Member, words: &mut [Word64]) -> Option<Result<u32, Fault>>
     requires one { length words.old ≡ 1 }
     ensures done { IfSome result (λ outcome. EndTakes words.old words.new member.old member.new outcome) }
     ensures none { IfNone result ((member.new ≡ member.old) × (words.new ≡ words.old)) }
 {
     match member.port.span() {
-        OpenSpan::Idle => match member.ends.take.state {
-            EndState::Open => Some(take_alone(member, words)),
-            _ => None,
-        },
         OpenSpan::Held(reserved) => match member.ends.take.state {
             EndState::Holds(_) => take_more(member, reserved, words),
             _ => None,
@@ -273,14 +277,37 @@ fn take_as_usual(member: &mut Member, words: &mut [Word64]) -> Option<Result<u32
     }
 }
 
-/// `end_take` as it usually is. At `None` nothing was done.
+/// `end_take` of a word of a held side that isn't its last one. At `None` nothing was done.
 #[inline(always)]
-pub fn usual_take(member: &mut Member, word: &mut Word64) -> Option<Result<u32, Fault>>
+pub fn take_on_held(member: &mut Member, word: &mut Word64) -> Option<Result<u32, Fault>>
     ensures done { IfSome result
         (λ outcome. EndTakes (word.old ∷ []) (word.new ∷ []) member.old member.new outcome) }
     ensures none { IfNone result ((member.new ≡ member.old) × (word.new ≡ word.old)) }
 {
-    take_as_usual(member, from_mut(word))
+    take_by_held(member, from_mut(word))
+}
+
+/// `take_by_end` of a word by a whole call. At `None` nothing was done.
+#[inline(always)]
+fn take_by_call(member: &mut Member, words: &mut [Word64]) -> Option<Result<u32, Fault>>
+    requires one { length words.old ≡ 1 }
+    ensures done { IfSome result (λ outcome. EndTakes words.old words.new member.old member.new outcome) }
+    ensures none { IfNone result ((member.new ≡ member.old) × (words.new ≡ words.old)) }
+{
+    match member.ends.take.state {
+        EndState::Open => Some(take_alone(member, words)),
+        _ => None,
+    }
+}
+
+/// `end_take` of a word by a whole call. At `None` nothing was done.
+#[inline(always)]
+pub fn take_when_idle(member: &mut Member, word: &mut Word64) -> Option<Result<u32, Fault>>
+    ensures done { IfSome result
+        (λ outcome. EndTakes (word.old ∷ []) (word.new ∷ []) member.old member.new outcome) }
+    ensures none { IfNone result ((member.new ≡ member.old) × (word.new ≡ word.old)) }
+{
+    take_by_call(member, from_mut(word))
 }
 
 /// `take_by_end` of a word.
