@@ -180,7 +180,7 @@ impl<T: Word> Producer<T> {
         &mut self.hand
     }
 
-    /// Puts a word in less time than `try_put_one`: it doesn't say how much room is left.
+    /// Puts a word by an end: between threads in less time than `try_put_one`. It doesn't say how much room is left.
     ///
     /// ```
     /// # fn main() -> Result<(), hokhtura::Error> {
@@ -220,7 +220,8 @@ impl<T: Word> Consumer<T> {
         &mut self.hand
     }
 
-    /// Takes the oldest word in less time than `try_take_one`: it doesn't say how many are left.
+    /// Takes the oldest word by an end: between threads in less time than `try_take_one`. It doesn't say how many are
+    /// left.
     ///
     /// # Errors
     ///
