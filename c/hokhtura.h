@@ -254,9 +254,9 @@ HK_API HK_CHECKED int64_t hk_hand_drain(hk_hand *hand, size_t ring, uint64_t *wo
 /* ---- Ends: word by word ------------------------------------------------------------------------------------------ */
 
 /* An end is one side of one ring, which a hand opens to move word by word. The ring is looked up once, when the end is
- * opened. If the last call of the hand was one by this end, and no other thread was on the side since, a call reserves
- * by one compare-and-exchange and doesn't read what other threads write. So open each end by a hand of its own. A hand
- * has at most one end on each side. Its other calls go on as always, on the same ring or on others.
+ * opened. If the last call of the hand was one by this end and saw more room, or words, and no other thread was on the
+ * side since, a call reserves by one compare-and-exchange, without a load before it. So open each end by a hand of its
+ * own. A hand has at most one end on each side. Its other calls go on as always, on the same ring or on others.
  * An end is part of its hand: a call on it is a call on the hand, by the thread that has the hand. It needs no memory,
  * and it ends with the hand: free it before, or don't use it afterwards. A call on a freed end returns HK_E_NOTOPEN
  * until the hand opens another one on that side. From then on the old pointer is the new end: don't use it. */

@@ -48,7 +48,7 @@ impl<T: Tagged, const N: usize, S: Stored<T>> Producer<T, N, S> {
         }
     }
 
-    /// Tries once to put the item of a list. At most four steps on words.
+    /// Tries once to put the item of a list. At most five steps on words, the first of them an exchange that was lost.
     ///
     /// Errors: `Open`, after a `Settle` that isn't finished; `Start`, and no span is open; `Settle`, and the span stays
     /// open for `try_finish`: on a multi side an earlier put isn't settled yet, or the item isn't the hand's to put.
@@ -130,7 +130,7 @@ impl<T: Word, const N: usize, S: Stored<T>> Consumer<T, N, S> {
         }
     }
 
-    /// Tries once to take a word to a slice of one place. At most four steps on words.
+    /// Tries once to take a word to a slice of one place. At most five steps on words, as `try_put`.
     ///
     /// Errors: `Open`, after a `Settle` that isn't finished; `Start`, and no span is open: the slice is as it was;
     /// `Settle`, on a multi side alone: the word is there already, and the span stays open for `try_finish`.

@@ -126,6 +126,7 @@ impl<T: Tagged, const N: usize, S: Stored<T>> Ring<'_, T, N, S> {
             next,
         ))
     }
+
     /// Opens a span of one position: at once, if what the hand remembers allows it, or else as `open_span` does. A lost
     /// exchange counts as a load. `recent` is what the hand remembers, before and after.
     #[inline(always)]
