@@ -14,7 +14,7 @@ use Rattle.ringcore_laws.specs.declared.protocol.Span.{Span}
 use Rattle.fabric_laws.specs.declared.view.View.{View}
 use Rattle.fabric.specs.Hands.{rings_of}
 use Rattle.fabric.specs.declared.hand.StartFault.TheVariants.{Busy, Contended, NoRoom, Worn, BadCount}
-use Rattle.capi.specs.Calls.{Puts, Takes, how_of}
+use Rattle.capi.specs.Calls.{Puts, PutsOne, Takes, TakesOne, how_of}
 use Rattle.capi.specs.Codes.{code_of}
 use Rattle.capi.specs.Finishes.{DoesNotFit}
 use Rattle.capi.specs.Members.{Rings}
@@ -261,6 +261,14 @@ module _ (f : Rings) (how : How) (v w : View Word64) (a b c d : Word64) where
   -- a put by bulk that published fewer than the array has
   publishes_a_part : Puts f Bulk 0 v (a ∷ b ∷ []) 0 w (Ok 1) → ⊥
   publishes_a_part is = absurd (omega (arith, is.many, is.reserved.asked))
+
+  -- a put of one word that published two, and a take of one that was refused and wrote
+  one_put_of_two : PutsOne f 0 v a w (Ok 2) → ⊥
+  one_put_of_two is = absurd (omega (arith, is.3.many, is.3.reserved.asked))
+
+  one_take_writes_and_refuses : a ≢ c → TakesOne f 0 v (a ∷ []) (c ∷ []) w (Err fault.NoRoom) → ⊥
+  one_take_writes_and_refuses other (u, left, once, inl is) = absurd (let e : fault.NoRoom ≡ fault.Pending = is.0 in cc)
+  one_take_writes_and_refuses other (u, left, once, inr is) = other (let e : c ∷ [] ≡ a ∷ [] = is.0 in cc)
 
 -- a close with a span open isn't refused as shared, and one without isn't refused as open
 not_shared : (m : Member) (span : Span) → (member_view m).party.span ≡ Some span → RefusesClose m fault.Shared → ⊥

@@ -10,8 +10,8 @@ use crate::handle::Handle;
 use crate::keeping::{borrow, with_object};
 use crate::object::Object;
 use crate::rings::{
-    Fault, Word64, answer, end_put, end_take, hold_end, open_end, put_on_held, put_when_idle,
-    release_end, side_of, take_on_held, take_when_idle,
+    Fault, Word64, answer, end_put, end_take, hold_end, is_put_recent, is_take_recent, open_end,
+    put_on_held, put_when_open, release_end, side_of, take_on_held, take_when_open,
 };
 use std::alloc::Global;
 
@@ -57,6 +57,37 @@ macro_rules! on_hand {
     }};
 }
 
+/// What a look at the hand of a handle says: `false` if it has none.
+macro_rules! of_hand {
+    ($alloc:ident, $h:ident, $member:ident => $call:expr) => {{
+        let Some(slot) = borrow($alloc, $h) else {
+            return false;
+        };
+        let is = match &*slot {
+            Some(Object::Hand($member)) => $call,
+            _ => false,
+        };
+        *$h = Handle::of(slot);
+        is
+    }};
+}
+
+/// Whether the next put by the hand's end would be tried at once. Either code is right for it: this chooses the shorter.
+#[inline(always)]
+fn puts_at_once(alloc: Global, h: &mut Handle) -> bool
+    ensures { h.new.value ≡ h.old.value }
+{
+    of_hand!(alloc, h, member => is_put_recent(member))
+}
+
+/// Whether the next take by the hand's end would be tried at once.
+#[inline(always)]
+fn takes_at_once(alloc: Global, h: &mut Handle) -> bool
+    ensures { h.new.value ≡ h.old.value }
+{
+    of_hand!(alloc, h, member => is_take_recent(member))
+}
+
 /// Puts a word by the hand's end, if that holds its side. At `None` nothing was done.
 #[inline(always)]
 fn try_put_held(alloc: Global, h: &mut Handle, bits: u64) -> Option<i64>
@@ -69,12 +100,12 @@ fn try_put_held(alloc: Global, h: &mut Handle, bits: u64) -> Option<i64>
 
 /// Puts a word by the hand's end, if that doesn't hold its side. At `None` nothing was done.
 #[inline(always)]
-fn try_put_idle(alloc: Global, h: &mut Handle, bits: u64) -> Option<i64>
+fn try_put(alloc: Global, h: &mut Handle, bits: u64, looks: bool) -> Option<i64>
     ensures done { IfSome result
         (λ code. Answers code (AtHand h.old.value h.new.value (EndPuts (word_of bits)))) }
     ensures none { IfNone result (h.new.value ≡ h.old.value) }
 {
-    on_hand!(alloc, h, member => put_when_idle(member, Word64 { bits }))
+    on_hand!(alloc, h, member => put_when_open(member, Word64 { bits }, looks))
 }
 
 /// Takes a word by the hand's end, if that holds its side. At `None` nothing was done.
@@ -89,12 +120,12 @@ fn try_take_held(alloc: Global, h: &mut Handle, word: &mut Word64) -> Option<i64
 
 /// Takes a word by the hand's end, if that doesn't hold its side. At `None` nothing was done.
 #[inline(always)]
-fn try_take_idle(alloc: Global, h: &mut Handle, word: &mut Word64) -> Option<i64>
+fn try_take(alloc: Global, h: &mut Handle, word: &mut Word64, looks: bool) -> Option<i64>
     ensures done { IfSome result
         (λ code. Answers code (AtHand h.old.value h.new.value (EndTakes (word.old ∷ []) (word.new ∷ [])))) }
     ensures none { IfNone result ((h.new.value ≡ h.old.value) × (word.new ≡ word.old)) }
 {
-    on_hand!(alloc, h, member => take_when_idle(member, word))
+    on_hand!(alloc, h, member => take_when_open(member, word, looks))
 }
 
 /// Any put of a word.
@@ -113,24 +144,46 @@ fn take_rarely(alloc: Global, h: &mut Handle, word: &mut Word64) -> i64
     with_object!(alloc, h, Hand(member) => end_take(member, word))
 }
 
-/// A put of a word that isn't one on a held side. It is a function of its own, so that one on a held side saves no
-/// registers.
+/// A put of a word that begins with a look, on a side that isn't held. Each kind of put is a function of its own, so that
+/// none saves registers that only another one uses.
 #[inline(never)]
-fn put_not_held(alloc: Global, h: &mut Handle, bits: u64) -> i64
+fn put_by_look(alloc: Global, h: &mut Handle, bits: u64) -> i64
     ensures { Answers result (AtHand h.old.value h.new.value (EndPuts (word_of bits))) }
 {
-    match try_put_idle(alloc, h, bits) {
+    match try_put(alloc, h, bits, true) {
         Some(code) => code,
         None => put_rarely(alloc, h, bits),
     }
 }
 
-/// A take of a word that isn't one of a held side.
+/// A put of a word that is tried at once.
 #[inline(never)]
-fn take_not_held(alloc: Global, h: &mut Handle, word: &mut Word64) -> i64
+fn put_at_once(alloc: Global, h: &mut Handle, bits: u64) -> i64
+    ensures { Answers result (AtHand h.old.value h.new.value (EndPuts (word_of bits))) }
+{
+    match try_put(alloc, h, bits, false) {
+        Some(code) => code,
+        None => put_rarely(alloc, h, bits),
+    }
+}
+
+/// A take of a word that begins with a look, from a side that isn't held.
+#[inline(never)]
+fn take_by_look(alloc: Global, h: &mut Handle, word: &mut Word64) -> i64
     ensures { Answers result (AtHand h.old.value h.new.value (EndTakes (word.old ∷ []) (word.new ∷ []))) }
 {
-    match try_take_idle(alloc, h, word) {
+    match try_take(alloc, h, word, true) {
+        Some(code) => code,
+        None => take_rarely(alloc, h, word),
+    }
+}
+
+/// A take of a word that is tried at once.
+#[inline(never)]
+fn take_at_once(alloc: Global, h: &mut Handle, word: &mut Word64) -> i64
+    ensures { Answers result (AtHand h.old.value h.new.value (EndTakes (word.old ∷ []) (word.new ∷ []))) }
+{
+    match try_take(alloc, h, word, false) {
         Some(code) => code,
         None => take_rarely(alloc, h, word),
     }
@@ -142,8 +195,13 @@ pub extern "C" fn hkx_end_put(alloc: Global, h: &mut Handle, bits: u64) -> i64
     ensures { Answers result (AtHand h.old.value h.new.value (EndPuts (word_of bits))) }
 {
     match try_put_held(alloc, h, bits) {
-        Some(code) => code,
-        None => put_not_held(alloc, h, bits),
+        Some(code) => return code,
+        None => (),
+    }
+    if puts_at_once(alloc, h) {
+        put_at_once(alloc, h, bits)
+    } else {
+        put_by_look(alloc, h, bits)
     }
 }
 
@@ -153,7 +211,12 @@ pub extern "C" fn hkx_end_take(alloc: Global, h: &mut Handle, word: &mut Word64)
     ensures { Answers result (AtHand h.old.value h.new.value (EndTakes (word.old ∷ []) (word.new ∷ []))) }
 {
     match try_take_held(alloc, h, word) {
-        Some(code) => code,
-        None => take_not_held(alloc, h, word),
+        Some(code) => return code,
+        None => (),
+    }
+    if takes_at_once(alloc, h) {
+        take_at_once(alloc, h, word)
+    } else {
+        take_by_look(alloc, h, word)
     }
 }

@@ -29,7 +29,8 @@ mod word64;
 
 pub(crate) use closing::Rest;
 pub(crate) use end_calls::{
-    end_put, end_take, put_on_held, put_when_idle, take_on_held, take_when_idle,
+    end_put, end_take, is_put_recent, is_take_recent, put_on_held, put_when_open, take_on_held,
+    take_when_open,
 };
 pub(crate) use ending::{close, drain};
 pub(crate) use ends::{hold_end, open_end, release_end};

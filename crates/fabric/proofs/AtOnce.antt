@@ -52,6 +52,20 @@ asked_last ring side word tail v is = (
   ap tail_in is,
 )
 
+-- what a hand remembers is so, if it is so of one side
+pub recent_at : {T : Type 0} (m : Recent) (v : View T) (ring : ℕ) (side : Side) (plan : RingPlan) → m.own ≡ own_at ring side
+    → slice_get v.plans ring ≡ Some plan → AskedLast ring side v
+    → m.left ≤ room_by_look side plan.geometry.capacity (position_of plan.geometry (mode_of plan side) m.word) (tail_in v.observed)
+    → (mode_of plan side ≡ Hts → m.word % range_of plan.geometry ≡ 0) → IsRecent m v
+recent_at m v ring side plan own at asked room whole ring' side' plan' own' at' =
+    let to = own_same ring side ring' side' (sym own ∙ own') in
+    let is_plan : plan ≡ plan' = same_plan (sym at ∙ (ap (slice_get v.plans) to.0 ∙ at')) in (
+      subst (λ (z : ℕ × Side). AskedLast z.0 z.1 v) (λ k. (to.0 k, to.1 k)) asked,
+      subst (λ (z : Side × RingPlan). m.left ≤ room_by_look z.0 z.1.geometry.capacity (position_of z.1.geometry (mode_of z.1 z.0) m.word) (tail_in v.observed))
+          (λ k. (to.1 k, is_plan k)) room,
+      subst (λ (z : Side × RingPlan). mode_of z.1 z.0 ≡ Hts → m.word % range_of z.1.geometry ≡ 0) (λ k. (to.1 k, is_plan k)) whole,
+    )
+
 -- more room by a later tail
 pub room_grows : (side : Side) (capacity start a b : ℕ) → a ≤ b → 0 < room_by_look side capacity start a → 0 < room_by_look side capacity start b
 room_grows Put capacity start a b le h = omega (arith, le, h)
@@ -153,25 +167,21 @@ module _ {T : Type 0} {N : ℕ} {S : Type 0} (tags : T → List ℕ) (r : Ring T
     module _ (h : HasReservedOne tags r side word s t) where
       -- what it remembers then is so
       pub recent_on : (recent next : Recent) → recent.own ≡ own_at r.index side → next.own ≡ recent.own → recent.word ≡ word
-          → position_of plan.geometry (mode_of plan side) next.word ≡ start + 1 → next.left ≡ recent.left - 1 → 0 < recent.left
+          → position_of plan.geometry (mode_of plan side) next.word ≡ start + 1
+          → (mode_of plan side ≡ Hts → next.word % range_of plan.geometry ≡ 0) → next.left ≡ recent.left - 1 → 0 < recent.left
           → IsRecent recent s.me.0 → IsRecent next t.me.0
-      recent_on recent next own same_own from further less some is ring side' plan' own' at' =
+      recent_on recent next own same_own from further whole less some is =
           let plans : t.me.0.plans ≡ s.me.0.plans = ap (λ z. z.plans) h.reserved.view ∙ ap (λ z. z.plans) h.found.view in
           let known : slice_get s.me.0.plans r.index ≡ Some plan = told_ring s.me.0.plans r.fabric.now.plan.rings.items r.index plan seat.plans r.in_plan.0 in
           let old = is r.index side plan own known in
           let saw : ℕ = tail_in s.me.0.observed in
-          let to = own_same r.index side ring side' (sym own ∙ (sym same_own ∙ own')) in
-          let is_plan : plan ≡ plan' = same_plan (sym known ∙ (ap (λ l. slice_get l r.index) (sym plans) ∙ (ap (slice_get t.me.0.plans) to.0 ∙ at'))) in
           let there : recent.left ≤ room_by_look side plan.geometry.capacity start saw =
           subst (λ (w : ℕ). recent.left ≤ room_by_look side plan.geometry.capacity (position_of plan.geometry (mode_of plan side) w) saw) from old.1 in
-          let room : next.left ≤ room_by_look side plan.geometry.capacity (position_of plan.geometry (mode_of plan side) next.word) h.tail =
-          subst (λ (p : ℕ). next.left ≤ room_by_look side plan.geometry.capacity p h.tail) (sym further)
+          let now = asked_last r.index side word h.tail t.me.0 (ap (λ z. z.observed) h.reserved.view ∙ ap (λ z. z.observed) h.found.view) in
+          let room : next.left ≤ room_by_look side plan.geometry.capacity (position_of plan.geometry (mode_of plan side) next.word) (tail_in t.me.0.observed) =
+          subst (λ (z : ℕ × ℕ). next.left ≤ room_by_look side plan.geometry.capacity z.0 z.1) (λ k. (sym further k, sym now.1 k))
           (room_after side plan.geometry.capacity start saw h.tail recent.left next.left (h.more saw (asked_of r.index side s.me.0 old.0)) less there) in
-          let now = asked_last r.index side word h.tail t.me.0 (ap (λ z. z.observed) h.reserved.view ∙ ap (λ z. z.observed) h.found.view) in (
-            subst (λ (z : ℕ × Side). AskedLast z.0 z.1 t.me.0) (λ k. (to.0 k, to.1 k)) now.0,
-            subst (λ (z : Side × RingPlan × ℕ). next.left ≤ room_by_look z.0 z.1.geometry.capacity (position_of z.1.geometry (mode_of z.1 z.0) next.word) z.2)
-                (λ k. (to.1 k, is_plan k, sym now.1 k)) room,
-          )
+          recent_at next t.me.0 r.index side plan (same_own ∙ own) (ap (λ l. slice_get l r.index) plans ∙ known) now.0 room whole
 
       pub started_one : (most n : ℕ) (range : Positions) → range.start ≡ start → range.count ≡ 1 → s.me.1 ≡ [] → HasAsked r.index side n s.me.0
           → 0 < room_by_look side plan.geometry.capacity start n → start < plan.geometry.last → MayStart tags most 1 side plan s.me.0
@@ -221,18 +231,14 @@ module _ {T : Type 0} {N : ℕ} {S : Type 0} (tags : T → List ℕ) (r : Ring T
 -- what a hand remembers after a start is so
 pub recent_started : {T : Type 0} {N : ℕ} {S : Type 0} (tags : T → List ℕ) (most n : ℕ) (how : How) (side : Side) (r : Ring T N S) (v : View T)
     (s : Seat (Option T) (View T)) (range : Positions) (m : Recent) → HasStarted tags most how n side r v s range → m.own ≡ own_at r.index side
-    → position_of r.shape.now.plan.geometry (mode_of r.shape.now.plan side) m.word ≡ range.start + range.count → m.left ≡ range.left → IsRecent m s.me.0
-recent_started tags most n how side r v s range m h own there left ring side' plan' own' at' =
+    → position_of r.shape.now.plan.geometry (mode_of r.shape.now.plan side) m.word ≡ range.start + range.count
+    → (mode_of r.shape.now.plan side ≡ Hts → m.word % range_of r.shape.now.plan.geometry ≡ 0) → m.left ≡ range.left → IsRecent m s.me.0
+recent_started tags most n how side r v s range m h own there whole left =
     let plan : RingPlan = r.shape.now.plan in
     let starts = h.starts in
     let known : slice_get s.me.0.plans r.index ≡ Some plan = told_ring s.me.0.plans r.fabric.now.plan.rings.items r.index plan h.seated.plans r.in_plan.0 in
-    let to = own_same r.index side ring side' (sym own ∙ own') in
-    let is_plan : plan ≡ plan' = same_plan (sym known ∙ (ap (slice_get s.me.0.plans) to.0 ∙ at')) in
-    let room : m.left ≤ room_by_look side plan.geometry.capacity (position_of plan.geometry (mode_of plan side) m.word) starts.tail =
-    subst (λ (z : ℕ × ℕ). z.0 ≤ room_by_look side plan.geometry.capacity z.1 starts.tail) (λ k. (sym left k, sym there k))
+    let now = asked_last r.index side starts.word starts.tail s.me.0 (ap (λ z. z.observed) starts.view ∙ ap (λ z. z.observed) starts.found.view) in
+    let room : m.left ≤ room_by_look side plan.geometry.capacity (position_of plan.geometry (mode_of plan side) m.word) (tail_in s.me.0.observed) =
+    subst (λ (z : ℕ × ℕ × ℕ). z.0 ≤ room_by_look side plan.geometry.capacity z.1 z.2) (λ k. (sym left k, sym there k, sym now.1 k))
     (rest_is side plan.geometry.capacity range.start range.count starts.tail range.left starts.rest) in
-    let now = asked_last r.index side starts.word starts.tail s.me.0 (ap (λ z. z.observed) starts.view ∙ ap (λ z. z.observed) starts.found.view) in (
-      subst (λ (z : ℕ × Side). AskedLast z.0 z.1 s.me.0) (λ k. (to.0 k, to.1 k)) now.0,
-      subst (λ (z : Side × RingPlan × ℕ). m.left ≤ room_by_look z.0 z.1.geometry.capacity (position_of z.1.geometry (mode_of z.1 z.0) m.word) z.2)
-          (λ k. (to.1 k, is_plan k, sym now.1 k)) room,
-    )
+    recent_at m s.me.0 r.index side plan own known now.0 room whole

@@ -1,9 +1,11 @@
 -- Reserving one position at once, without a look at the own word
-use Rattle.std.specs.Prelude.{◌≡◌, ℕ, ◌≤◌, ◌⊎◌, List, None, Some, Option, slice_get}
+use Rattle.std.specs.Prelude.{◌≡◌, ℕ, ◌%◌, ◌≤◌, ◌⊎◌, List, None, Some, Option, slice_get}
 use Rattle.atomic_table.specs.declared.shared.Seat.{Seat}
 use Rattle.geom.specs.declared.plan.How.TheVariants.{Bulk}
+use Rattle.geom.specs.declared.plan.Mode.TheVariants.{Hts}
 use Rattle.geom.specs.declared.plan.RingPlan.{RingPlan}
 use Rattle.geom.specs.declared.plan.Side.{Side}
+use Rattle.geom.specs.Extent.{range_of}
 use Rattle.geom.specs.Plan.{mode_of}
 use Rattle.ringcore_laws.specs.declared.protocol.Observed.{Observed}
 use Rattle.ringcore_laws.specs.History.{position_of, room_by_look}
@@ -37,11 +39,13 @@ module _ {T : Type 0} where
   AskedLast ring side v = v.observed
       ≡ Some record { ring = ring; side = side; looked_at = word_in v.observed; tail_seen = Some (tail_in v.observed) }
 
-  -- what a hand remembers of a side is so: it was there when it last asked for room, and that leaves as many positions
+  -- what a hand remembers of a side is so: it was there when it last asked for room, and that leaves as many positions;
+  -- the word shows no reservation
   abbrev pub IsRecent : Recent → View T → Type 0
   IsRecent r v = (ring : ℕ) (side : Side) (plan : RingPlan) → r.own ≡ own_at ring side → slice_get v.plans ring ≡ Some plan
       → AskedLast ring side v
       × (r.left ≤ room_by_look side plan.geometry.capacity (position_of plan.geometry (mode_of plan side) r.word) (tail_in v.observed))
+      × (mode_of plan side ≡ Hts → r.word % range_of plan.geometry ≡ 0)
 
   -- the same view, but for one more load
   abbrev pub IsLoaded : View T → View T → Type 0

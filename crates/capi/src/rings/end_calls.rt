@@ -1,8 +1,9 @@
 //! Puts and takes of one word by the ends of a hand.
-ghost use Rattle.std.specs.Prelude.{◌≡◌, [], ◌∷◌, length, Ok, Err, IfErr, IfNone, IfOk, IfSome};
+ghost use Rattle.std.specs.Prelude.{◌≡◌, [], ◌∷◌, length, true, false, Ok, Err, IfErr, IfNone, IfOk, IfSome};
 ghost use Rattle.geom.specs.declared.plan.How.TheVariants.{Burst};
 ghost use Rattle.geom.specs.declared.plan.Mode.TheVariants.{Hts};
 ghost use Rattle.geom.specs.declared.plan.Side.TheVariants.{Put, Take};
+ghost use Rattle.fabric.specs.InPlace.{Remembers, RemembersNone, placed_view};
 ghost use Rattle.fabric.specs.Places.{place_mode, place_ring};
 ghost use Rattle.fabric.specs.declared.hand.in_place.OpenSpan.TheVariants as open_span;
 ghost use Rattle.capi.specs.EndCalls.{EndPuts, EndTakes, PutsAlone, PutsHeld, PutsNext};
@@ -12,7 +13,7 @@ ghost use Rattle.capi.specs.MemberCalls.{OpensPut};
 use crate::rings::end::EndState;
 use crate::rings::fault::Fault;
 use crate::rings::holding::{hold_take, publish_next, release_take, withdraw_next};
-use crate::rings::member::Member;
+use crate::rings::member::{Member, WordPort};
 use crate::rings::span_calls::finish_put_of;
 use crate::rings::starting::{fault_of, room_in, start_put};
 use crate::rings::whole_calls::{put_one_at, take_one_at};
@@ -21,15 +22,41 @@ use fabric::{OpenSpan, Reserved};
 use geom::{How, Side};
 use std::slice::from_mut;
 
-/// A put by a whole call.
+/// Whether the next put by the hand's end would be tried at once.
 #[inline(always)]
-fn put_alone(member: &mut Member, word: Word64) -> Result<u32, Fault>
+pub fn is_put_recent(member: &Member) -> bool
+    ensures yes { result ≡ true → Remembers member.now.port.hand (place_ring member.now.ends.put.at) Put }
+    ensures no { result ≡ false → Remembers member.now.port.hand (place_ring member.now.ends.put.at) Put → ⊥ }
+{
+    let port = &member.port;
+    port.hand
+        .is_recent_at(&port.fabric, &member.ends.put.at, Side::Put)
+}
+
+/// Has a call that `looks` begin with a look at its side, whatever the hand remembers. Where `looks` is a constant, the
+/// code for a start at once isn't there.
+#[inline(always)]
+fn look_first(port: &mut WordPort, looks: bool)
+    ensures fabric { port.new.fabric ≡ port.old.fabric }
+    ensures span { port.new.hand.span ≡ port.old.hand.span }
+    ensures view { placed_view port.new.hand ≡ placed_view port.old.hand }
+    ensures first { looks ≡ true → RemembersNone port.new.hand }
+{
+    if looks {
+        port.hand.forget();
+    }
+}
+
+/// A put by a whole call. One that `looks` isn't tried at once.
+#[inline(always)]
+fn put_alone(member: &mut Member, word: Word64, looks: bool) -> Result<u32, Fault>
     ensures { PutsAlone (place_ring member.old.ends.put.at) word member.old member.new result }
 {
     match member.port.span() {
         OpenSpan::Idle => (),
         _ => return Err(Fault::Open),
     }
+    look_first(&mut member.port, looks);
     put_one_at(&mut member.port, &member.ends.put.at, word)
 }
 
@@ -128,7 +155,7 @@ pub fn end_put(member: &mut Member, word: Word64) -> Result<u32, Fault>
     ensures { EndPuts word member.old member.new result }
 {
     match member.ends.put.state {
-        EndState::Open => put_alone(member, word),
+        EndState::Open => put_alone(member, word, false),
         EndState::Holds(most) => put_held(member, most, word),
         EndState::Closed => Err(Fault::NotOpen),
     }
@@ -152,19 +179,30 @@ pub fn put_on_held(member: &mut Member, word: Word64) -> Option<Result<u32, Faul
 
 /// `end_put` of a word by a whole call. At `None` nothing was done.
 #[inline(always)]
-pub fn put_when_idle(member: &mut Member, word: Word64) -> Option<Result<u32, Fault>>
+pub fn put_when_open(member: &mut Member, word: Word64, looks: bool) -> Option<Result<u32, Fault>>
     ensures done { IfSome result (λ outcome. EndPuts word member.old member.new outcome) }
     ensures none { IfNone result (member.new ≡ member.old) }
 {
     match member.ends.put.state {
-        EndState::Open => Some(put_alone(member, word)),
+        EndState::Open => Some(put_alone(member, word, looks)),
         _ => None,
     }
 }
 
-/// A take by a whole call.
+/// Whether the next take by the hand's end would be tried at once.
 #[inline(always)]
-fn take_alone(member: &mut Member, words: &mut [Word64]) -> Result<u32, Fault>
+pub fn is_take_recent(member: &Member) -> bool
+    ensures yes { result ≡ true → Remembers member.now.port.hand (place_ring member.now.ends.take.at) Take }
+    ensures no { result ≡ false → Remembers member.now.port.hand (place_ring member.now.ends.take.at) Take → ⊥ }
+{
+    let port = &member.port;
+    port.hand
+        .is_recent_at(&port.fabric, &member.ends.take.at, Side::Take)
+}
+
+/// A take by a whole call. One that `looks` isn't tried at once.
+#[inline(always)]
+fn take_alone(member: &mut Member, words: &mut [Word64], looks: bool) -> Result<u32, Fault>
     requires one { length words.old ≡ 1 }
     ensures { TakesAlone (place_ring member.old.ends.take.at) words.old words.new member.old member.new result }
 {
@@ -172,6 +210,7 @@ fn take_alone(member: &mut Member, words: &mut [Word64]) -> Result<u32, Fault>
         OpenSpan::Idle => (),
         _ => return Err(Fault::Open),
     }
+    look_first(&mut member.port, looks);
     take_one_at(&mut member.port, &member.ends.take.at, words)
 }
 
@@ -255,7 +294,7 @@ fn take_by_end(member: &mut Member, words: &mut [Word64]) -> Result<u32, Fault>
     ensures { EndTakes words.old words.new member.old member.new result }
 {
     match member.ends.take.state {
-        EndState::Open => take_alone(member, words),
+        EndState::Open => take_alone(member, words, false),
         EndState::Holds(most) => take_held(member, most, words),
         EndState::Closed => Err(Fault::NotOpen),
     }
@@ -289,25 +328,33 @@ pub fn take_on_held(member: &mut Member, word: &mut Word64) -> Option<Result<u32
 
 /// `take_by_end` of a word by a whole call. At `None` nothing was done.
 #[inline(always)]
-fn take_by_call(member: &mut Member, words: &mut [Word64]) -> Option<Result<u32, Fault>>
+fn take_by_call(
+    member: &mut Member,
+    words: &mut [Word64],
+    looks: bool,
+) -> Option<Result<u32, Fault>>
     requires one { length words.old ≡ 1 }
     ensures done { IfSome result (λ outcome. EndTakes words.old words.new member.old member.new outcome) }
     ensures none { IfNone result ((member.new ≡ member.old) × (words.new ≡ words.old)) }
 {
     match member.ends.take.state {
-        EndState::Open => Some(take_alone(member, words)),
+        EndState::Open => Some(take_alone(member, words, looks)),
         _ => None,
     }
 }
 
 /// `end_take` of a word by a whole call. At `None` nothing was done.
 #[inline(always)]
-pub fn take_when_idle(member: &mut Member, word: &mut Word64) -> Option<Result<u32, Fault>>
+pub fn take_when_open(
+    member: &mut Member,
+    word: &mut Word64,
+    looks: bool,
+) -> Option<Result<u32, Fault>>
     ensures done { IfSome result
         (λ outcome. EndTakes (word.old ∷ []) (word.new ∷ []) member.old member.new outcome) }
     ensures none { IfNone result ((member.new ≡ member.old) × (word.new ≡ word.old)) }
 {
-    take_by_call(member, from_mut(word))
+    take_by_call(member, from_mut(word), looks)
 }
 
 /// `take_by_end` of a word.

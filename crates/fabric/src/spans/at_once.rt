@@ -1,7 +1,7 @@
 //! Reserving one position at once: by an exchange of an own word that isn't looked at, within the room that the hand
 //! saw when it was last on this side. It then needs neither of the two loads of a start, and doesn't touch the word
 //! that the other side changes.
-ghost use Rattle.std.specs.Prelude.{◌≡◌, ◌+◌, ◌%◌, ◌^◌, ◌<◌, ◌≤◌, Some, true, IfErr, IfNone, IfOk, IfSome};
+ghost use Rattle.std.specs.Prelude.{◌≡◌, ◌≢◌, ◌+◌, ◌%◌, ◌<◌, ◌≤◌, ◌⊎◌, true, false, IfErr, IfNone, IfOk, IfSome};
 ghost use Rattle.geom.specs.Extent.{range_of};
 ghost use Rattle.geom.specs.Plan.{mode_of};
 ghost use Rattle.geom.specs.declared.plan.How.TheVariants.{Bulk};
@@ -9,16 +9,19 @@ ghost use Rattle.geom.specs.declared.plan.Mode.TheVariants.{Hts};
 ghost use Rattle.ringcore_laws.specs.History.{position_of};
 ghost use Rattle.fabric_laws.specs.declared.view.View.{View};
 ghost use Rattle.fabric.specs.AtOnce.{HasStartedOne, IsLoaded, IsRecent};
+ghost use Rattle.fabric.specs.InPlace.{Remembers, RemembersNone};
 ghost use Rattle.fabric.specs.OpenSpans.{HasStarted, IsIdle};
+ghost use Rattle.fabric.specs.Places.{IsPlaceOf, place_ring};
 ghost use Rattle.fabric.specs.Refused.{IsRefused};
 ghost use Rattle.fabric.specs.Rings.{IsSeated};
 ghost use Rattle.fabric_laws.specs.Words.{own_at};
-ghost use Rattle.fabric.specs.declared.hand.recent.Recent.{Recent as Memory};
 
+use crate::fabric::Fabric;
+use crate::hand::in_place::HandInPlace;
 use crate::hand::recent::Recent;
 use crate::hand::{Share, StartFault};
+use crate::place::Place;
 use crate::ring::{Positions, Ring};
-use crate::spans::start::is_busy;
 use crate::stored::Stored;
 use crate::words::offsets::own_word;
 use burst::Tagged;
@@ -29,8 +32,10 @@ impl<T: Tagged, const N: usize, S: Stored<T>> Ring<'_, T, N, S> {
     #[inline(always)]
     fn word_from(&self, side: Side, position: u64) -> u64
         requires { position ≤ self.now.shape.now.plan.geometry.last }
-        ensures { position_of self.now.shape.now.plan.geometry (mode_of self.now.shape.now.plan side) result
+        ensures at { position_of self.now.shape.now.plan.geometry (mode_of self.now.shape.now.plan side) result
             ≡ position }
+        ensures whole { mode_of self.now.shape.now.plan side ≡ Hts
+            → result % range_of self.now.shape.now.plan.geometry ≡ 0 }
     {
         match self.mode(side) {
             Mode::Multi => position,
@@ -45,6 +50,8 @@ impl<T: Tagged, const N: usize, S: Stored<T>> Ring<'_, T, N, S> {
         ensures own { result.own ≡ own_at self.now.index side }
         ensures word { position_of self.now.shape.now.plan.geometry (mode_of self.now.shape.now.plan side) result.word
             ≡ range.start + range.count }
+        ensures whole { mode_of self.now.shape.now.plan side ≡ Hts
+            → result.word % range_of self.now.shape.now.plan.geometry ≡ 0 }
         ensures left { result.left ≡ range.left }
     {
         Recent {
@@ -54,29 +61,13 @@ impl<T: Tagged, const N: usize, S: Stored<T>> Ring<'_, T, N, S> {
         }
     }
 
-    /// Whether a position may be reserved from this word, as far as the hand remembers: it returns its number.
+    /// Whether a hand remembers something of a side.
     #[inline(always)]
-    fn remembered(&self, side: Side, recent: Recent) -> Option<u64>
-        ensures own { IfSome result (λ _. recent.own ≡ own_at self.now.index side) }
-        ensures whole { IfSome result (λ _. mode_of self.now.shape.now.plan side ≡ Hts
-            → recent.word % range_of self.now.shape.now.plan.geometry ≡ 0) }
-        ensures left { IfSome result (λ _. 0 < recent.left) }
-        ensures start { IfSome result (λ start. (start < self.now.shape.now.plan.geometry.last) × (start
-            ≡ position_of self.now.shape.now.plan.geometry (mode_of self.now.shape.now.plan side) recent.word)) }
-        ensures small { IfSome result (λ _. self.now.shape.now.plan.geometry.last < 2 ^ 63) }
+    pub(crate) fn is_recent(&self, side: Side, recent: Recent) -> bool
+        ensures yes { result ≡ true → (0 < recent.left) × (recent.own ≡ own_at self.now.index side) }
+        ensures no { result ≡ false → (recent.left ≡ 0) ⊎ (recent.own ≢ own_at self.now.index side) }
     {
-        if recent.left == 0 || recent.own != own_word(self.index, side) {
-            return None;
-        }
-        let geometry = self.shape.plan.geometry;
-        if is_busy(geometry, self.mode(side), recent.word) {
-            return None;
-        }
-        let start = self.shape.position(side, recent.word);
-        if start >= geometry.last() {
-            return None;
-        }
-        Some(start)
+        recent.left != 0 && recent.own == own_word(self.index, side)
     }
 
     /// Opens a span of one position by one step, if what the hand remembers of the side leaves room for it, and nobody
@@ -88,43 +79,39 @@ impl<T: Tagged, const N: usize, S: Stored<T>> Ring<'_, T, N, S> {
         share: &mut Share<T, S>,
         side: Side,
         most: usize,
-        recent: Recent,
-    ) -> Option<(Positions, Recent)>
+        recent: &mut Recent,
+    ) -> Option<Positions>
         requires seat { IsSeated self.now share.old.seat }
         requires idle { IsIdle share.old.seat }
         requires counts { mode_of self.now.shape.now.plan side ≡ Hts
             → most < range_of self.now.shape.now.plan.geometry }
-        requires recent { IsRecent recent share.old.seat.me.0 }
+        requires recent { 0 < recent.old.left → IsRecent recent.old share.old.seat.me.0 }
         ensures started { IfSome result
-            (λ o. HasStartedOne T.numbers most side self.now share.old.seat.me.0 share.new.seat o.0) }
-        ensures recent { IfSome result (λ o. IsRecent o.1 share.new.seat.me.0) }
+            (λ range. HasStartedOne T.numbers most side self.now share.old.seat.me.0 share.new.seat range) }
+        ensures recent { 0 < recent.new.left → IsRecent recent.new share.new.seat.me.0 }
         ensures none { IfNone result (IsSeated self.now share.new.seat × IsIdle share.new.seat
             × IsLoaded share.old.seat.me.0 share.new.seat.me.0) }
     {
-        if self.is_bad_count(&share.owned, side, 1, most) {
+        if !self.is_recent(side, *recent) || self.is_bad_count(&share.owned, side, 1, most) {
             return None;
         }
-        let start = match self.remembered(side, recent) {
-            Some(start) => start,
-            None => return None,
-        };
-        let found = self.reserve_at_once(&mut share.seat, side, recent.word);
-        if found != recent.word {
+        let word = recent.word;
+        let start = self.shape.position(side, word);
+        if start >= self.shape.plan.geometry.last() {
             return None;
         }
-        let next = Recent {
-            own: recent.own,
-            word: self.word_from(side, start + 1),
-            left: recent.left - 1,
-        };
-        Some((
-            Positions {
-                start,
-                count: 1,
-                left: 0,
-            },
-            next,
-        ))
+        let found = self.reserve_at_once(&mut share.seat, side, word);
+        if found != word {
+            recent.left = 0;
+            return None;
+        }
+        recent.word = self.word_from(side, start + 1);
+        recent.left -= 1;
+        Some(Positions {
+            start,
+            count: 1,
+            left: 0,
+        })
     }
 
     /// Opens a span of one position: at once, if what the hand remembers allows it, or else as `open_span` does. A lost
@@ -135,37 +122,55 @@ impl<T: Tagged, const N: usize, S: Stored<T>> Ring<'_, T, N, S> {
         share: &mut Share<T, S>,
         side: Side,
         most: usize,
-        recent: &mut Option<Recent>,
+        recent: &mut Recent,
     ) -> Result<Positions, StartFault>
         requires seat { IsSeated self.now share.old.seat }
         requires idle { IsIdle share.old.seat }
         requires counts { mode_of self.now.shape.now.plan side ≡ Hts
             → most < range_of self.now.shape.now.plan.geometry }
-        requires recent { (m : Memory) → recent.old ≡ Some m → IsRecent m share.old.seat.me.0 }
+        requires recent { 0 < recent.old.left → IsRecent recent.old share.old.seat.me.0 }
         ensures started { IfOk result (λ range. (v : View T) × IsLoaded share.old.seat.me.0 v
             × HasStartedOne T.numbers most side self.now v share.new.seat range) }
-        ensures recent { (m : Memory) → recent.new ≡ Some m → IsRecent m share.new.seat.me.0 }
+        ensures recent { 0 < recent.new.left → IsRecent recent.new share.new.seat.me.0 }
         ensures refused { IfErr result (λ e. IsSeated self.now share.new.seat × IsIdle share.new.seat
             × ((v : View T) × IsLoaded share.old.seat.me.0 v × IsRefused T.numbers most Bulk 1 self.now.index side
             self.now.shape.now.plan v share.new.seat.me.0 e)) }
     {
-        let before = *recent;
-        *recent = None;
-        match before {
-            Some(known) => match self.open_at_once(share, side, most, known) {
-                Some((range, next)) => {
-                    *recent = Some(next);
-                    return Ok(range);
-                }
-                None => (),
-            },
+        match self.open_at_once(share, side, most, recent) {
+            Some(range) => return Ok(range),
             None => (),
         }
+        recent.left = 0;
         let range = match self.open_span(share, side, 1, most, How::Bulk) {
             Ok(range) => range,
             Err(fault) => return Err(fault),
         };
-        *recent = Some(self.after(side, range));
+        *recent = self.after(side, range);
         Ok(range)
+    }
+}
+
+impl<T: Tagged, const N: usize, S: Stored<T>> HandInPlace<T, N, S> {
+    /// Forgets what the last put or take left, so that the next one begins with a look. No step on a word.
+    #[inline(always)]
+    pub fn forget(&mut self)
+        ensures same { self.new.share ≡ self.old.share }
+        ensures span { self.new.span ≡ self.old.span }
+        ensures none { RemembersNone self.new }
+    {
+        self.recent.left = 0;
+    }
+
+    /// Whether the start of a put, or take, of one item on a ring would be tried at once. Requires: the place is one of
+    /// the fabric.
+    #[inline(always)]
+    pub fn is_recent_at(&self, fabric: &Fabric<T, N, S>, place: &Place, side: Side) -> bool
+        requires place { IsPlaceOf fabric.now place.now }
+        ensures yes { result ≡ true → Remembers self.now (place_ring place.now) side }
+        ensures no { result ≡ false → Remembers self.now (place_ring place.now) side → ⊥ }
+    {
+        fabric
+            .at(place, side, place.known(side))
+            .is_recent(side, self.recent)
     }
 }

@@ -82,7 +82,7 @@ impl<T: Tagged, const N: usize, S: Stored<T>> HandInPlace<T, N, S> {
         ensures found { OnRing fabric.now ring
             (λ plan. CountsQueued T.numbers ring plan (placed_view self.old) result) }
     {
-        self.recent = None;
+        self.recent.left = 0;
         fabric.ring(ring).count(&mut self.share.seat)
     }
 }

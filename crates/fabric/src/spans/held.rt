@@ -89,7 +89,7 @@ impl<T: Tagged, const N: usize, S: Stored<T>> HandInPlace<T, N, S> {
         ensures opened { IfOk result
             (λ r. (placed_view self.new).party ≡ with_open (placed_view self.old).party (span_at Take r)) }
     {
-        self.recent = None;
+        self.recent.left = 0;
         let range = match fabric
             .ring(ring)
             .open_span(&mut self.share, Side::Take, n, N, how)
@@ -160,7 +160,7 @@ impl<T: Tagged, const N: usize, S: Stored<T>> HandInPlace<T, N, S> {
         ensures apart { AreDistinct (flat_map T.numbers (take k (placed_view self.old).shown)) }
         ensures beside { I.beside into.old into.new }
     {
-        self.recent = None;
+        self.recent.left = 0;
         let target = fabric.ring(reserved.ring);
         target.release_take(&mut self.share, reserved.range, k, into);
         self.span = OpenSpan::Idle;

@@ -52,7 +52,7 @@ impl<T: Tagged, const N: usize, S: Stored<T>> HandInPlace<T, N, S> {
         ensures opened { IfOk result
             (λ r. (placed_view self.new).party ≡ with_open (placed_view self.old).party (span_at Put r)) }
     {
-        self.recent = None;
+        self.recent.left = 0;
         let range = match fabric
             .ring(ring)
             .open_span(&mut self.share, Side::Put, n, N, how)
@@ -100,7 +100,7 @@ impl<T: Word, const N: usize, S: Stored<T>> HandInPlace<T, N, S> {
         ensures opened { IfOk result
             (λ r. (placed_view self.new).party ≡ with_open (placed_view self.old).party (span_at Take r)) }
     {
-        self.recent = None;
+        self.recent.left = 0;
         let mut front = Front {
             words: into,
             count: 0,
@@ -146,7 +146,7 @@ impl<T: Tagged, const N: usize, S: Stored<T>> HandInPlace<T, N, S> {
         ensures owned { IfOk result
             (λ _. HoldsLess T.numbers (placed_view self.old) (I.items items.old) (placed_view self.new)) }
     {
-        self.recent = None;
+        self.recent.left = 0;
         let target = fabric.ring(reserved.ring);
         match target.settle_put(&mut self.share, reserved.range, items) {
             Ok(()) => {
@@ -188,7 +188,7 @@ impl<T: Tagged, const N: usize, S: Stored<T>> HandInPlace<T, N, S> {
         ensures owned { IfOk result
             (λ _. HoldsMore T.numbers (placed_view self.old) (take k (I.items items.old)) (placed_view self.new)) }
     {
-        self.recent = None;
+        self.recent.left = 0;
         let target = fabric.ring(reserved.ring);
         match target.settle_take(&mut self.share, reserved.range, k, items) {
             Ok(()) => {
@@ -218,7 +218,7 @@ impl<T: Tagged, const N: usize, S: Stored<T>> HandInPlace<T, N, S> {
             (λ plan. IsUnsettled T.numbers plan (span_at Take reserved) reserved.range.count []
             (placed_view self.old) (placed_view self.new) e)) }
     {
-        self.recent = None;
+        self.recent.left = 0;
         let target = fabric.ring(reserved.ring);
         match target.settle_all_taken(&mut self.share, reserved.range) {
             Ok(()) => {

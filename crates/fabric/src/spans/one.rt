@@ -57,7 +57,7 @@ impl<T: Tagged, const N: usize, S: Stored<T>> HandInPlace<T, N, S> {
         match target.settle_put_first(&mut self.share, range, range.count, items) {
             Ok(()) => Ok(reserved),
             Err(fault) => {
-                self.recent = None;
+                self.recent.left = 0;
                 self.span = OpenSpan::Put(reserved);
                 Err(WholeFault::Settle(reserved, fault))
             }
@@ -118,7 +118,7 @@ impl<T: Word, const N: usize, S: Stored<T>> HandInPlace<T, N, S> {
         ) {
             Ok(()) => Ok(reserved),
             Err(fault) => {
-                self.recent = None;
+                self.recent.left = 0;
                 self.span = OpenSpan::Take(reserved);
                 Err(WholeFault::Settle(reserved, fault))
             }

@@ -54,7 +54,7 @@ impl<T: Tagged, const N: usize, S: Stored<T>> HandInPlace<T, N, S> {
             (place_ring place.now) (placed_view self.old) (I.items items.old) self.new.span (placed_view self.new) e
             × (I.items items.new ≡ I.items items.old)) }
     {
-        self.recent = None;
+        self.recent.left = 0;
         let target = fabric.at(place, Side::Put, known);
         let range = match target.open_span(&mut self.share, Side::Put, items.len(), most, how) {
             Ok(range) => range,
@@ -103,7 +103,7 @@ impl<T: Tagged, const N: usize, S: Stored<T>> HandInPlace<T, N, S> {
         ensures owned { IfOk result
             (λ _. HoldsLess T.numbers (placed_view self.old) (I.items items.old) (placed_view self.new)) }
     {
-        self.recent = None;
+        self.recent.left = 0;
         match fabric
             .at(place, Side::Put, known)
             .advance_put(&mut self.share, reserved.range, items)
@@ -149,7 +149,7 @@ impl<T: Tagged, const N: usize, S: Stored<T>> HandInPlace<T, N, S> {
         ensures apart { AreDistinct (flat_map T.numbers (take k (placed_view self.old).shown)) }
         ensures beside { I.beside into.old into.new }
     {
-        self.recent = None;
+        self.recent.left = 0;
         let known = place.known(Side::Take);
         let range = fabric
             .at(place, Side::Take, known)
@@ -192,7 +192,7 @@ impl<T: Word, const N: usize, S: Stored<T>> HandInPlace<T, N, S> {
         ensures refused { IfErr result (λ e. RefusesTake T.numbers fabric.now most how (length into.old)
             (place_ring place.now) (placed_view self.old) into.old into.new self.new.span (placed_view self.new) e) }
     {
-        self.recent = None;
+        self.recent.left = 0;
         let target = fabric.at(place, Side::Take, known);
         let n = into.len();
         let mut front = Front {

@@ -12,9 +12,9 @@ reserve_at_once-found-requires g c =
     let r = c.args.self.now in
     let share = c.args.share.now in
     let plan = r.shape.now.plan in
-    let in_mind = c.in-Some.ensures in
     let known = told_ring _ _ r.index plan c.requires.seat.plans r.in_plan.0 in
-    let old = c.requires.recent r.index c.args.side plan in_mind.own known in
+    let yes = c.is_recent.ensures.yes c.if-not-is_recent.false in
+    let old = c.requires.recent yes.0 r.index c.args.side plan yes.1 known in
     let may = may_start tags c.args.most 1 c.args.side share.seat.me.0 share.owned plan share.row (c.is_bad_count.ensures.good c.if-is_bad_count.false) in (
       omega arith,
       (
@@ -22,8 +22,8 @@ reserve_at_once-found-requires g c =
         (
           c.requires.idle.1,
           (
-            (tail_in share.seat.me.0.observed, asked_of r.index c.args.side share.seat.me.0 old.0, omega (arith, old.1, in_mind.left)),
-            (in_mind.whole, (omega (arith, in_mind.start.0, in_mind.start.1), ((λ hts. omega (arith, c.requires.counts hts, may.1)), may.2))),
+            (tail_in share.seat.me.0.observed, asked_of r.index c.args.side share.seat.me.0 old.0, omega (arith, old.1, yes.0)),
+            (old.2, (omega (arith, c.position-start.ensures, c.if-start-last.false), ((λ hts. omega (arith, c.requires.counts hts, may.1)), may.2))),
           ),
         ),
       ),
@@ -36,7 +36,7 @@ invariant_of-share g c =
     let share = c.args.share.now in
     let new = c.reserve_at_once-found.new.seat in
     let found = c.reserve_at_once-found.ensures in
-    let on = goes_on tags r c.args.side c.args.recent.word 0 (own_at r.index c.args.side) share.seat new c.requires.seat refl found.seat
+    let on = goes_on tags r c.args.side c.args.recent.now.word 0 (own_at r.index c.args.side) share.seat new c.requires.seat refl found.seat
     c.reserve_at_once-found.result found.won found.lost in
     record {
       counted = share.counted ∙ sym on.parts;
@@ -51,20 +51,22 @@ returns-clause-started g c =
     let r = c.args.self.now in
     let share = c.args.share.now in
     let plan = r.shape.now.plan in
-    let in_mind = c.in-Some.ensures in
     let known = told_ring _ _ r.index plan c.requires.seat.plans r.in_plan.0 in
-    let old = c.requires.recent r.index c.args.side plan in_mind.own known in
+    let yes = c.is_recent.ensures.yes c.if-not-is_recent.false in
+    let old = c.requires.recent yes.0 r.index c.args.side plan yes.1 known in
     let may = may_start tags c.args.most 1 c.args.side share.seat.me.0 share.owned plan share.row (c.is_bad_count.ensures.good c.if-is_bad_count.false) in
-    started_one tags r c.args.side c.args.recent.word 0 (own_at r.index c.args.side) share.seat c.reserve_at_once-found.new.seat c.requires.seat refl
-    c.reserve_at_once-found.ensures.seat (c.reserve_at_once-found.ensures.won c.if-found-recent.false) c.args.most (tail_in share.seat.me.0.observed)
-    (record { start = c.in-Some.start; count = 1; left = 0; last = _ }) in_mind.start.1 refl c.requires.idle.0 (asked_of r.index c.args.side share.seat.me.0 old.0)
-    (omega (arith, old.1, in_mind.left)) (omega (arith, in_mind.start.0, in_mind.start.1)) may
+    started_one tags r c.args.side c.args.recent.now.word 0 (own_at r.index c.args.side) share.seat c.reserve_at_once-found.new.seat c.requires.seat refl
+    c.reserve_at_once-found.ensures.seat (c.reserve_at_once-found.ensures.won c.if-found-word.false) c.args.most (tail_in share.seat.me.0.observed)
+    (record { start = c.position-start.result; count = 1; left = 0; last = _ }) c.position-start.ensures refl c.requires.idle.0
+    (asked_of r.index c.args.side share.seat.me.0 old.0) (omega (arith, old.1, yes.0)) (omega (arith, c.position-start.ensures, c.if-start-last.false)) may
 
 pub returns-clause-recent : goal.returns-clause-recent
-returns-clause-recent g c =
+returns-clause-recent g c _ =
     let r = c.args.self.now in
-    let in_mind = c.in-Some.ensures in
-    recent_on g.T.Tagged.numbers r c.args.side c.args.recent.word 0 (own_at r.index c.args.side) c.args.share.now.seat c.reserve_at_once-found.new.seat
-    c.requires.seat refl c.reserve_at_once-found.ensures.seat (c.reserve_at_once-found.ensures.won c.if-found-recent.false) c.args.recent
-    (record { own = c.args.recent.own; word = c.word_from.result; left = c.args.recent.left - 1 })
-    in_mind.own refl refl (c.word_from.ensures ∙ ap (λ n. n + 1) in_mind.start.1) refl in_mind.left c.requires.recent
+    let recent = c.args.recent.now in
+    let yes = c.is_recent.ensures.yes c.if-not-is_recent.false in
+    recent_on g.T.Tagged.numbers r c.args.side recent.word 0 (own_at r.index c.args.side) c.args.share.now.seat c.reserve_at_once-found.new.seat
+    c.requires.seat refl c.reserve_at_once-found.ensures.seat (c.reserve_at_once-found.ensures.won c.if-found-word.false) recent
+    (record { own = recent.own; word = c.word_from-recent.result; left = recent.left - 1 })
+    yes.1 refl refl (c.word_from-recent.ensures.at ∙ ap (λ n. n + 1) c.position-start.ensures) c.word_from-recent.ensures.whole refl yes.0
+    (c.requires.recent yes.0)

@@ -26,8 +26,8 @@ invariant_of-self-in-Ok-settle_put_first g c =
       take = λ q is. absurd (let u : open_span.Idle ≡ open_span.Take q = sym was ∙ is in cc);
       held = λ q is. absurd (let u : open_span.Idle ≡ open_span.Held q = sym was ∙ is in cc);
       hts = λ q is. absurd (let u : open_span.Idle ≡ open_span.Held q = sym was ∙ is in cc);
-      so = λ m is. recent_settled m c.open_one.new.share.seat.me.0 c.settle_put_first.new.share.seat.me.0 c.at-target.result.index c.in-Ok.range.count Put
-          c.in-Ok.range.start _ done.1 (c.in-Ok.ensures.recent m is);
+      so = λ some. recent_settled c.open_one.new.recent c.open_one.new.share.seat.me.0 c.settle_put_first.new.share.seat.me.0 c.at-target.result.index
+          c.in-Ok.range.count Put c.in-Ok.range.start _ done.1 (c.in-Ok.ensures.recent some);
     }
 
 pub invariant_of-self-in-Err-settle_put_first : goal.invariant_of-self-in-Err-settle_put_first
@@ -59,7 +59,7 @@ invariant_of-self-in-Err-settle_put_first g c =
       take = λ q is. absurd (let u : open_span.Put here ≡ open_span.Take q = is in cc);
       held = λ q is. absurd (let u : open_span.Put here ≡ open_span.Held q = is in cc);
       hts = λ q is. absurd (let u : open_span.Put here ≡ open_span.Held q = is in cc);
-      so = λ m is. absurd (let u : None ≡ Some m = is in cc);
+      so = λ some. absurd (let z : 0 < 0 = some in omega (arith, z));
     }
 
 pub returns-in-Err-settle_put_first-clause-refused : goal.returns-in-Err-settle_put_first-clause-refused

@@ -44,7 +44,7 @@ invariant_of-self-in-Err-settle_take g c =
           };
       held = λ q is. absurd (let u : open_span.Take here ≡ open_span.Held q = is in cc);
       hts = λ q is. absurd (let u : open_span.Take here ≡ open_span.Held q = is in cc);
-      so = λ m is. absurd (let u : None ≡ Some m = is in cc);
+      so = λ some. absurd (let z : 0 < 0 = some in omega (arith, z));
     }
 
 pub open_take-requires : goal.open_take-requires

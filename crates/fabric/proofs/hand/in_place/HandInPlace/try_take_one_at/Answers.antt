@@ -23,8 +23,9 @@ invariant_of-self-in-Ok-settle_take g c =
       take = λ q is. absurd (let u : open_span.Idle ≡ open_span.Take q = sym was ∙ is in cc);
       held = λ q is. absurd (let u : open_span.Idle ≡ open_span.Held q = sym was ∙ is in cc);
       hts = λ q is. absurd (let u : open_span.Idle ≡ open_span.Held q = sym was ∙ is in cc);
-      so = λ m is. recent_settled m c.move_out.new.share.seat.me.0 c.settle_take.new.share.seat.me.0 c.at-target.result.index c.in-Ok.range.count Take c.in-Ok.range.start _ done.1
-          (subst (IsRecent m) (sym c.move_out.ensures.seat.1) (c.in-Ok.ensures.recent m is));
+      so = λ some. recent_settled c.open_one.new.recent c.move_out.new.share.seat.me.0 c.settle_take.new.share.seat.me.0 c.at-target.result.index
+          c.in-Ok.range.count Take c.in-Ok.range.start _ done.1
+          (subst (IsRecent c.open_one.new.recent) (sym c.move_out.ensures.seat.1) (c.in-Ok.ensures.recent some));
     }
 
 pub invariant_of-self-in-Err-settle_take : goal.invariant_of-self-in-Err-settle_take
@@ -58,5 +59,5 @@ invariant_of-self-in-Err-settle_take g c =
           };
       held = λ q is. absurd (let u : open_span.Take here ≡ open_span.Held q = is in cc);
       hts = λ q is. absurd (let u : open_span.Take here ≡ open_span.Held q = is in cc);
-      so = λ m is. absurd (let u : None ≡ Some m = is in cc);
+      so = λ some. absurd (let z : 0 < 0 = some in omega (arith, z));
     }
