@@ -142,11 +142,16 @@ static void threads(enum mode mode, unsigned pairs, unsigned n, unsigned long ca
 	report("rate", (double)pairs * n * calls * 1e3 / took, "Mitem/s");
 }
 
+static enum mode mode_of(const char *name)
+{
+	return !strcmp(name, "hts") ? HTS : !strcmp(name, "single") ? SINGLE : MULTI;
+}
+
 int main(int argc, char **argv)
 {
 	if (argc == 2 && !strcmp(argv[1], "alone")) alone();
 	else if (argc == 6 && !strcmp(argv[1], "threads") && atoi(argv[3]) <= 4 && atoi(argv[4]) <= MOST)
-		threads(!strcmp(argv[2], "hts") ? HTS : MULTI, atoi(argv[3]), atoi(argv[4]), strtoul(argv[5], NULL, 10));
+		threads(mode_of(argv[2]), atoi(argv[3]), atoi(argv[4]), strtoul(argv[5], NULL, 10));
 	else return 2;
 	return 0;
 }

@@ -22,9 +22,9 @@ pub struct Route {
 }
 
 /// The writer of a forwarding table: routes to the numbers of next hops, the next hops, and the ports. Readers see no
-/// change before [`publish`](Fib::publish), and then see all changes at once, as a new version. No call waits: one that
-/// can't be made yet, for a reader of the version before or for memory of the second copy, is refused as `Pending` and
-/// changes nothing.
+/// change before [`publish`](Fib::publish), and then see all changes at once, as a new version. No call waits: while a
+/// reader still uses the version before, or the second copy gets no memory, a call is refused as `Pending` and changes
+/// nothing.
 pub struct Fib(NonNull<ffi::Fib>, PhantomData<*mut u8>);
 
 // SAFETY: a handle may go to another thread. It isn't `Sync`: no two calls overlap.

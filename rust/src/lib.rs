@@ -34,6 +34,10 @@
 //! [`Error::NoRoom`] forever. What a thread did before it put a word, or put or sent a number, happens before another
 //! thread takes, gets or receives it.
 //!
+//! [`Error::Pending`] of a ring isn't a refusal: the call has its positions, and has to be finished, by `finish`,
+//! `finish_put` or `finish_take`. So it mustn't be passed on by `?`. It can't occur with one producer and one consumer,
+//! as in the examples here, nor on head/tail-sync sides.
+//!
 //! The crate is `no_std` and needs `alloc`. With the feature `std`, which is on by default, iterators that wait let
 //! other threads run; without it they spin. The library below it is for Linux on x86-64 (`x86-64-v2`), needs libc, and
 //! takes the memory of rings, pools and tables from that, not from Rust's global allocator.

@@ -10,7 +10,8 @@ use core::fmt;
 /// is owned by one side at a time: a put moves it in, a take moves it out. The last handle drops the values that are
 /// left on the ring; if the drop of one panics, the values after it leak.
 ///
-/// Both sides are head/tail-sync, so no method returns `Pending`: a call is done, or nothing is changed.
+/// Both sides are head/tail-sync, so no method returns `Pending`: a call is done, or nothing is changed. A queue takes
+/// 2^52 - 1 values, 14 years at ten million a second, and then returns `Worn`.
 ///
 /// ```
 /// use hokhtura::{Error, Queue};

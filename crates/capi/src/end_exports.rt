@@ -72,7 +72,8 @@ macro_rules! of_hand {
     }};
 }
 
-/// Whether the next put by the hand's end would be tried at once. Either code is right for it: this chooses the shorter.
+/// Whether the next put by the hand's end would be tried at once. Both functions below are right for it: this chooses
+/// the one with fewer steps.
 #[inline(always)]
 fn puts_at_once(alloc: Global, h: &mut Handle) -> bool
     ensures { h.new.value ≡ h.old.value }
@@ -144,8 +145,8 @@ fn take_rarely(alloc: Global, h: &mut Handle, word: &mut Word64) -> i64
     with_object!(alloc, h, Hand(member) => end_take(member, word))
 }
 
-/// A put of a word that begins with a look, on a side that isn't held. Each kind of put is a function of its own, so that
-/// none saves registers that only another one uses.
+/// A put of a word that begins with a look, on a side that isn't held. Each kind of put is a function of its own, so
+/// that none saves registers that only another one uses.
 #[inline(never)]
 fn put_by_look(alloc: Global, h: &mut Handle, bits: u64) -> i64
     ensures { Answers result (AtHand h.old.value h.new.value (EndPuts (word_of bits))) }
