@@ -8,9 +8,9 @@ use core::ptr::{null_mut, NonNull};
 /// How calls on one side of a ring share it.
 #[derive(Clone, Copy, Debug, PartialEq, Eq, Hash)]
 pub enum Mode {
-    /// Any number of threads.
+    /// Any number of threads. A ring with two such sides takes 2^63 - 1 words.
     Multi,
-    /// Head/tail-sync: one call at a time.
+    /// Head/tail-sync: one call at a time. A ring with such a side takes 2^52 - 1 words.
     Hts,
 }
 
