@@ -180,8 +180,8 @@ impl<T: Word> Producer<T> {
         &mut self.hand
     }
 
-    /// Puts a word: the fastest way to another thread, where nobody else puts. After `Pending`, call `finish`;
-    /// `try_put_one` is finished by `finish_put`. It doesn't say how much room is left.
+    /// Puts a word, between threads in less time than `try_put_one` if nobody else puts. After `Pending`, call `finish`
+    /// (after that of `try_put_one`, `finish_put`). It doesn't say how much room is left.
     ///
     /// ```
     /// # fn main() -> Result<(), hokhtura::Error> {
@@ -221,8 +221,8 @@ impl<T: Word> Consumer<T> {
         &mut self.hand
     }
 
-    /// Takes the oldest word: the fastest way between threads, where nobody else takes. After `Pending`, call `finish`;
-    /// `try_take_one` is finished by `finish_take`. It doesn't say how many are left.
+    /// Takes the oldest word, between threads in less time than `try_take_one` if nobody else takes. After `Pending`,
+    /// call `finish` (after that of `try_take_one`, `finish_take`). It doesn't say how many are left.
     ///
     /// # Errors
     ///
