@@ -70,28 +70,32 @@ impl<T: Tagged, const N: usize, S: Stored<T>> Ring<'_, T, N, S> {
         self.advance(seat, Side::Put, range.start, range.count, k);
     }
 
-    /// Tries once to publish items at the first positions of a put span of an HTS side, and returns the other
-    /// positions, which stay open. At a refusal the span is as it was.
+    /// Tries once to publish items at the first positions of a put span of an HTS side. The other positions stay open,
+    /// and are the range afterwards. It is changed before the word is stored, since that takes less time than after it.
+    /// At a refusal the span is as it was.
     #[inline(always)]
     pub(crate) fn advance_put<I: PutItems<T>>(
         &self,
         share: &mut Share<T, S>,
-        range: Positions,
+        range: &mut Positions,
         items: &mut I,
-    ) -> Result<Positions, SettleFault>
+    ) -> Result<(), SettleFault>
         requires seat { IsSeated self.now share.old.seat }
         requires hts { self.now.shape.now.plan.put ≡ Hts }
-        requires span { share.old.seat.me.0.party.span ≡ Some (span_of self.now.index Put range.start range.count) }
-        requires slots { share.old.seat.me.1 ≡ slots_of self.now range.start (replicate range.count None) }
+        requires span { share.old.seat.me.0.party.span
+            ≡ Some (span_of self.now.index Put range.old.start range.old.count) }
+        requires slots { share.old.seat.me.1 ≡ slots_of self.now range.old.start (replicate range.old.count None) }
         ensures seat { IsSameSeat share.old.seat share.new.seat }
-        ensures done { IfOk result (λ rest. (length (I.items items.old) < range.count)
-            × IsRest (length (I.items items.old)) range rest
-            × (share.new.seat.me.0 ≡ advanced (span_of self.now.index Put range.start range.count) (I.items items.old)
-            share.old.seat.me.0) × (share.new.seat.me.1 ≡ slots_of self.now rest.start (replicate rest.count None))
+        ensures done { IfOk result (λ _. (length (I.items items.old) < range.old.count)
+            × IsRest (length (I.items items.old)) range.old range.new
+            × (share.new.seat.me.0 ≡ advanced (span_of self.now.index Put range.old.start range.old.count)
+            (I.items items.old) share.old.seat.me.0)
+            × (share.new.seat.me.1 ≡ slots_of self.now range.new.start (replicate range.new.count None))
             × (I.items items.new ≡ I.left (I.items items.old) 0)) }
-        ensures refused { IfErr result (λ e. (share.new.seat.me.1 ≡ share.old.seat.me.1)
+        ensures refused { IfErr result (λ e. (range.new ≡ range.old) × (share.new.seat.me.1 ≡ share.old.seat.me.1)
             × (I.items items.new ≡ I.items items.old) × RefusesAdvance T.numbers self.now.shape.now.plan
-            (length (I.items items.old)) range.count (I.items items.old) share.old.seat.me.0 share.new.seat.me.0 e) }
+            (length (I.items items.old)) range.old.count (I.items items.old) share.old.seat.me.0 share.new.seat.me.0
+            e) }
         ensures owned { IfOk result
             (λ _. HoldsLess T.numbers share.old.seat.me.0 (I.items items.old) share.new.seat.me.0) }
     {
@@ -102,8 +106,10 @@ impl<T: Tagged, const N: usize, S: Stored<T>> Ring<'_, T, N, S> {
         if !self.disown(items, &mut share.owned) {
             return Err(SettleFault::NotYours);
         }
-        self.publish_first(&mut share.seat, range, items);
-        Ok(range.after(k))
+        let whole = *range;
+        *range = whole.after(k);
+        self.publish_first(&mut share.seat, whole, items);
+        Ok(())
     }
 
     /// Moves the items out of the first `k` slots of a take span, whose items are in their slots.
@@ -156,35 +162,36 @@ impl<T: Tagged, const N: usize, S: Stored<T>> Ring<'_, T, N, S> {
         self.advance(seat, Side::Take, range.start, range.count, k);
     }
 
-    /// Takes the items at the first `k` positions of a take span of an HTS side, whose items are in their slots, and
-    /// returns the other positions, which stay open.
+    /// Takes the items at the first `k` positions of a take span of an HTS side, whose items are in their slots. The
+    /// other positions stay open, and are the range afterwards: it is changed first, as in `advance_put`.
     #[inline(always)]
     pub(crate) fn advance_take<I: TakeItems<T>>(
         &self,
         share: &mut Share<T, S>,
-        range: Positions,
+        range: &mut Positions,
         k: usize,
         into: &mut I,
-    ) -> Positions
-        requires held { IsHeldOn self.now share.old.seat range }
-        requires short { k < range.count }
+    )
+        requires held { IsHeldOn self.now share.old.seat range.old }
+        requires short { k < range.old.count }
         requires empty { I.items into.old ≡ [] }
         requires room { k ≤ I.room into.old }
         ensures seat { IsSameSeat share.old.seat share.new.seat }
-        ensures rest { IsRest k range result }
+        ensures rest { IsRest k range.old range.new }
         ensures items { I.items into.new ≡ take k share.old.seat.me.0.shown }
         ensures shown { share.new.seat.me.0.shown ≡ drop k share.old.seat.me.0.shown }
-        ensures view { share.new.seat.me.0 ≡ advanced (span_of self.now.index Take range.start range.count)
+        ensures view { share.new.seat.me.0 ≡ advanced (span_of self.now.index Take range.old.start range.old.count)
             (take k share.old.seat.me.0.shown) share.old.seat.me.0 }
-        ensures slots { share.new.seat.me.1 ≡ slots_of self.now result.start (map Some share.new.seat.me.0.shown) }
+        ensures slots { share.new.seat.me.1 ≡ slots_of self.now range.new.start (map Some share.new.seat.me.0.shown) }
         ensures owned { HoldsMore T.numbers share.old.seat.me.0 (take k share.old.seat.me.0.shown)
             share.new.seat.me.0 }
         ensures apart { AreDistinct (flat_map T.numbers (take k share.old.seat.me.0.shown)) }
         ensures beside { I.beside into.old into.new }
     {
-        self.dequeue_first(&mut share.seat, range, k, into);
+        let whole = *range;
+        *range = whole.after(k);
+        self.dequeue_first(&mut share.seat, whole, k, into);
         into.own(k, &mut share.owned);
-        range.after(k)
     }
 
     /// Takes the items at the first `k` positions of a take span of an HTS side, and gives up the others, whose items

@@ -104,19 +104,15 @@ impl<T: Tagged, const N: usize, S: Stored<T>> HandInPlace<T, N, S> {
             (λ _. HoldsLess T.numbers (placed_view self.old) (I.items items.old) (placed_view self.new)) }
     {
         self.recent.left = 0;
-        match fabric
-            .at(place, Side::Put, known)
-            .advance_put(&mut self.share, reserved.range, items)
-        {
-            Ok(range) => {
-                let rest = Reserved {
-                    ring: reserved.ring,
-                    range,
-                };
-                self.span = OpenSpan::Put(rest);
-                Ok(rest)
+        let target = fabric.at(place, Side::Put, known);
+        match &mut self.span {
+            OpenSpan::Put(open) => {
+                match target.advance_put(&mut self.share, &mut open.range, items) {
+                    Ok(()) => Ok(*open),
+                    Err(fault) => Err(fault),
+                }
             }
-            Err(fault) => Err(fault),
+            _ => unreachable!(),
         }
     }
 
@@ -150,16 +146,14 @@ impl<T: Tagged, const N: usize, S: Stored<T>> HandInPlace<T, N, S> {
         ensures beside { I.beside into.old into.new }
     {
         self.recent.left = 0;
-        let known = place.known(Side::Take);
-        let range = fabric
-            .at(place, Side::Take, known)
-            .advance_take(&mut self.share, reserved.range, k, into);
-        let rest = Reserved {
-            ring: reserved.ring,
-            range,
-        };
-        self.span = OpenSpan::Held(rest);
-        rest
+        let target = fabric.at(place, Side::Take, place.known(Side::Take));
+        match &mut self.span {
+            OpenSpan::Held(open) => {
+                target.advance_take(&mut self.share, &mut open.range, k, into);
+                *open
+            }
+            _ => unreachable!(),
+        }
     }
 }
 

@@ -13,6 +13,7 @@ returns-then-not-disown-clause-refused g c =
     let h = c.args.share.now in (
       refl,
       refl,
+      refl,
       (
         omega (arith, c.if-k-range.false, c.len-k.ensures.value),
         not_yours g.T.Tagged.numbers c.args.self.now.shape.now.plan h.seat.me.0 h.owned (g.I.Items.items c.args.items.now) h.row
@@ -48,7 +49,7 @@ pub invariant_of-share-2 : goal.invariant_of-share-2
 invariant_of-share-2 g c =
     let r = c.args.self.now in
     let h = c.args.share.now in
-    let range = c.args.range in
+    let range = c.args.range.now in
     let tags = g.T.Tagged.numbers in
     let items = g.I.Items.items c.args.items.now in
     let span = span_of r.index Put range.start range.count in
@@ -67,7 +68,7 @@ invariant_of-share-2 g c =
 pub returns-clause-owned : goal.returns-clause-owned
 returns-clause-owned g c =
     let h = c.args.share.now in
-    let range = c.args.range in
+    let range = c.args.range.now in
     let v = h.seat.me.0 in
     let items = g.I.Items.items c.args.items.now in
     advance_less g.T.Tagged.numbers c.args.self.now.index range.start range.count v c.publish_first.new.seat.me.0 items c.publish_first.ensures.done.0

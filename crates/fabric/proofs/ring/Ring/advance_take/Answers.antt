@@ -14,7 +14,7 @@ pub invariant_of-share : goal.invariant_of-share
 invariant_of-share g c =
     let r = c.args.self.now in
     let h = c.args.share.now in
-    let range = c.args.range in
+    let range = c.args.range.now in
     let tags = g.T.Tagged.numbers in
     let v = h.seat.me.0 in
     let k = c.args.k in
@@ -38,7 +38,7 @@ pub returns-clause-apart : goal.returns-clause-apart
 returns-clause-apart g c =
     let r = c.args.self.now in
     let h = c.args.share.now in
-    let range = c.args.range in
+    let range = c.args.range.now in
     let tags = g.T.Tagged.numbers in
     let v = h.seat.me.0 in
     let items = take c.args.k v.shown in
@@ -51,6 +51,6 @@ pub returns-clause-owned : goal.returns-clause-owned
 returns-clause-owned g c =
     let r = c.args.self.now in
     let h = c.args.share.now in
-    let range = c.args.range in
+    let range = c.args.range.now in
     advance_more g.T.Tagged.numbers r.index range.start range.count h.seat.me.0 c.dequeue_first.new.seat.me.0 (take c.args.k h.seat.me.0.shown)
     c.dequeue_first.ensures.done.0 h.well
