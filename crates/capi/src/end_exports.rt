@@ -7,7 +7,7 @@ ghost use Rattle.capi.specs.HandCalls.{AtHand};
 ghost use Rattle.capi.specs.RingCalls.{room_side};
 
 use crate::handle::Handle;
-use crate::keeping::{borrow, with_object};
+use crate::keeping::{borrow, try_with_object, with_object};
 use crate::object::Object;
 use crate::rings::{
     Fault, Word64, answer, end_put, end_take, hold_end, is_put_recent, is_take_recent, open_end,
@@ -37,24 +37,6 @@ pub extern "C" fn hkx_end_release(alloc: Global, h: &mut Handle, takes: bool, cl
     ensures { Answers result (AtHand h.old.value h.new.value (EndReleases (room_side takes) closes)) }
 {
     with_object!(alloc, h, Hand(member) => release_end(member, side_of(takes), closes))
-}
-
-/// A call on the hand at a handle, which may do nothing.
-macro_rules! on_hand {
-    ($alloc:ident, $h:ident, $member:ident => $call:expr) => {{
-        let Some(mut slot) = borrow($alloc, $h) else {
-            return None;
-        };
-        let outcome = match &mut *slot {
-            Some(Object::Hand($member)) => $call,
-            _ => None,
-        };
-        *$h = Handle::of(slot);
-        match outcome {
-            Some(outcome) => Some(answer(outcome)),
-            None => None,
-        }
-    }};
 }
 
 /// What a look at the hand of a handle says: `false` if it has none.
@@ -96,7 +78,7 @@ fn try_put_held(alloc: Global, h: &mut Handle, bits: u64) -> Option<i64>
         (λ code. Answers code (AtHand h.old.value h.new.value (EndPuts (word_of bits)))) }
     ensures none { IfNone result (h.new.value ≡ h.old.value) }
 {
-    on_hand!(alloc, h, member => put_on_held(member, Word64 { bits }))
+    try_with_object!(alloc, h, Hand(member) => put_on_held(member, Word64 { bits }))
 }
 
 /// Puts a word by the hand's end, if that doesn't hold its side. At `None` nothing was done.
@@ -106,7 +88,7 @@ fn try_put(alloc: Global, h: &mut Handle, bits: u64, looks: bool) -> Option<i64>
         (λ code. Answers code (AtHand h.old.value h.new.value (EndPuts (word_of bits)))) }
     ensures none { IfNone result (h.new.value ≡ h.old.value) }
 {
-    on_hand!(alloc, h, member => put_when_open(member, Word64 { bits }, looks))
+    try_with_object!(alloc, h, Hand(member) => put_when_open(member, Word64 { bits }, looks))
 }
 
 /// Takes a word by the hand's end, if that holds its side. At `None` nothing was done.
@@ -116,7 +98,7 @@ fn try_take_held(alloc: Global, h: &mut Handle, word: &mut Word64) -> Option<i64
         (λ code. Answers code (AtHand h.old.value h.new.value (EndTakes (word.old ∷ []) (word.new ∷ [])))) }
     ensures none { IfNone result ((h.new.value ≡ h.old.value) × (word.new ≡ word.old)) }
 {
-    on_hand!(alloc, h, member => take_on_held(member, word))
+    try_with_object!(alloc, h, Hand(member) => take_on_held(member, word))
 }
 
 /// Takes a word by the hand's end, if that doesn't hold its side. At `None` nothing was done.
@@ -126,7 +108,7 @@ fn try_take(alloc: Global, h: &mut Handle, word: &mut Word64, looks: bool) -> Op
         (λ code. Answers code (AtHand h.old.value h.new.value (EndTakes (word.old ∷ []) (word.new ∷ [])))) }
     ensures none { IfNone result ((h.new.value ≡ h.old.value) × (word.new ≡ word.old)) }
 {
-    on_hand!(alloc, h, member => take_when_open(member, word, looks))
+    try_with_object!(alloc, h, Hand(member) => take_when_open(member, word, looks))
 }
 
 /// Any put of a word.

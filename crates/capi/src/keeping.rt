@@ -38,6 +38,27 @@ macro_rules! with_object {
 
 pub(crate) use with_object;
 
+/// `with_object!` for a call that does the usual cases alone, and is `None` if it did nothing: `None` then, for another
+/// object, and (as the caller's answer, which is an `Option`) for a null handle.
+macro_rules! try_with_object {
+    ($alloc:ident, $h:ident, $kind:ident($object:ident) => $call:expr) => {{
+        let Some(mut slot) = borrow($alloc, $h) else {
+            return None;
+        };
+        let outcome = match &mut *slot {
+            Some(Object::$kind($object)) => $call,
+            _ => None,
+        };
+        *$h = Handle::of(slot);
+        match outcome {
+            Some(outcome) => Some(answer(outcome)),
+            None => None,
+        }
+    }};
+}
+
+pub(crate) use try_with_object;
+
 /// Whether a handle isn't null.
 pub(crate) fn is_used(alloc: Global, h: &mut Handle) -> bool
     ensures kept { h.new.value ≡ h.old.value }

@@ -1,5 +1,5 @@
 //! The exports for calls on pools of numbers.
-ghost use Rattle.std.specs.Prelude.{◌≡◌, IfErr};
+ghost use Rattle.std.specs.Prelude.{◌≡◌, IfErr, IfNone, IfSome};
 ghost use Rattle.capi.specs.Codes.{Answers};
 ghost use Rattle.capi.specs.PoolHandles.{AtPool};
 ghost use Rattle.capi.specs.Calls.{how_of};
@@ -8,14 +8,34 @@ ghost use Rattle.capi.specs.Same.{CountsFree, CountsNumbers, FlushesCache, GetsN
 ghost use Rattle.capi.specs.Same.{ReceivesNumbers, SendsNumbers, TellsCached, TellsOwned};
 
 use crate::handle::Handle;
-use crate::keeping::{borrow, with_object};
+use crate::keeping::{borrow, try_with_object, with_object};
 use crate::object::Object;
 use crate::pools::{
-    Number, count_free, count_on, flush_numbers, get_into, put_numbers, receive_numbers,
-    send_numbers,
+    Number, count_free, count_on, flush_numbers, get_into, get_one, put_back, put_one,
+    receive_numbers, send_numbers,
 };
 use crate::rings::{Fault, answer, how, side_of};
 use std::alloc::Global;
+
+/// Fills an array with one number, if the cache has one. At `None` nothing was done.
+#[inline(always)]
+fn try_get_one(alloc: Global, h: &mut Handle, into: &mut [Number]) -> Option<i64>
+    ensures done { IfSome result (λ code. Answers code
+        (λ outcome. AtPool h.old.value h.new.value (GetsNumbers into.old into.new) outcome
+        × IfErr outcome (λ _. into.new ≡ into.old))) }
+    ensures none { IfNone result ((h.new.value ≡ h.old.value) × (into.new ≡ into.old)) }
+{
+    try_with_object!(alloc, h, Pool(pool) => get_one(pool, into))
+}
+
+/// Any get. It is apart from that of one number, which then saves no registers.
+#[inline(never)]
+fn get_any(alloc: Global, h: &mut Handle, into: &mut [Number]) -> i64
+    ensures { Answers result (λ outcome. AtPool h.old.value h.new.value (GetsNumbers into.old into.new) outcome
+        × IfErr outcome (λ _. into.new ≡ into.old)) }
+{
+    with_object!(alloc, h, Pool(pool) => get_into(pool, into))
+}
 
 /// Fills an array with numbers of the pool.
 #[unsafe(no_mangle)]
@@ -23,7 +43,27 @@ pub extern "C" fn hkx_pool_get(alloc: Global, h: &mut Handle, into: &mut [Number
     ensures { Answers result (λ outcome. AtPool h.old.value h.new.value (GetsNumbers into.old into.new) outcome
         × IfErr outcome (λ _. into.new ≡ into.old)) }
 {
-    with_object!(alloc, h, Pool(pool) => get_into(pool, into))
+    match try_get_one(alloc, h, into) {
+        Some(code) => code,
+        None => get_any(alloc, h, into),
+    }
+}
+
+/// Puts one number back, if the cache has room. At `None` nothing was done.
+#[inline(always)]
+fn try_put_one(alloc: Global, h: &mut Handle, items: &[Number]) -> Option<i64>
+    ensures done { IfSome result (λ code. Answers code (AtPool h.old.value h.new.value (PutsNumbers items.now))) }
+    ensures none { IfNone result (h.new.value ≡ h.old.value) }
+{
+    try_with_object!(alloc, h, Pool(pool) => put_one(pool, items))
+}
+
+/// Any put.
+#[inline(never)]
+fn put_any(alloc: Global, h: &mut Handle, items: &[Number]) -> i64
+    ensures { Answers result (AtPool h.old.value h.new.value (PutsNumbers items.now)) }
+{
+    with_object!(alloc, h, Pool(pool) => put_back(pool, items))
 }
 
 /// Puts numbers back that the handle has.
@@ -31,7 +71,10 @@ pub extern "C" fn hkx_pool_get(alloc: Global, h: &mut Handle, into: &mut [Number
 pub extern "C" fn hkx_pool_put(alloc: Global, h: &mut Handle, items: &[Number]) -> i64
     ensures { Answers result (AtPool h.old.value h.new.value (PutsNumbers items.now)) }
 {
-    with_object!(alloc, h, Pool(pool) => put_numbers(&pool.fabric, &mut pool.local, items))
+    match try_put_one(alloc, h, items) {
+        Some(code) => code,
+        None => put_any(alloc, h, items),
+    }
 }
 
 /// Puts all that is cached on the free ring.

@@ -13,9 +13,9 @@ mod splits;
 mod tries;
 
 pub(crate) use counting::{count_free, count_on};
-pub(crate) use gets::get_into;
+pub(crate) use gets::{get_into, get_one};
 pub(crate) use member::{Number, PoolMember};
 pub(crate) use opening::open_pool;
-pub(crate) use puts::{flush_numbers, put_numbers};
+pub(crate) use puts::{flush_numbers, put_back, put_one};
 pub(crate) use sending::{receive_numbers, send_numbers};
 pub(crate) use splits::split_pool;

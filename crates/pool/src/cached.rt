@@ -51,11 +51,12 @@ impl<T: Tagged, const N: usize, S: Stored<T>, C: Store<T> + Drop> Local<T, N, S,
             (I.items list.old) result (undone result (I.items list.old)) (cache_of self.new) }
         ensures list { I.items list.new ≡ put_from I.left result (I.items list.old) }
     {
+        let room = self.room();
         let cache_hand = match &mut self.hand {
             Some(cache_hand) => cache_hand,
             None => unreachable!(),
         };
-        if list.len() > 3 * self.size / 2 - self.cache.len() {
+        if list.len() > room {
             return if may_admit(cache_hand, &self.cache, list) {
                 Err(PoolFault::CacheFull)
             } else {

@@ -1,6 +1,7 @@
 //! Queries about a cache.
-ghost use Rattle.std.specs.Prelude.{◌≡◌, ◌==◌, ◌↔◌, IsTrue, length};
+ghost use Rattle.std.specs.Prelude.{◌≡◌, ◌==◌, ◌-◌, ◌↔◌, IsTrue, length};
 ghost use Rattle.ringcore_laws.specs.Sound.{holds};
+ghost use Rattle.pool_laws.specs.Caches.{threshold};
 ghost use Rattle.pool.specs.Locals.{cache_of, cache_size, ring_of, view_of};
 
 use crate::local::Local;
@@ -21,6 +22,14 @@ impl<T: Tagged, const N: usize, S: Stored<T>, C: Store<T> + Drop> Local<T, N, S,
         ensures { result ≡ (length (cache_of self.now) == 0) }
     {
         self.cache.len() == 0
+    }
+
+    /// How many more items the cache takes, up to its threshold, `floor(3 * size / 2)`.
+    #[inline(always)]
+    pub fn room(&self) -> usize
+        ensures { result ≡ threshold (cache_size self.now) - length (cache_of self.now) }
+    {
+        3 * self.size / 2 - self.cache.len()
     }
 
     /// The size that the cache was made with.

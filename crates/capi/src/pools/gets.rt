@@ -1,5 +1,5 @@
 //! Gets of numbers: from the cache, and if it has too few, with one request to the free ring or two.
-ghost use Rattle.std.specs.Prelude.{◌≡◌, ◌+◌, ◌-◌, ◌<◌, ◌≤◌, ◌++◌, [], length, Err, IfErr, IfOk};
+ghost use Rattle.std.specs.Prelude.{◌≡◌, ◌+◌, ◌-◌, ◌<◌, ◌≤◌, ◌++◌, [], length, Err, IfErr, IfNone, IfOk, IfSome};
 ghost use Rattle.fabric.specs.Hands.{rings_of};
 ghost use Rattle.fabric.specs.Settles.{AreOwnBuffers};
 ghost use Rattle.ringapi.specs.Views.{by_bulk};
@@ -140,6 +140,22 @@ fn get_numbers(f: &PoolRings, local: &mut PoolCache, into: &mut [Number]) -> Res
         Ok(()) => Ok(n as u32),
         Err(_) => unreachable!(),
     }
+}
+
+/// `get_into` of one number that is cached. At `None` nothing was done. For one number `get_into`, inlined, has no call
+/// and no loop, so the caller saves no registers.
+#[inline(always)]
+pub fn get_one(pool: &mut PoolMember, into: &mut [Number]) -> Option<Result<u32, Fault>>
+    ensures done { IfSome result (λ outcome. GetsNumbers into.old into.new pool.old pool.new outcome) }
+    ensures none { IfNone result ((pool.new ≡ pool.old) × (into.new ≡ into.old)) }
+{
+    if into.len() != 1 {
+        return None;
+    }
+    if pool.local.is_empty() {
+        return None;
+    }
+    Some(get_into(pool, into))
 }
 
 /// Fills an array with numbers of a handle's pool, or leaves it as it is.

@@ -7,8 +7,8 @@ use Rattle.capi.specs.declared.pools.member.PoolMember.{PoolMember}
 use Rattle.capi.specs.declared.object.Object.TheVariants as object
 use Rattle.capi.proofs.Slots.{at_none, at_one, at_other}
 use Rattle.capi.proofs.Filling.{got_none}
-use Rattle.capi.proofs.pool_exports.hkx_pool_get.Goals as goal
-use Rattle.capi.proofs.pool_exports.hkx_pool_get.Goals.{in-Some, in-Some-Pool, in-Some-deref_mut, in-None-deref_mut, in-None}
+use Rattle.capi.proofs.pool_exports.get_any.Goals as goal
+use Rattle.capi.proofs.pool_exports.get_any.Goals.{in-Some, in-Some-Pool, in-Some-deref_mut, in-None-deref_mut, in-None}
 
 pub returns : goal.returns
 returns c =
