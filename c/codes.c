@@ -18,7 +18,7 @@
     X(HK_E_PLAN, "invalid size, mode or depth: no such rings, pool, table, port or window") \
     X(HK_E_WORN, "the positions of the ring are used up")                     \
     X(HK_E_PARTS, "too many handles")                                         \
-    X(HK_E_NOTYOURS, "a number that the handle doesn't have, or given twice") \
+    X(HK_E_NOTYOURS, "a number that the handle doesn't have, has cached, or given twice") \
     X(HK_E_DEPTH, "a depth that is not 1 to 32")                              \
     X(HK_E_HOP, "no such next hop, or one of 2^24 or more")                   \
     X(HK_E_GROUPS, "more groups than the table may have")                     \

@@ -1,9 +1,9 @@
 /* Memory for the proved side and for the cells of handles: three requests, passed on to the C library or to the
- * program's own allocator. Each returns a pair, in two registers: whether there was memory, and where. A request for no
- * bytes returns an address too.
+ * program's own allocator. The first two return a pair, in two registers: whether there was memory, and where. A
+ * request for no bytes returns an address too.
  *
- * A block begins on a cache line and shares none with another block, so a thread that writes to its own blocks takes no
- * line from a thread that uses others. */
+ * A block begins on a cache line and shares none with another block, unless the program's own allocator gives others.
+ * So a thread that writes to its own blocks takes no line from a thread that uses others. */
 #include "hk_heap.h"
 #include "hokhtura.h"
 
@@ -11,8 +11,8 @@
 #include <stdlib.h>
 #include <string.h>
 
-/* A cache line in bytes (DPDK's RTE_CACHE_LINE_SIZE). Each block is aligned to it. Alignments that are asked for are 16
- * or less; a request for more than a line is refused. */
+/* A cache line in bytes (DPDK's RTE_CACHE_LINE_SIZE). The usual blocks are aligned to it. Alignments that are asked for
+ * are 16 or less; a request for more than a line is refused. */
 #define LINE ((size_t)64)
 
 static char nowhere;

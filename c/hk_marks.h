@@ -100,25 +100,25 @@ static inline size_t marked(const void *array, int64_t n, int64_t most) {
 
 /* Before a call that puts these words. */
 static inline void give_words(const uint64_t *words, size_t n) {
-    size_t count = marked(words, n > HK_MOST_ON_MULTI ? 0 : (int64_t)n, HK_MOST_ON_MULTI);
+    size_t count = marked(words, n > HK_MAX_WORDS_MULTI ? 0 : (int64_t)n, HK_MAX_WORDS_MULTI);
     for (size_t i = 0; i < count; i++) give_word(words[i]);
 }
 
 /* After a call that takes at most n words returned a code, which it returns. The words of a pending take are there, and
  * how many they are isn't known before it is finished: so all places count. */
 static inline int64_t got_words(const uint64_t *words, size_t n, int64_t code) {
-    size_t count = marked(words, code == HK_E_PENDING ? (int64_t)n : code, HK_MOST_ON_MULTI);
+    size_t count = marked(words, code == HK_E_PENDING ? (int64_t)n : code, HK_MAX_WORDS_MULTI);
     for (size_t i = 0; i < count; i++) get_word(words[i]);
     return code;
 }
 
 static inline void give_numbers(const uint32_t *numbers, size_t n) {
-    size_t count = marked(numbers, n > HK_POOL_MOST ? 0 : (int64_t)n, HK_POOL_MOST);
+    size_t count = marked(numbers, n > HK_MAX_NUMBERS ? 0 : (int64_t)n, HK_MAX_NUMBERS);
     for (size_t i = 0; i < count; i++) give_word(numbers[i]);
 }
 
 static inline int64_t got_numbers(const uint32_t *numbers, int64_t code) {
-    size_t count = marked(numbers, code, HK_POOL_MOST);
+    size_t count = marked(numbers, code, HK_MAX_NUMBERS);
     for (size_t i = 0; i < count; i++) get_word(numbers[i]);
     return code;
 }

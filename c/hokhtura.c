@@ -1,6 +1,6 @@
 /* The calls of hokhtura.h over the proved exports hkx_*. Handles, arrays and counts are checked here, cells of handles
- * are made and freed, and a step of a ring that failed because of another thread is tried again. Everything else is
- * done there.
+ * are made and freed, and a half of a call on a ring that failed because of another thread is tried again. Everything
+ * else is done there.
  *
  * A handle is the address of a cell, and the cell holds the address of a box of the proved side. An export empties the
  * cell, works, and puts the same address back. The cell lives as long as the handle. So a call needs no cell on its
@@ -106,7 +106,7 @@ static inline int64_t refused_above(size_t most, const void *words, size_t n) {
 }
 
 static inline int64_t refused(const void *words, size_t n) {
-    return refused_above(HK_MOST, words, n);
+    return refused_above(HK_MAX_WORDS, words, n);
 }
 
 /* ---- Handles ---- */
@@ -140,7 +140,7 @@ static void free_handle(void *handle) {
 
 int64_t hk_hand_open(hk_hand **out, const hk_ring_plan *plans, size_t count) {
     if (!out || !plans) return HK_E_NULL;
-    if (count > HK_MOST_RINGS) return HK_E_PLAN;
+    if (count > HK_MAX_RINGS) return HK_E_PLAN;
     MAKE(out, cell, hkx_hand_open(cell, plans, count))
 }
 
@@ -161,7 +161,7 @@ void hk_hand_free(hk_hand *hand) {
     free_handle(hand);
 }
 
-/* An export of a ring tries each step once. If another thread came first, the calls below try that step again, until
+/* An export of a ring tries each half once. If another thread came first, the calls below try that half again, until
  * they have tried it this often. A put or a take that returned HK_E_PENDING has tried to settle once. Pools and
  * splits repeat their tries below their exports. */
 enum { TURNS = 1024 };
@@ -172,7 +172,7 @@ static inline void pause_a_moment(void) {
 #endif
 }
 
-/* Makes a call again while its code says that another thread came first, `lost`: the only loop over tries. */
+/* Makes a call again while its code is `lost`, another thread came first or isn't done: the only loop over tries. */
 #define TRY_AGAIN(code, lost, call)                                     \
     for (unsigned turn = 1; (code) == (lost) && turn < TURNS; turn++) { \
         pause_a_moment();                                               \
@@ -259,7 +259,7 @@ static inline int64_t take_one(hk_hand *hand, size_t ring, uint64_t *word) {
 
 static inline int64_t put(hk_hand *hand, size_t ring, const uint64_t *words, size_t n, bool bulk) {
     if (n == 1) return words ? put_one(hand, ring, *words) : HK_E_NULL;
-    if (n > HK_MOST_ON_MULTI) return HK_E_COUNT;
+    if (n > HK_MAX_WORDS_MULTI) return HK_E_COUNT;
     if (!hand || (!words && n > 0)) return HK_E_NULL;
     struct put_call call = {CELL(hand), ring, n > 0 ? words : no_words, n};
     int64_t code = hkx_ring_put(CELL(hand), ring, call.words, n, bulk);
@@ -278,7 +278,7 @@ int64_t hk_ring_try_put_burst(hk_hand *hand, size_t ring, const uint64_t *words,
 
 static inline int64_t take(hk_hand *hand, size_t ring, uint64_t *words, size_t n, bool bulk) {
     if (n == 1) return words ? take_one(hand, ring, words) : HK_E_NULL;
-    if (n > HK_MOST_ON_MULTI) return HK_E_COUNT;
+    if (n > HK_MAX_WORDS_MULTI) return HK_E_COUNT;
     if (!hand || (!words && n > 0)) return HK_E_NULL;
     struct take_call call = {CELL(hand), ring, n > 0 ? words : no_words, n};
     int64_t code = hkx_ring_take(CELL(hand), ring, call.words, n, bulk);
@@ -336,7 +336,7 @@ int64_t hk_ring_peek_take_burst(hk_hand *hand, size_t ring, uint64_t *words, siz
 }
 
 int64_t hk_ring_finish_put(hk_hand *hand, const uint64_t *words, size_t n) {
-    int64_t code = refused_above(HK_MOST_ON_MULTI, words, n);
+    int64_t code = refused_above(HK_MAX_WORDS_MULTI, words, n);
     if (code < 0) return code;
     if (!hand) return HK_E_NULL;
     give_words(words, n);
@@ -491,7 +491,7 @@ void hk_consumer_free(hk_consumer *end) {
 static uint32_t no_numbers[1];
 
 static inline int64_t refused_numbers(const void *numbers, size_t n) {
-    if (n > HK_POOL_MOST) return HK_E_COUNT;
+    if (n > HK_MAX_NUMBERS) return HK_E_COUNT;
     return numbers || n == 0 ? HK_OK : HK_E_NULL;
 }
 
@@ -627,7 +627,7 @@ static int64_t open_fib(hk_fib **out, bool whole, uint32_t bits, uint32_t groups
     static const hk_port no_ports[1];
     static const hk_next_hop no_hops[1];
     if (!out || (port_count > 0 && !ports) || (hop_count > 0 && !hops)) return HK_E_NULL;
-    if (port_count > HK_MOST_PORTS || hop_count > HK_MOST_HOPS) return HK_E_PLAN;
+    if (port_count > HK_MAX_PORTS || hop_count > HK_MAX_HOPS) return HK_E_PLAN;
     MAKE(out, cell, hkx_fib_open(cell, whole, bits, groups, ports ? ports : no_ports, port_count,
                                  hops ? hops : no_hops, hop_count))
 }
@@ -752,7 +752,7 @@ static inline int64_t refused_frames(const hk_frame *frames, size_t n) {
 
 /* The export changes what the frames point to, and not the array of frames. */
 int64_t hk_forward_burst(hk_forward *forward, const hk_frame *frames, uint32_t *verdicts, size_t n) {
-    if (n > HK_FORWARD_MOST) return HK_E_COUNT;
+    if (n > HK_MAX_FRAMES) return HK_E_COUNT;
     if (!forward || (n > 0 && (!frames || !verdicts))) return HK_E_NULL;
     int64_t code = refused_frames(frames, n);
     if (code < 0) return code;

@@ -23,13 +23,13 @@
  * comes before HK_E_NOROOM and HK_E_WORN. No call ends the process, waits for another thread, sleeps or loops without a
  * limit; what the allocator does comes on top.
  *
- * TRIES. A put or a take has two steps: it reserves positions, and finishes. A peek has only the first step, and a call
- * that finishes only the second. If other threads come first, a call tries each of its steps 1,024 times at most, the
+ * TRIES. A put or a take has two halves: it reserves positions, and finishes. A peek has only the first half, and a
+ * call that finishes only the second. If other threads come first, a call tries each half 1,024 times at most, the
  * first try included, with a pause of the processor before each further one.
  *
  * MEMORY. Only calls marked [memory] allocate memory, with aligned_alloc of the C library or with what
- * hk_set_allocator was given: a block begins on a cache line. If they return HK_E_MEMORY, nothing was changed.
- * Freeing a handle frees its memory; freeing the last one also frees what they share.
+ * hk_set_allocator was given: from aligned_alloc a block begins on a cache line. If they return HK_E_MEMORY, nothing
+ * was changed. Freeing a handle frees its memory; freeing the last one also frees what they share.
  *
  * WHAT A CALL CAN'T SEE, and the caller must avoid: a handle that was freed; one handle in two calls at once; an array
  * with fewer places than the count that is given, or that overlaps another argument; a frame that overlaps another one
@@ -62,13 +62,13 @@ extern "C" {
 #endif
 
 /* The largest number of words in one call on an HK_HTS side, and in a drain. */
-#define HK_MOST 4095
+#define HK_MAX_WORDS 4095
 /* The largest number of words in one put or take on an HK_MULTI side: as many as any ring holds. */
-#define HK_MOST_ON_MULTI 1048575
+#define HK_MAX_WORDS_MULTI 1048575
 /* The largest number of rings in one set. */
-#define HK_MOST_RINGS 64
+#define HK_MAX_RINGS 64
 /* The largest count of numbers in one call on a pool. */
-#define HK_POOL_MOST 4096
+#define HK_MAX_NUMBERS 4096
 
 enum hk_code {
     HK_OK = 0,
@@ -152,7 +152,7 @@ typedef struct hk_ring_plan {
 /* One thread's hand on a set of rings, which have the numbers 0, 1 and so on. */
 typedef struct hk_hand hk_hand;
 
-/* [memory] Makes a set of `count` empty rings, 1 to HK_MOST_RINGS, and the first hand on it. HK_E_NULL, HK_E_PLAN,
+/* [memory] Makes a set of `count` empty rings, 1 to HK_MAX_RINGS, and the first hand on it. HK_E_NULL, HK_E_PLAN,
  * HK_E_MEMORY. */
 HK_API HK_CHECKED int64_t hk_hand_open(hk_hand **out, const hk_ring_plan *plans, size_t count);
 /* [memory] Makes another hand on the same rings, for another thread. At most 2^62 can be made in all: freeing a hand
@@ -166,18 +166,18 @@ HK_API HK_CHECKED int64_t hk_hand_split(hk_hand *hand, hk_hand **out);
  * left. */
 HK_API void hk_hand_free(hk_hand *hand);
 
-/* Puts n words on a ring, 1 to HK_MOST, or to HK_MOST_ON_MULTI on a multi side: by bulk all of them or none, by burst
- * as many as there is room for. Returns how many were put: the first words of the array, in order, next to each other
- * on the ring.
+/* Puts n words on a ring, 1 to HK_MAX_WORDS, or to HK_MAX_WORDS_MULTI on a multi side: by bulk all of them or none, by
+ * burst as many as there is room for. Returns how many were put: the first words of the array, in order, next to each
+ * other on the ring.
  * HK_E_NULL, HK_E_KIND, HK_E_RING, HK_E_OPEN, HK_E_COUNT, HK_E_NOROOM, HK_E_WORN, HK_E_AGAIN: nothing was put. A burst
  * that would pass the ring's last position isn't shortened: it is HK_E_WORN.
  * HK_E_PENDING, only on a multi side: the positions are the hand's, the words are not put yet. Call
  * hk_ring_finish_put with the same words until it returns a count. */
 HK_API HK_CHECKED int64_t hk_ring_try_put_bulk(hk_hand *hand, size_t ring, const uint64_t *words, size_t n);
 HK_API HK_CHECKED int64_t hk_ring_try_put_burst(hk_hand *hand, size_t ring, const uint64_t *words, size_t n);
-/* Takes n words from a ring, 1 to HK_MOST, or to HK_MOST_ON_MULTI on a multi side, the oldest first: by bulk all n or
- * none, by burst at most n. Returns how many are at the front of the array; its other places are unchanged. Codes as
- * above, except HK_E_WORN, which no take returns.
+/* Takes n words from a ring, 1 to HK_MAX_WORDS, or to HK_MAX_WORDS_MULTI on a multi side, the oldest first: by bulk all
+ * n or none, by burst at most n. Returns how many are at the front of the array; its other places are unchanged. Codes
+ * as above, except HK_E_WORN, which no take returns.
  * HK_E_PENDING, only on a multi side: the words are at the front of the array, and still on the ring. Call
  * hk_ring_finish_take with the same n until it returns a count. */
 HK_API HK_CHECKED int64_t hk_ring_try_take_bulk(hk_hand *hand, size_t ring, uint64_t *words, size_t n);
@@ -235,7 +235,7 @@ HK_API HK_CHECKED int64_t hk_ring_release_take(hk_hand *hand, uint64_t *words, s
 HK_API int64_t hk_hand_span(const hk_hand *hand);
 /* What the last put, take or peek left: how many more words there was room for, or how many more were queued; after
  * HK_E_NOROOM, how many in all. After HK_E_COUNT, HK_E_WORN and HK_E_AGAIN, and after a call of an end, it says
- * nothing; other codes leave it as it was. HK_E_NULL, HK_E_KIND. */
+ * nothing; HK_E_PENDING counts as a put or a take; other codes leave it as it was. HK_E_NULL, HK_E_KIND. */
 HK_API int64_t hk_hand_left(const hk_hand *hand);
 /* How many words are queued on a ring, and how many more there is room for, as found by two loads, between which and
  * after which others may put or take: the numbers of rte_ring_count and rte_ring_free_count. Spans may be open, of this
@@ -247,8 +247,8 @@ HK_API int64_t hk_ring_room(const hk_hand *hand, size_t ring);
 /* Closes the set of rings, by its only hand: from then on the hand is for hk_hand_drain. HK_E_NULL, HK_E_KIND,
  * HK_E_OPEN. HK_E_SHARED while there are other hands. */
 HK_API HK_CHECKED int64_t hk_hand_close(hk_hand *hand);
-/* Takes at most n words, 0 to HK_MOST, of those that are left on a ring of a closed set, the oldest first. Returns how
- * many: fewer than n if no more are left. HK_E_COUNT, HK_E_NULL, HK_E_KIND if the set isn't closed, HK_E_RING. */
+/* Takes at most n words, 0 to HK_MAX_WORDS, of those that are left on a ring of a closed set, the oldest first. Returns
+ * how many: fewer than n if no more are left. HK_E_COUNT, HK_E_NULL, HK_E_KIND if the set isn't closed, HK_E_RING. */
 HK_API HK_CHECKED int64_t hk_hand_drain(hk_hand *hand, size_t ring, uint64_t *words, size_t n);
 
 /* ---- Ends: word by word ------------------------------------------------------------------------------------------ */
@@ -266,9 +266,9 @@ typedef struct hk_consumer hk_consumer;
 /* Opens an end that puts, or takes, on a ring. HK_E_NULL, HK_E_KIND, HK_E_RING; HK_E_OPEN: the hand has such an end. */
 HK_API HK_CHECKED int64_t hk_producer_open(hk_producer **out, hk_hand *hand, size_t ring);
 HK_API HK_CHECKED int64_t hk_consumer_open(hk_consumer **out, hk_hand *hand, size_t ring);
-/* What hk_producer_put and hk_consumer_take are made of: each step is tried once, and these go on with the code that
- * the first one returned. A program in another language calls both, the second one only after a code below 0. The first
- * ones return 1, the second ones HK_OK. HK_E_NULL, HK_E_KIND, HK_E_NOTOPEN, HK_E_OPEN, HK_E_NOROOM, HK_E_WORN (a put),
+/* What hk_producer_put and hk_consumer_take are made of: `_once` tries, and `_again` goes on with the code that `_once`
+ * returned. A program in another language calls both, `_again` only after a code below 0. `_once` returns 1, `_again`
+ * HK_OK. HK_E_NULL, HK_E_KIND, HK_E_NOTOPEN, HK_E_OPEN, HK_E_NOROOM, HK_E_WORN (a put),
  * HK_E_AGAIN, HK_E_PENDING: what they mean, the next two calls say. */
 HK_API HK_CHECKED int64_t hk_producer_put_once(hk_producer *end, uint64_t word);
 HK_API HK_CHECKED int64_t hk_producer_put_again(hk_producer *end, uint64_t word, int64_t code);
@@ -304,9 +304,10 @@ HK_API HK_CHECKED int64_t hk_producer_finish(hk_producer *end, uint64_t word);
 HK_API HK_CHECKED int64_t hk_consumer_finish(hk_consumer *end);
 
 /* Lets an end hold its side, which has to be head/tail-sync, for a thread that uses it most of the time: the next word
- * reserves up to `most` positions, 1 to HK_MOST, and each word then takes one store. When the positions run out, the
- * next word reserves again. Meanwhile the hand has an open span, calls of other threads on that side return HK_E_AGAIN,
- * and a thread that stops stops that side. Returns HK_OK. HK_E_NULL, HK_E_KIND, HK_E_NOTOPEN, HK_E_MODE, HK_E_COUNT. */
+ * reserves up to `most` positions, 1 to HK_MAX_WORDS, and each word then takes one store. When the positions run out,
+ * the next word reserves again. Meanwhile the hand has an open span, calls of other threads on that side return
+ * HK_E_AGAIN, and a thread that stops stops that side. Returns HK_OK. HK_E_NULL, HK_E_KIND, HK_E_NOTOPEN, HK_E_MODE,
+ * HK_E_COUNT. */
 HK_API HK_CHECKED int64_t hk_producer_hold(hk_producer *end, size_t most);
 HK_API HK_CHECKED int64_t hk_consumer_hold(hk_consumer *end, size_t most);
 /* Gives up a side that an end holds: positions without a word, and words that weren't taken, are free for all threads
@@ -347,12 +348,12 @@ HK_API HK_CHECKED int64_t hk_pool_split(hk_pool *pool, hk_pool **out);
  * weren't put back, are lost to the others in any case. */
 HK_API void hk_pool_free(hk_pool *pool);
 
-/* Gets n numbers, 1 to HK_POOL_MOST, all or none: from the cache, the newest first; if it has too few, the others from
- * the free ring, the oldest first. If n is at most 512, the cache is then filled to its size from that ring, if the
- * ring has enough. Returns n. HK_E_NULL, HK_E_KIND, HK_E_COUNT. HK_E_NOROOM: the free ring has too few; numbers may be
- * in the caches of other handles. HK_E_AGAIN. */
+/* Gets n numbers, 1 to HK_MAX_NUMBERS, all or none: from the cache, the newest first; if it has too few, the others
+ * from the free ring, the oldest first. If n is at most 512, the cache is then filled to its size from that ring, if
+ * the ring has enough. Returns n. HK_E_NULL, HK_E_KIND, HK_E_COUNT. HK_E_NOROOM: the free ring has too few; numbers may
+ * be in the caches of other handles. HK_E_AGAIN. */
 HK_API HK_CHECKED int64_t hk_pool_try_get_bulk(hk_pool *pool, uint32_t *numbers, size_t n);
-/* Puts n numbers back, 1 to HK_POOL_MOST, all or none: into the cache; if that would pass one and a half times its
+/* Puts n numbers back, 1 to HK_MAX_NUMBERS, all or none: into the cache; if that would pass one and a half times its
  * size, they go to the free ring, and the cache stays as it is. Returns n. HK_E_NULL, HK_E_KIND, HK_E_COUNT.
  * HK_E_NOTYOURS: one of them was never got by this handle, was put or sent since, is out of range, or is given twice.
  * HK_E_WORN. HK_E_AGAIN: only if the free ring was needed. */
@@ -364,13 +365,13 @@ HK_API HK_CHECKED int64_t hk_pool_try_flush(hk_pool *pool);
 HK_API int64_t hk_pool_cached(const hk_pool *pool);
 /* 1 if the handle has this number, cached or not, and otherwise 0. HK_E_NULL, HK_E_KIND. */
 HK_API int64_t hk_pool_owns(const hk_pool *pool, uint32_t number);
-/* Puts n numbers, 1 to HK_POOL_MOST, on a ring of the pool, 0 to rings - 1: by bulk all of them or none, by burst as
+/* Puts n numbers, 1 to HK_MAX_NUMBERS, on a ring of the pool, 0 to rings - 1: by bulk all of them or none, by burst as
  * many of the first ones as there is room for. A ring of a pool has room for all its numbers, so a burst sends all n,
  * too. Then the handle doesn't have them any more; the handle that takes them from the ring has them. Returns how many
  * were sent. HK_E_NULL, HK_E_KIND, HK_E_RING, HK_E_COUNT, HK_E_NOTYOURS, HK_E_WORN, HK_E_AGAIN. */
 HK_API HK_CHECKED int64_t hk_pool_try_send_bulk(hk_pool *pool, size_t ring, const uint32_t *numbers, size_t n);
 HK_API HK_CHECKED int64_t hk_pool_try_send_burst(hk_pool *pool, size_t ring, const uint32_t *numbers, size_t n);
-/* Takes n numbers, 1 to HK_POOL_MOST, from a ring of the pool, the oldest first: by bulk all n or none, by burst at
+/* Takes n numbers, 1 to HK_MAX_NUMBERS, from a ring of the pool, the oldest first: by bulk all n or none, by burst at
  * most n, as many as are queued. The handle has them then, and they aren't cached. Returns how many are at the front of
  * the array; its other places are unchanged. HK_E_NULL, HK_E_KIND, HK_E_RING, HK_E_COUNT. HK_E_NOROOM: fewer than n are
  * queued, or for a burst none. HK_E_AGAIN. */
@@ -392,7 +393,7 @@ typedef struct hk_routes hk_routes;
 /* [memory] Makes a table without routes: its first level has 2^bits entries, bits 16 or 24, and it has at most
  * `groups` groups of 2^(32 - bits) entries. HK_E_NULL, HK_E_PLAN, HK_E_MEMORY. */
 HK_API HK_CHECKED int64_t hk_routes_open(hk_routes **out, uint32_t bits, uint32_t groups);
-/* Makes another handle on the same table, for another thread's lookups. [memory] HK_E_NULL, HK_E_KIND, HK_E_MEMORY. */
+/* [memory] Makes another handle on the same table, for another thread's lookups. HK_E_NULL, HK_E_KIND, HK_E_MEMORY. */
 HK_API HK_CHECKED int64_t hk_routes_share(hk_routes *routes, hk_routes **out);
 /* [memory] Adds a route for the first `depth` bits of an address, 1 to 32, or changes its next hop, below 2^24.
  * HK_E_NULL, HK_E_KIND; HK_E_SHARED while the table has other handles; HK_E_DEPTH, HK_E_HOP, HK_E_GROUPS,
@@ -425,9 +426,9 @@ typedef struct hk_fib hk_fib;
 typedef struct hk_forward hk_forward;
 
 /* The largest number of ports, of next hops, and of frames in one burst. */
-#define HK_MOST_PORTS 256
-#define HK_MOST_HOPS 16777216
-#define HK_FORWARD_MOST 64
+#define HK_MAX_PORTS 256
+#define HK_MAX_HOPS 16777216
+#define HK_MAX_FRAMES 64
 
 /* A port: its hardware address, its IPv4 address as a number, and how many bits of that are the prefix of the port's
  * net, 1 to 32; with 0 the port has no IPv4 address. `zero` is ignored. */
@@ -453,8 +454,8 @@ typedef struct hk_fib_route {
     uint32_t hop;
 } hk_fib_route;
 
-/* [memory] Makes a table without routes and with these ports and next hops, which are copied: 0 to HK_MOST_PORTS and 0
- * to HK_MOST_HOPS. Its first level has 2^bits entries, bits 16 or 24, and it has at most `groups` groups of 2^(32 -
+/* [memory] Makes a table without routes and with these ports and next hops, which are copied: 0 to HK_MAX_PORTS and 0
+ * to HK_MAX_HOPS. Its first level has 2^bits entries, bits 16 or 24, and it has at most `groups` groups of 2^(32 -
  * bits) entries. `ports` and `hops` may be null where there are none. HK_E_NULL; HK_E_PLAN: other bits, too many, or a
  * depth above 32; HK_E_MEMORY. */
 HK_API HK_CHECKED int64_t hk_fib_open(hk_fib **out, uint32_t bits, uint32_t groups, const hk_port *ports,
@@ -509,7 +510,8 @@ HK_API void hk_fib_free(hk_fib *fib);
 HK_API HK_CHECKED int64_t hk_forward_hold(hk_forward *forward);
 /* Releases the held version, if any: the next call uses the one published last. HK_E_NULL, HK_E_KIND. */
 HK_API HK_CHECKED int64_t hk_forward_release(hk_forward *forward);
-/* The next hop's number of the longest published route that covers an address. HK_E_NULL, HK_E_KIND, HK_E_NOROUTE. */
+/* The number of the next hop of the longest published route that covers an address. HK_E_NULL, HK_E_KIND, HK_E_NOROUTE.
+ * */
 HK_API HK_CHECKED int64_t hk_forward_lookup(hk_forward *forward, uint32_t address);
 /* The same for n addresses, all in one version: hops[i] is the next hop for addresses[i], or HK_NO_HOP. HK_E_COUNT: n
  * is above SIZE_MAX / 8. HK_E_NULL, HK_E_KIND. */
@@ -559,7 +561,7 @@ enum hk_drop {
 /* Forwards a frame of `held` bytes that had `wire` bytes on the wire. Returns the verdict; if the frame is sent, it is
  * rewritten in place. HK_E_NULL; HK_E_COUNT: `wire` is below `held`; HK_E_KIND. */
 HK_API HK_CHECKED int64_t hk_forward_frame(hk_forward *forward, uint8_t *bytes, size_t held, size_t wire);
-/* Forwards n frames, 1 to HK_FORWARD_MOST, with their lookups together: verdicts[i] is that of frames[i]. Returns how
+/* Forwards n frames, 1 to HK_MAX_FRAMES, with their lookups together: verdicts[i] is that of frames[i]. Returns how
  * many of them are sent. HK_E_NULL, also if the bytes of a frame are null; HK_E_COUNT, also if a frame has more bytes
  * than it had on the wire; HK_E_KIND. */
 HK_API HK_CHECKED int64_t hk_forward_burst(hk_forward *forward, const hk_frame *HK_RESTRICT frames,
@@ -585,7 +587,7 @@ HK_API HK_CHECKED int64_t hk_reorder_open(hk_reorder **out, uint32_t size);
 HK_API HK_CHECKED int64_t hk_reorder_insert(hk_reorder *window, uint64_t number, uint64_t word);
 /* Takes the word whose turn it is. HK_E_NULL, HK_E_KIND; HK_E_NOTHING if it hasn't arrived: the place is unchanged. */
 HK_API HK_CHECKED int64_t hk_reorder_pop(hk_reorder *window, uint64_t *word);
-/* Takes at most n words, 0 to HK_MOST, each in its turn. Returns how many are at the front of the array; its other
+/* Takes at most n words, 0 to HK_MAX_WORDS, each in its turn. Returns how many are at the front of the array; its other
  * places are unchanged. HK_E_COUNT, HK_E_NULL, HK_E_KIND; HK_E_NOTHING, if n is 1 or more and the word whose turn it is
  * hasn't arrived. */
 HK_API HK_CHECKED int64_t hk_reorder_drain(hk_reorder *window, uint64_t *words, size_t n);

@@ -390,7 +390,7 @@ public:
         if (code) object.reset(at(word));
         return code;
     }
-    // How many objects are queued, and how many more there is room for, as found by one look.
+    // How many objects are queued, and how many more there is room for, as found by two loads.
     result count() const noexcept { return hand_.count(0); }
     result room() const noexcept { return hand_.room(0); }
 

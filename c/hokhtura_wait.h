@@ -16,8 +16,9 @@ extern "C" {
 #endif
 
 /* What a loop does between two tries. It returns 0 to go on. With any other number the loop ends at once and returns
- * the code of the last try: HK_E_NOROOM, HK_E_AGAIN, or HK_E_PENDING, and then the span is still open and to be
- * finished. It may be a null pointer, for a pause of the processor. It isn't called if the first try is enough. */
+ * the code of the last try: HK_E_NOROOM, HK_E_AGAIN, or HK_E_PENDING (of a ring: the span is still open and to be
+ * finished); hk_ring_put and hk_ring_take say below what they return. It may be a null pointer, for a pause of the
+ * processor. It isn't called if the first try is enough. */
 typedef int (*hk_relax)(void);
 
 /* Lets other threads run. */
@@ -86,12 +87,12 @@ static inline int64_t hk_ring_take_burst(hk_hand *hand, size_t ring, uint64_t *w
 
 /* Puts n words, any number from 1 on, in their order, as there is room; other threads' words may come between them.
  * Returns n. If it ends before that, it returns how many were put, or the code if none was; hk_hand_span says whether a
- * put is pending then: that of the next words, HK_MOST of them or as many as there are. */
+ * put is pending then: that of the next words, HK_MAX_WORDS of them or as many as there are. */
 static inline int64_t hk_ring_put(hk_hand *hand, size_t ring, const uint64_t *words, size_t n, hk_relax relax) {
     size_t done = 0;
     int64_t code = HK_OK;
     do {
-        size_t next = n - done < HK_MOST ? n - done : HK_MOST;
+        size_t next = n - done < HK_MAX_WORDS ? n - done : HK_MAX_WORDS;
         code = hk_ring_put_burst(hand, ring, words ? words + done : words, next, relax);
         if (code > 0) done += (size_t)code;
     } while (code > 0 && done < n);
@@ -99,27 +100,27 @@ static inline int64_t hk_ring_put(hk_hand *hand, size_t ring, const uint64_t *wo
 }
 
 /* Takes n words, any number from 1 on, as they come. Returns n. If it ends before that, it returns how many were taken,
- * or the code if none was; hk_hand_span says whether a take is pending then, for the next places of the array, HK_MOST
- * of them or as many as there are. */
+ * or the code if none was; hk_hand_span says whether a take is pending then, for the next places of the array,
+ * HK_MAX_WORDS of them or as many as there are. */
 static inline int64_t hk_ring_take(hk_hand *hand, size_t ring, uint64_t *words, size_t n, hk_relax relax) {
     size_t done = 0;
     int64_t code = HK_OK;
     do {
-        size_t next = n - done < HK_MOST ? n - done : HK_MOST;
+        size_t next = n - done < HK_MAX_WORDS ? n - done : HK_MAX_WORDS;
         code = hk_ring_take_burst(hand, ring, words ? words + done : words, next, relax);
         if (code > 0) done += (size_t)code;
     } while (code > 0 && done < n);
     return done > 0 ? (int64_t)done : code;
 }
 
-/* Gets n numbers, 1 to HK_POOL_MOST, once cache and free ring have as many. Returns n. */
+/* Gets n numbers, 1 to HK_MAX_NUMBERS, once cache and free ring have as many. Returns n. */
 static inline int64_t hk_pool_get_bulk(hk_pool *pool, uint32_t *numbers, size_t n, hk_relax relax) {
     int64_t code = hk_pool_try_get_bulk(pool, numbers, n);
     HK_UNTIL(code, HK_MAY_CHANGE(code), relax, hk_pool_try_get_bulk(pool, numbers, n));
     return code;
 }
 
-/* Puts n numbers back, 1 to HK_POOL_MOST. Returns n. */
+/* Puts n numbers back, 1 to HK_MAX_NUMBERS. Returns n. */
 static inline int64_t hk_pool_put_bulk(hk_pool *pool, const uint32_t *numbers, size_t n, hk_relax relax) {
     int64_t code = hk_pool_try_put_bulk(pool, numbers, n);
     HK_UNTIL(code, HK_MAY_CHANGE(code), relax, hk_pool_try_put_bulk(pool, numbers, n));
@@ -133,15 +134,15 @@ static inline int64_t hk_pool_flush(hk_pool *pool, hk_relax relax) {
     return code;
 }
 
-/* Puts n numbers, 1 to HK_POOL_MOST, on a ring of the pool. Returns n. */
+/* Puts n numbers, 1 to HK_MAX_NUMBERS, on a ring of the pool. Returns n. */
 static inline int64_t hk_pool_send_bulk(hk_pool *pool, size_t ring, const uint32_t *numbers, size_t n, hk_relax relax) {
     int64_t code = hk_pool_try_send_bulk(pool, ring, numbers, n);
     HK_UNTIL(code, HK_MAY_CHANGE(code), relax, hk_pool_try_send_bulk(pool, ring, numbers, n));
     return code;
 }
 
-/* Puts as many of n numbers, 1 to HK_POOL_MOST, on a ring of the pool as there is room for, which are all. Returns how
- * many. */
+/* Puts as many of n numbers, 1 to HK_MAX_NUMBERS, on a ring of the pool as there is room for, which are all. Returns
+ * how many. */
 static inline int64_t hk_pool_send_burst(hk_pool *pool, size_t ring, const uint32_t *numbers, size_t n,
                                          hk_relax relax) {
     int64_t code = hk_pool_try_send_burst(pool, ring, numbers, n);
@@ -149,14 +150,14 @@ static inline int64_t hk_pool_send_burst(hk_pool *pool, size_t ring, const uint3
     return code;
 }
 
-/* Takes n numbers, 1 to HK_POOL_MOST, from a ring of the pool, once as many are there. Returns n. */
+/* Takes n numbers, 1 to HK_MAX_NUMBERS, from a ring of the pool, once as many are there. Returns n. */
 static inline int64_t hk_pool_receive_bulk(hk_pool *pool, size_t ring, uint32_t *numbers, size_t n, hk_relax relax) {
     int64_t code = hk_pool_try_receive_bulk(pool, ring, numbers, n);
     HK_UNTIL(code, HK_MAY_CHANGE(code), relax, hk_pool_try_receive_bulk(pool, ring, numbers, n));
     return code;
 }
 
-/* Waits until a number is queued on a ring of the pool, and then takes up to n, 1 to HK_POOL_MOST. Returns how many
+/* Waits until a number is queued on a ring of the pool, and then takes up to n, 1 to HK_MAX_NUMBERS. Returns how many
  * were taken. */
 static inline int64_t hk_pool_receive_burst(hk_pool *pool, size_t ring, uint32_t *numbers, size_t n, hk_relax relax) {
     int64_t code = hk_pool_try_receive_burst(pool, ring, numbers, n);
@@ -172,11 +173,11 @@ static inline int64_t hk_fib_settle_wait(hk_fib *fib, hk_relax relax) {
     return code;
 }
 
-/* Publishes all prepared changes, once the last version is settled. */
+/* Publishes all prepared changes, once the last version is settled. HK_E_MEMORY: it couldn't be settled, or nothing was
+ * published. */
 static inline int64_t hk_fib_publish_wait(hk_fib *fib, hk_relax relax) {
-    int64_t code = hk_fib_publish(fib);
-    HK_UNTIL(code, code == HK_E_PENDING, relax, hk_fib_publish(fib));
-    return code;
+    int64_t code = hk_fib_settle_wait(fib, relax);
+    return code < 0 ? code : hk_fib_publish(fib);
 }
 
 #undef HK_UNTIL

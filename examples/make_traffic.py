@@ -15,7 +15,7 @@ import sys
 from typing import NamedTuple
 
 ROOM = 64  # as in router.toml
-MOST = 64 * ROOM  # the longest record that isn't oversize
+MAX_RECORD = 64 * ROOM  # the longest record that isn't oversize
 SNAPLEN = 96  # how many bytes a capture that cuts its records keeps of each
 
 IPV4, IPV6, ARP, TAG = 0x0800, 0x86DD, 0x0806, 0x8100
@@ -180,13 +180,13 @@ def cut_and_tagged(dice):
 def as_long_as_may_be(dice):
     """Sent: a record of 64 * room bytes."""
     line, to = way(dice)
-    return whole(frame(packet(dice, to, MOST - 14)), line)
+    return whole(frame(packet(dice, to, MAX_RECORD - 14)), line)
 
 
 def cut_to_the_most(dice):
     """Sent: a jumbo frame of which 64 * room bytes were captured."""
     line, to = way(dice)
-    return cut(frame(packet(dice, to, 8986)), MOST, line)
+    return cut(frame(packet(dice, to, 8986)), MAX_RECORD, line)
 
 
 # Frames that are left out or dropped, by the lines of the report
@@ -195,7 +195,7 @@ def cut_to_the_most(dice):
 def oversize(dice):
     """`oversize`: a record of more than 64 * room bytes, whatever its frame contains."""
     _, to = way(dice)
-    return whole(frame(packet(dice, to, dice.between(MOST + 1, MOST + 900) - 14)), "oversize")
+    return whole(frame(packet(dice, to, dice.between(MAX_RECORD + 1, MAX_RECORD + 900) - 14)), "oversize")
 
 
 def cut_in_the_addresses(dice):

@@ -6,7 +6,7 @@
 #include <sys/wait.h>
 #include <unistd.h>
 
-#define MOST 262144
+#define MAX_CAPTURED 262144
 
 static inline void fail(const char *what)
 {
@@ -31,7 +31,7 @@ static inline void file_header(uint8_t *header)
 	memset(header, 0, 24);
 	put(header, 0xa1b2c3d4);
 	put(header + 4, 0x00040002);
-	put(header + 16, MOST);
+	put(header + 16, MAX_CAPTURED);
 	put(header + 20, 1);
 }
 

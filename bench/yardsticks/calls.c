@@ -12,7 +12,7 @@
 #include <rte_ring.h>
 
 #define SLOTS 1024
-#define MOST 128
+#define MAX_WORDS 128
 #define WARM 20000
 #define CHUNK 2000
 #define LAP 64
@@ -62,8 +62,8 @@ static void laps_alone(enum mode mode, void **table)
 static void alone(void)
 {
 	static const unsigned sizes[] = { 1, 8, 32, 128 };
-	void *table[MOST];
-	for (unsigned i = 0; i < MOST; i++) table[i] = (void *)(uintptr_t)(i + 1);
+	void *table[MAX_WORDS];
+	for (unsigned i = 0; i < MAX_WORDS; i++) table[i] = (void *)(uintptr_t)(i + 1);
 	for (enum mode mode = MULTI; mode <= SINGLE; mode++) laps_alone(mode, table);
 	for (int hts = 0; hts < 2; hts++)
 		for (unsigned s = 0; s < sizeof sizes / sizeof *sizes; s++) {
@@ -92,7 +92,7 @@ static void pin(unsigned cpu)
 static void *produce(void *given)
 {
 	struct job *job = given;
-	void *table[MOST];
+	void *table[MAX_WORDS];
 	uint64_t next = 0, sum = 0;
 	pin(job->cpu);
 	for (unsigned long i = 0; i < job->calls; i++) {
@@ -109,7 +109,7 @@ static void *produce(void *given)
 static void *consume(void *given)
 {
 	struct job *job = given;
-	void *table[MOST];
+	void *table[MAX_WORDS];
 	uint64_t sum = 0;
 	pin(job->cpu);
 	for (unsigned long i = 0; i < job->calls; i++) {
@@ -150,7 +150,7 @@ static enum mode mode_of(const char *name)
 int main(int argc, char **argv)
 {
 	if (argc == 2 && !strcmp(argv[1], "alone")) alone();
-	else if (argc == 6 && !strcmp(argv[1], "threads") && atoi(argv[3]) <= 4 && atoi(argv[4]) <= MOST)
+	else if (argc == 6 && !strcmp(argv[1], "threads") && atoi(argv[3]) <= 4 && atoi(argv[4]) <= MAX_WORDS)
 		threads(mode_of(argv[2]), atoi(argv[3]), atoi(argv[4]), strtoul(argv[5], NULL, 10));
 	else return 2;
 	return 0;

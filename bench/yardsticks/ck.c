@@ -4,7 +4,7 @@
 #include <ck_ring.h>
 
 #define SLOTS 1024
-#define MOST 128
+#define MAX_WORDS 128
 #define CHUNK 2000
 
 static __attribute__((noinline)) void turns(ck_ring_t *ring, ck_ring_buffer_t *buffer, void **table, unsigned n,
@@ -23,8 +23,8 @@ int main(void)
 	static const unsigned sizes[] = { 1, 8, 32, 128 };
 	static ck_ring_buffer_t buffer[SLOTS];
 	static ck_ring_t ring;
-	void *table[MOST];
-	for (unsigned i = 0; i < MOST; i++) table[i] = (void *)(uintptr_t)(i + 1);
+	void *table[MAX_WORDS];
+	for (unsigned i = 0; i < MAX_WORDS; i++) table[i] = (void *)(uintptr_t)(i + 1);
 	ck_ring_init(&ring, SLOTS);
 	for (unsigned s = 0; s < sizeof sizes / sizeof *sizes; s++) {
 		unsigned n = sizes[s];

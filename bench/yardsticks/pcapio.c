@@ -10,7 +10,7 @@
 
 #define ROOM 65536
 
-static uint8_t bytes[MOST];
+static uint8_t bytes[MAX_CAPTURED];
 
 static FILE *opened(const char *path, const char *mode, char *room)
 {
@@ -47,7 +47,7 @@ static void plain(const char *from, const char *to)
 	fwrite(header, 24, 1, out);
 	while (fread(header, 16, 1, in) == 1) {
 		uint32_t captured = field(header + 8), wire = field(header + 12);
-		if (captured > MOST) fail("captured");
+		if (captured > MAX_CAPTURED) fail("captured");
 		if (captured && fread(bytes, captured, 1, in) != 1) break;
 		put(header + 12, wire < captured ? captured : wire);
 		if (fwrite(header, 16, 1, out) != 1) fail(to);

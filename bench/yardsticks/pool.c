@@ -8,7 +8,7 @@
 
 #define BUFFERS 8191
 #define CACHE 32
-#define MOST 32
+#define MAX_ITEMS 32
 #define WARM 20000
 #define CHUNK 2000
 
@@ -22,7 +22,7 @@ static void lost(void)
 
 static __attribute__((noinline)) void turns(unsigned n, unsigned long count)
 {
-	void *table[MOST];
+	void *table[MAX_ITEMS];
 	for (unsigned long i = 0; i < count; i++) {
 		if (n == 1) {
 			if (rte_mempool_get(pool, table)) lost();

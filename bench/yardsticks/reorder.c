@@ -6,12 +6,12 @@
 #include <rte_reorder.h>
 
 #define WINDOW 1024
-#define MOST 256
+#define MAX_ITEMS 256
 #define BURST 32
 
 static struct rte_reorder_buffer *window;
-static struct rte_mbuf *packets[MOST], *drained[MOST];
-static unsigned order[MOST];
+static struct rte_mbuf *packets[MAX_ITEMS], *drained[MAX_ITEMS];
+static unsigned order[MAX_ITEMS];
 static uint32_t next;
 
 static void fail(const char *what)
@@ -52,7 +52,7 @@ static void measure(struct rte_mempool *pool, const char *name, unsigned span, i
 	for (unsigned j = 0; j < span; j++) order[j] = j;
 	if (shuffled) shuffle(span);
 	rte_reorder_reset(window);
-	for (int j = 0; j < MOST; j++) packets[j] = rte_pktmbuf_alloc(pool);
+	for (int j = 0; j < MAX_ITEMS; j++) packets[j] = rte_pktmbuf_alloc(pool);
 	/* the first number sets where the window begins */
 	next = 0;
 	*rte_reorder_seqn(packets[0]) = next++;
@@ -60,7 +60,7 @@ static void measure(struct rte_mempool *pool, const char *name, unsigned span, i
 	rte_reorder_drain(window, drained, 1);
 	TIMED(ns, span, turn(span););
 	report(name, ns, "ns/packet");
-	rte_pktmbuf_free_bulk(packets, MOST);
+	rte_pktmbuf_free_bulk(packets, MAX_ITEMS);
 }
 
 int main(int argc, char **argv)

@@ -14,7 +14,7 @@
 
 #define SLOTS 1024
 #define CAPACITY 1023
-#define MOST 256
+#define MAX_ITEMS 256
 #define WARM 20000
 #define CHUNK 2000
 
@@ -152,14 +152,14 @@ static struct rte_ring *new_rte(const char *name, unsigned flags)
 
 int main(int argc, char **argv)
 {
-	void *table[MOST];
+	void *table[MAX_ITEMS];
 	int passed = rte_eal_init(argc, argv);
 	if (passed < 0) return 1;
 	if (argc - passed > 2) {
 		only = argv[passed + 1];
 		only_turns = strtoul(argv[passed + 2], NULL, 10);
 	}
-	for (unsigned i = 0; i < MOST; i++) table[i] = malloc(sizeof(uint64_t));
+	for (unsigned i = 0; i < MAX_ITEMS; i++) table[i] = malloc(sizeof(uint64_t));
 	struct plain *plain = new_plain(), *plain_hts = new_plain();
 	struct rte_ring *rte = new_rte("multi", 0);
 	struct rte_ring *rte_hts = new_rte("hts", RING_F_MP_HTS_ENQ | RING_F_MC_HTS_DEQ);

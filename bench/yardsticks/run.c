@@ -128,7 +128,7 @@ static void make(const char *path, unsigned records, unsigned count)
 
 /* The run */
 
-struct input { int file; size_t have, at; int ended; uint8_t bytes[READ_ROOM + MOST + 16]; };
+struct input { int file; size_t have, at; int ended; uint8_t bytes[READ_ROOM + MAX_CAPTURED + 16]; };
 struct port { int file; size_t length; uint64_t records; uint8_t bytes[WRITE_ROOM]; };
 
 static struct input in;
@@ -196,7 +196,7 @@ static void forward(unsigned count, const char *from, const char *prefix)
 		uint8_t *record = in.bytes + in.at;
 		uint32_t captured = field(record + 8), wire = field(record + 12), to, hop = 0;
 		unsigned at = 0;
-		if (captured > MOST) fail("captured");
+		if (captured > MAX_CAPTURED) fail("captured");
 		if (!fill(16 + captured)) break;
 		record = in.bytes + in.at;
 		in.at += 16 + captured;

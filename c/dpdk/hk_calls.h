@@ -1,7 +1,7 @@
 /* Puts and takes as DPDK's calls make them: each goes on until it is done or there is too little room or too few words,
  * and so it may wait for a call of another thread that isn't finished yet.
  *
- * One call on a head/tail-sync side moves HK_MOST words at most, so longer ones are made of pieces here. */
+ * One call on a head/tail-sync side moves HK_MAX_WORDS words at most, so longer ones are made of pieces here. */
 #ifndef HK_CALLS_H
 #define HK_CALLS_H 1
 
@@ -54,11 +54,11 @@ static __rte_always_inline int64_t hk_take_one(hk_hand *hand, uint64_t *word) {
     return likely(code >= 0) ? code : hk_take_on(hand, word, 1, 1, code);
 }
 
-/* Puts n words, any number, in pieces of HK_MOST. Returns how many were put: fewer if a piece found too little room.
- * Words of other threads may come between two pieces. */
+/* Puts n words, any number, in pieces of HK_MAX_WORDS. Returns how many were put: fewer if a piece found too little
+ * room. Words of other threads may come between two pieces. */
 static inline size_t hk_put_pieces(hk_hand *hand, const uint64_t *words, size_t n) {
     for (size_t done = 0; done < n;) {
-        int64_t count = hk_put(hand, words + done, RTE_MIN(n - done, (size_t)HK_MOST), 1);
+        int64_t count = hk_put(hand, words + done, RTE_MIN(n - done, (size_t)HK_MAX_WORDS), 1);
         if (count < 0) return done;
         done += (size_t)count;
     }
@@ -67,7 +67,7 @@ static inline size_t hk_put_pieces(hk_hand *hand, const uint64_t *words, size_t 
 
 static inline size_t hk_take_pieces(hk_hand *hand, uint64_t *words, size_t n) {
     for (size_t done = 0; done < n;) {
-        int64_t count = hk_take(hand, words + done, RTE_MIN(n - done, (size_t)HK_MOST), 1);
+        int64_t count = hk_take(hand, words + done, RTE_MIN(n - done, (size_t)HK_MAX_WORDS), 1);
         if (count < 0) return done;
         done += (size_t)count;
     }

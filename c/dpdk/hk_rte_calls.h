@@ -22,7 +22,7 @@ static __rte_always_inline unsigned int hkr_elements(int64_t count) {
 /* How many elements are in one piece of a call on a side: fewer if they are copied to words. A multi side moves all. */
 static inline size_t hkr_piece(const struct rte_ring *r, enum rte_ring_sync_type sync, const void *table) {
     if (!r->elements && !hkr_is_words(r, table)) return HKR_PIECE;
-    return hkr_mode(r, sync) == HK_MULTI ? HK_MOST_ON_MULTI : HK_MOST;
+    return hkr_mode(r, sync) == HK_MULTI ? HK_MAX_WORDS_MULTI : HK_MAX_WORDS;
 }
 
 static inline int64_t hkr_put_piece(struct rte_ring *r, hk_hand *hand, const void *table, size_t n, int bulk) {
@@ -118,13 +118,13 @@ static __rte_noinline unsigned int hkr_take_otherwise(struct rte_ring *r, void *
  * or none. */
 static __rte_always_inline int hkr_is_usual(const struct rte_ring *r, const hk_hand *hand, const void *table,
                                             unsigned int esize, unsigned int n) {
-    return likely(hand != NULL && esize == r->esize && hkr_is_words(r, table) && n - 1 < HK_MOST);
+    return likely(hand != NULL && esize == r->esize && hkr_is_words(r, table) && n - 1 < HK_MAX_WORDS);
 }
 
 /* Whether one peek of the library does: for elements that have places. */
 static __rte_always_inline int hkr_is_placed(const struct rte_ring *r, const hk_hand *hand, unsigned int esize,
                                              unsigned int n) {
-    return esize != sizeof(uint64_t) && hand != NULL && esize == r->esize && n - 1 < HK_MOST;
+    return esize != sizeof(uint64_t) && hand != NULL && esize == r->esize && n - 1 < HK_MAX_WORDS;
 }
 
 static __rte_noinline unsigned int hkr_put_placed(struct rte_ring *r, hk_hand *hand, const void *table, unsigned int n,

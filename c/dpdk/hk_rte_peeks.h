@@ -1,5 +1,5 @@
-/* rte_ring's peeks, part of hokhtura_rte.h. A peek of more than HK_MOST elements is refused if it is a bulk, and has
- * fewer if it is a burst. Zero copy shows the places of elements that have places. Words are on an array beside the
+/* rte_ring's peeks, part of hokhtura_rte.h. A peek of more than HK_MAX_WORDS elements is refused if it is a bulk, and
+ * has fewer if it is a burst. Zero copy shows the places of elements that have places. Words are on an array beside the
  * ring, and so are copied once. */
 #ifndef HK_RTE_PEEKS_H
 #define HK_RTE_PEEKS_H 1
@@ -18,7 +18,7 @@ struct rte_ring_zc_data {
 static inline size_t hkr_peeked(const struct rte_ring *r, enum rte_ring_sync_type sync, unsigned int esize,
                                 unsigned int n, int bulk) {
     if (esize != r->esize || !hkr_peeks(sync)) return 0;
-    return n <= HK_MOST ? n : bulk ? 0 : HK_MOST;
+    return n <= HK_MAX_WORDS ? n : bulk ? 0 : HK_MAX_WORDS;
 }
 
 static inline unsigned int hkr_peek_put(struct rte_ring *r, unsigned int esize, unsigned int n, int bulk,

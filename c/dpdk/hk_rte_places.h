@@ -32,7 +32,7 @@ static inline void hkr_has_reserved(struct rte_ring *r) { (void)r; }
 static inline void hkr_finishes(struct rte_ring *r) { (void)r; }
 #endif
 
-/* Reserves positions for n elements, 1 to HK_MOST, and goes on while another thread has some. Returns how many. */
+/* Reserves positions for n elements, 1 to HK_MAX_WORDS, and goes on while another thread has some. Returns how many. */
 static inline int64_t hkr_reserve_put(struct rte_ring *r, hk_hand *hand, size_t n, int bulk) {
     int64_t count;
     while ((count = bulk ? hk_ring_peek_put_bulk(hand, 0, n) : hk_ring_peek_put_burst(hand, 0, n)) == HK_E_AGAIN)
@@ -80,7 +80,7 @@ static inline void hkr_put_places(struct rte_ring *r, hk_hand *hand, size_t n) {
     (void)!hk_ring_finish_put(hand, r->places + place, n);
 }
 
-/* Puts n elements, 1 to HK_MOST. Returns how many, or a code. */
+/* Puts n elements, 1 to HK_MAX_WORDS. Returns how many, or a code. */
 static inline int64_t hkr_put_elements(struct rte_ring *r, hk_hand *hand, const void *table, size_t n, int bulk) {
     int64_t count = hkr_reserve_put(r, hand, n, bulk);
     if (count <= 0) return count;

@@ -68,7 +68,7 @@ struct hkr_side {
     pthread_mutex_t of_long; /* bulks of several pieces, one at a time: two would wait for what the other one has */
     uint64_t open;  /* of a put side: how many positions its peek has */
     uint64_t next;  /* of a put side: the place of the next element, if elements have places */
-    uint64_t *room; /* HK_MOST words, or null on a multi side */
+    uint64_t *room; /* HK_MAX_WORDS words, or null on a multi side */
 };
 
 struct rte_ring {
@@ -123,7 +123,7 @@ static inline struct hkr_side *hkr_side_open(hk_hand *first, uint32_t mode) {
     struct hkr_side *side = (struct hkr_side *)hkr_memory(sizeof *side);
     if (!side) return NULL;
     side->open = side->next = 0;
-    side->room = mode == HK_HTS ? (uint64_t *)hkr_memory(HK_MOST * sizeof(uint64_t)) : NULL;
+    side->room = mode == HK_HTS ? (uint64_t *)hkr_memory(HK_MAX_WORDS * sizeof(uint64_t)) : NULL;
     if ((side->room || mode != HK_HTS) && hk_hands_open(&side->hands, first)) {
         pthread_mutex_init(&side->of_long, NULL);
         return side;
@@ -159,7 +159,7 @@ static inline int hkr_sides_open(struct rte_ring *r) {
 
 /* The places of elements that aren't words. The numbers of a call's places go on after the last one. */
 static inline int hkr_places_open(struct rte_ring *r) {
-    size_t numbers = r->capacity + RTE_MIN(r->capacity, (uint32_t)HK_MOST);
+    size_t numbers = r->capacity + RTE_MIN(r->capacity, (uint32_t)HK_MAX_WORDS);
     r->elements = (char *)hkr_memory((size_t)r->capacity * r->esize);
     r->places = (uint64_t *)hkr_memory(numbers * sizeof(uint64_t));
     for (size_t i = 0; i < numbers && r->places; i++) r->places[i] = i % r->capacity;

@@ -169,12 +169,17 @@ static inline int rte_lpm_rcu_qsbr_add(struct rte_lpm *lpm, struct rte_lpm_rcu_c
 
 /* ---- Changes ------------------------------------------------------------------------------------------------------*/
 
-#define HKL_UNTIL_SETTLED(code, call) \
-    while (((code) = (call)) == HK_E_PENDING) rte_pause()
+/* Settles the last version, once no lookup uses the one before: then changes can be made. HK_OK or HK_E_MEMORY. */
+static inline int64_t hkl_settle(struct rte_lpm *lpm) {
+    int64_t code;
+    while ((code = hk_fib_settle(lpm->fib)) == HK_E_PENDING) rte_pause();
+    return code;
+}
 
-/* Publishes the prepared changes, or prepares none. Returns DPDK's code. */
+/* Publishes the change that a call with this code prepared. Returns DPDK's code. At -ENOMEM the change may be prepared:
+ * then it is published with the next one. */
 static inline int hkl_publish(struct rte_lpm *lpm, int64_t code) {
-    if (code >= 0) HKL_UNTIL_SETTLED(code, hk_fib_publish(lpm->fib));
+    if (code >= 0) code = hk_fib_publish(lpm->fib);
     if (code >= 0) return 0;
     return code == HK_E_DEPTH || code == HK_E_HOP || code == HK_E_NOROUTE ? -EINVAL
            : code == HK_E_MEMORY                                          ? -ENOMEM
@@ -182,38 +187,36 @@ static inline int hkl_publish(struct rte_lpm *lpm, int64_t code) {
 }
 
 static inline int rte_lpm_add(struct rte_lpm *lpm, uint32_t ip, uint8_t depth, uint32_t next_hop) {
-    int64_t code = HK_E_GROUPS;
     if (!lpm) return -EINVAL;
     pthread_mutex_lock(&lpm->lock);
-    if (hk_fib_count(lpm->fib) < lpm->max_rules || hk_fib_get(lpm->fib, ip, depth) != HK_E_NOROUTE)
-        HKL_UNTIL_SETTLED(code, hk_fib_add(lpm->fib, ip, depth, next_hop));
+    int is_full = hk_fib_count(lpm->fib) >= lpm->max_rules && hk_fib_get(lpm->fib, ip, depth) == HK_E_NOROUTE;
+    int64_t code = is_full ? HK_E_GROUPS : hkl_settle(lpm);
+    if (code >= 0) code = hk_fib_add(lpm->fib, ip, depth, next_hop);
     int answer = hkl_publish(lpm, code);
     pthread_mutex_unlock(&lpm->lock);
     return answer;
 }
 
 static inline int rte_lpm_delete(struct rte_lpm *lpm, uint32_t ip, uint8_t depth) {
-    int64_t code;
     if (!lpm) return -EINVAL;
     pthread_mutex_lock(&lpm->lock);
-    HKL_UNTIL_SETTLED(code, hk_fib_remove(lpm->fib, ip, depth));
+    int64_t code = hkl_settle(lpm);
+    if (code >= 0) code = hk_fib_remove(lpm->fib, ip, depth);
     int answer = hkl_publish(lpm, code);
     pthread_mutex_unlock(&lpm->lock);
     return answer;
 }
 
-/* rte_lpm's has no result. Without memory the routes stay: rte_errno says so. */
+/* rte_lpm's has no result. Without memory rte_errno says so, and the routes stay until the next change at least. */
 static inline void rte_lpm_delete_all(struct rte_lpm *lpm) {
-    int64_t code;
     if (!lpm) return;
     pthread_mutex_lock(&lpm->lock);
-    HKL_UNTIL_SETTLED(code, hk_fib_clear(lpm->fib));
+    int64_t code = hkl_settle(lpm);
+    if (code >= 0) code = hk_fib_clear(lpm->fib);
     int answer = hkl_publish(lpm, code);
     pthread_mutex_unlock(&lpm->lock);
     if (answer < 0) rte_errno = -answer;
 }
-
-#undef HKL_UNTIL_SETTLED
 
 /* ---- Lookups ------------------------------------------------------------------------------------------------------*/
 

@@ -34,7 +34,7 @@ extern "C" {
 typedef uint32_t rte_reorder_seqn_t;
 
 /* The largest window of the library. */
-#define HKO_MOST 65536
+#define HKO_MAX_SIZE 65536
 
 struct rte_reorder_buffer {
     char name[RTE_REORDER_NAMESIZE];
@@ -71,7 +71,7 @@ static inline struct rte_reorder_buffer *rte_reorder_init(struct rte_reorder_buf
                                                           const char *name, unsigned int size) {
     static const struct rte_mbuf_dynfield field = {"rte_reorder_seqn_dynfield", sizeof(rte_reorder_seqn_t),
                                                    __alignof__(rte_reorder_seqn_t), 0};
-    if (!b || !name || !rte_is_power_of_2(size) || size > HKO_MOST || bufsize < hko_bytes(size)) {
+    if (!b || !name || !rte_is_power_of_2(size) || size > HKO_MAX_SIZE || bufsize < hko_bytes(size)) {
         rte_errno = EINVAL;
         return NULL;
     }
@@ -121,7 +121,7 @@ static inline struct rte_reorder_buffer *hko_create(const char *name, unsigned i
 /* A buffer of this name that is there already is returned, as by rte_reorder. */
 static inline struct rte_reorder_buffer *rte_reorder_create(const char *name, unsigned socket_id, unsigned int size) {
     (void)socket_id;
-    if (!name || !rte_is_power_of_2(size) || size > HKO_MOST) {
+    if (!name || !rte_is_power_of_2(size) || size > HKO_MAX_SIZE) {
         rte_errno = EINVAL;
         return NULL;
     }
@@ -175,7 +175,7 @@ static inline unsigned int rte_reorder_drain(struct rte_reorder_buffer *b, struc
     unsigned int n = 0;
     for (; n < max_mbufs && b->waiting > 0; b->waiting--) mbufs[n++] = b->queue[b->first++ % b->size];
     while (n < max_mbufs) {
-        size_t most = RTE_MIN(max_mbufs - n, (unsigned int)HK_MOST);
+        size_t most = RTE_MIN(max_mbufs - n, (unsigned int)HK_MAX_WORDS);
         int64_t count = hk_reorder_drain(b->window, (uint64_t *)(void *)(mbufs + n), most);
         if (count > 0) n += (unsigned int)count;
         if (count < (int64_t)most) break;

@@ -26,7 +26,7 @@ _Static_assert(sizeof(void *) == sizeof(uint64_t), "a pointer is a word");
 #define SAY(level, ...) RTE_LOG(level, MEMPOOL, "hokhtura: " __VA_ARGS__)
 
 /* The most objects: one slot of 2^20 stays free. */
-#define MOST_OBJECTS ((1u << 20) - 1)
+#define MAX_OBJECTS ((1u << 20) - 1)
 
 /* The rings of this process by their numbers. There are no more mempools than memzones. A mempool whose ring was
  * refused has the number 0, and is freed with it. */
@@ -85,8 +85,8 @@ static int make(struct rte_mempool *mp, uint32_t mode) {
         SAY(ERR, "%s: a secondary process can't make a mempool\n", mp->name);
         return -E_RTE_SECONDARY;
     }
-    if (mp->size > MOST_OBJECTS) {
-        SAY(ERR, "%s: %u objects, and a ring holds %u\n", mp->name, mp->size, MOST_OBJECTS);
+    if (mp->size > MAX_OBJECTS) {
+        SAY(ERR, "%s: %u objects, and a ring holds %u\n", mp->name, mp->size, MAX_OBJECTS);
         return -EINVAL;
     }
     struct hk_handles *hands = rte_zmalloc_socket("hokhtura", sizeof *hands, RTE_CACHE_LINE_SIZE, mp->socket_id);

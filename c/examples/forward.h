@@ -6,7 +6,7 @@ void send_to(size_t port, const hk_frame *frame);
 void answer(size_t port, const hk_frame *frame, uint32_t drop);
 
 static void forward(hk_forward *forward, size_t port, hk_frame *frames, size_t n) {
-    uint32_t verdicts[HK_FORWARD_MOST];
+    uint32_t verdicts[HK_MAX_FRAMES];
     size_t left = 0;
     for (size_t i = 0; i < n; i++) {
         int64_t to = hk_forward_class(forward, port, frames[i].bytes, frames[i].held);

@@ -3,8 +3,8 @@
 
 #include <string.h>
 
-static uint64_t words[HK_MOST + 1];
-static uint64_t out[HK_MOST + 1];
+static uint64_t words[HK_MAX_WORDS + 1];
+static uint64_t out[HK_MAX_WORDS + 1];
 
 static void mark(void) {
     memset(out, 0xff, sizeof out);
@@ -20,14 +20,14 @@ static void plans(uint32_t put, uint32_t take) {
     IS(hk_hand_open(NULL, &good, 1), HK_E_NULL);
     IS(hk_hand_open(&hand, NULL, 1), HK_E_NULL);
     IS(hk_hand_open(&hand, &good, 0), HK_E_PLAN);
-    IS(hk_hand_open(&hand, &good, HK_MOST_RINGS + 1), HK_E_PLAN);
+    IS(hk_hand_open(&hand, &good, HK_MAX_RINGS + 1), HK_E_PLAN);
     for (size_t i = 0; i < sizeof bad / sizeof *bad; i++) IS(hk_hand_open(&hand, &bad[i], 1), HK_E_PLAN);
     IS(hand == NULL, 1);
-    hk_ring_plan many[HK_MOST_RINGS];
-    for (size_t i = 0; i < HK_MOST_RINGS; i++) many[i] = good;
-    IS(hk_hand_open(&hand, many, HK_MOST_RINGS), HK_OK);
-    IS(hk_ring_try_put_bulk(hand, HK_MOST_RINGS - 1, words, 7), 7);
-    IS(hk_ring_count(hand, HK_MOST_RINGS - 1), 7);
+    hk_ring_plan many[HK_MAX_RINGS];
+    for (size_t i = 0; i < HK_MAX_RINGS; i++) many[i] = good;
+    IS(hk_hand_open(&hand, many, HK_MAX_RINGS), HK_OK);
+    IS(hk_ring_try_put_bulk(hand, HK_MAX_RINGS - 1, words, 7), 7);
+    IS(hk_ring_count(hand, HK_MAX_RINGS - 1), 7);
     IS(hk_ring_count(hand, 0), 0);
     hk_hand_free(hand);
     hk_hand_free(NULL);
@@ -40,15 +40,15 @@ static void refusals(hk_hand *hand, uint32_t put, uint32_t take) {
     IS(hk_ring_try_put_bulk(hand, SIZE_MAX, words, 1), HK_E_RING);
     IS(hk_ring_try_put_bulk(hand, 0, words, 0), HK_E_COUNT);
     IS(hk_ring_try_put_bulk(hand, 0, NULL, 0), HK_E_COUNT);
-    IS(hk_ring_try_put_bulk(hand, 0, words, HK_MOST + 1), put == HK_HTS ? HK_E_COUNT : HK_E_NOROOM);
-    IS(hk_ring_try_put_bulk(hand, 0, words, HK_MOST_ON_MULTI + 1), HK_E_COUNT);
+    IS(hk_ring_try_put_bulk(hand, 0, words, HK_MAX_WORDS + 1), put == HK_HTS ? HK_E_COUNT : HK_E_NOROOM);
+    IS(hk_ring_try_put_bulk(hand, 0, words, HK_MAX_WORDS_MULTI + 1), HK_E_COUNT);
     IS(hk_ring_try_put_bulk(hand, 0, words, SIZE_MAX), HK_E_COUNT);
     IS(hk_ring_try_take_bulk(NULL, 0, out, 1), HK_E_NULL);
     IS(hk_ring_try_take_bulk(hand, 0, NULL, 1), HK_E_NULL);
     IS(hk_ring_try_take_bulk(hand, 2, out, 1), HK_E_RING);
     IS(hk_ring_try_take_bulk(hand, 0, out, 0), HK_E_COUNT);
-    IS(hk_ring_try_take_burst(hand, 0, out, HK_MOST + 1), take == HK_HTS ? HK_E_COUNT : HK_E_NOROOM);
-    IS(hk_ring_try_take_burst(hand, 0, out, HK_MOST_ON_MULTI + 1), HK_E_COUNT);
+    IS(hk_ring_try_take_burst(hand, 0, out, HK_MAX_WORDS + 1), take == HK_HTS ? HK_E_COUNT : HK_E_NOROOM);
+    IS(hk_ring_try_take_burst(hand, 0, out, HK_MAX_WORDS_MULTI + 1), HK_E_COUNT);
     IS(hk_ring_finish_put(hand, words, 1), HK_E_NOTOPEN);
     IS(hk_ring_finish_take(hand, 1), HK_E_NOTOPEN);
     IS(hk_hand_drain(hand, 0, out, 1), HK_E_KIND);
@@ -156,7 +156,7 @@ static void the_end(hk_hand *hand) {
     IS(hk_hand_close(hand), HK_E_KIND);
     IS(hk_hand_span(hand), HK_E_KIND);
     IS(hk_hand_drain(hand, 2, out, 16), HK_E_RING);
-    IS(hk_hand_drain(hand, 0, out, HK_MOST + 1), HK_E_COUNT);
+    IS(hk_hand_drain(hand, 0, out, HK_MAX_WORDS + 1), HK_E_COUNT);
     IS(hk_hand_drain(hand, 1, out, 16), 0);
     mark();
     IS(hk_hand_drain(hand, 0, out, 1), 1);
@@ -179,9 +179,9 @@ static void rings(uint32_t put, uint32_t take) {
     hk_hand_free(hand);
 }
 
-/* On multi sides a call moves up to what the ring holds; on a head/tail-sync side HK_MOST words. */
+/* On multi sides a call moves up to what the ring holds; on a head/tail-sync side HK_MAX_WORDS words. */
 static void calls_of_a_ring(void) {
-    enum { HOLDS = 3 * HK_MOST };
+    enum { HOLDS = 3 * HK_MAX_WORDS };
     static uint64_t in[HOLDS + 1], got[HOLDS + 1];
     hk_hand *hand = NULL;
     hk_ring_plan plans[2] = {{HOLDS, 1, HK_MULTI, HK_MULTI, 0, 0}, {HOLDS, 1, HK_HTS, HK_MULTI, 0, 0}};
@@ -197,8 +197,9 @@ static void calls_of_a_ring(void) {
         IS(memcmp(got, in, HOLDS * sizeof *in), 0), IS(got[HOLDS], -1);
         IS(hk_ring_try_put_bulk(hand, 0, in, 5), 5), IS(hk_ring_try_take_bulk(hand, 0, got, 5), 5);
     }
-    IS(hk_ring_try_put_burst(hand, 1, in, HK_MOST + 1), HK_E_COUNT);
-    for (int turn = 0; turn < 3; turn++) IS(hk_ring_try_put_bulk(hand, 1, in + turn * HK_MOST, HK_MOST), HK_MOST);
+    IS(hk_ring_try_put_burst(hand, 1, in, HK_MAX_WORDS + 1), HK_E_COUNT);
+    for (int turn = 0; turn < 3; turn++)
+        IS(hk_ring_try_put_bulk(hand, 1, in + turn * HK_MAX_WORDS, HK_MAX_WORDS), HK_MAX_WORDS);
     IS(hk_ring_try_take_bulk(hand, 1, got, HOLDS), HOLDS), IS(memcmp(got, in, HOLDS * sizeof *in), 0);
     hk_hand_free(hand);
 }
@@ -208,16 +209,16 @@ static void long_calls(void) {
     hk_hand *hand = NULL;
     hk_ring_plan plan = {6000, 1, HK_MULTI, HK_MULTI, 0, 0};
     IS(hk_hand_open(&hand, &plan, 1), HK_OK);
-    for (uint64_t i = 0; i <= HK_MOST; i++) words[i] = i * 0x9e3779b97f4a7c15u;
+    for (uint64_t i = 0; i <= HK_MAX_WORDS; i++) words[i] = i * 0x9e3779b97f4a7c15u;
     for (int turn = 0; turn < 5; turn++) {
         mark();
-        IS(hk_ring_try_put_bulk(hand, 0, words, HK_MOST), HK_MOST);
-        IS(hk_ring_try_take_burst(hand, 0, out, HK_MOST), HK_MOST);
-        IS(memcmp(out, words, HK_MOST * sizeof *words), 0);
-        IS(out[HK_MOST], -1);
+        IS(hk_ring_try_put_bulk(hand, 0, words, HK_MAX_WORDS), HK_MAX_WORDS);
+        IS(hk_ring_try_take_burst(hand, 0, out, HK_MAX_WORDS), HK_MAX_WORDS);
+        IS(memcmp(out, words, HK_MAX_WORDS * sizeof *words), 0);
+        IS(out[HK_MAX_WORDS], -1);
     }
-    IS(hk_ring_try_put_bulk(hand, 0, words, HK_MOST), HK_MOST);
-    IS(hk_ring_try_put_burst(hand, 0, words, HK_MOST), 6000 - HK_MOST);
+    IS(hk_ring_try_put_bulk(hand, 0, words, HK_MAX_WORDS), HK_MAX_WORDS);
+    IS(hk_ring_try_put_burst(hand, 0, words, HK_MAX_WORDS), 6000 - HK_MAX_WORDS);
     hk_hand_free(hand);
 }
 
@@ -331,7 +332,7 @@ static void reorder(void) {
     IS(hk_reorder_insert(window, 2, 12), HK_OK);
     IS(hk_reorder_insert(window, 4, 14), HK_OK);
     mark();
-    IS(hk_reorder_drain(window, out, HK_MOST + 1), HK_E_COUNT);
+    IS(hk_reorder_drain(window, out, HK_MAX_WORDS + 1), HK_E_COUNT);
     IS(hk_reorder_drain(window, out, 8), 2), IS(out[0], 11), IS(out[1], 12), IS(out[2], -1);
     IS(hk_reorder_next(window, &next), HK_OK), IS(next, 3);
     IS(hk_reorder_skip(window, 9), HK_OK);
@@ -352,7 +353,7 @@ static void texts(void) {
 }
 
 int main(void) {
-    for (uint64_t i = 0; i <= HK_MOST; i++) words[i] = 100 + i;
+    for (uint64_t i = 0; i <= HK_MAX_WORDS; i++) words[i] = 100 + i;
     for (uint32_t pair = 0; pair < 4; pair++) rings(pair & 1, pair >> 1);
     freed_while_putting();
     freed_while_taking();

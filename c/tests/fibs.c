@@ -10,7 +10,7 @@
 #include <stdlib.h>
 #include <string.h>
 
-enum { CALLS = 20000, MOST_ROUTES = 4096, READERS = 3, BURST = 32 };
+enum { CALLS = 20000, MAX_ROUTES = 4096, READERS = 3, BURST = 32 };
 
 /* splitmix64 */
 static uint64_t state = 1;
@@ -25,7 +25,7 @@ static uint64_t below(uint64_t n) {
 /* ---- Beside a list ---- */
 
 struct list {
-    hk_fib_route routes[MOST_ROUTES];
+    hk_fib_route routes[MAX_ROUTES];
     size_t n;
 };
 

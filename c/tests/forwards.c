@@ -66,8 +66,8 @@ static void each_alone(hk_forward *forward) {
 
 /* Forwards n rows from one on in one burst. Returns how many things are wrong. */
 static int burst(hk_forward *forward, size_t first, size_t n) {
-    hk_frame frames[HK_FORWARD_MOST] = {{NULL, 0, 0}};
-    uint32_t verdicts[HK_FORWARD_MOST + 1];
+    hk_frame frames[HK_MAX_FRAMES] = {{NULL, 0, 0}};
+    uint32_t verdicts[HK_MAX_FRAMES + 1];
     int64_t sent = 0;
     int wrong = 0;
     for (size_t i = 0; i < n; i++) {
@@ -87,7 +87,7 @@ static int burst(hk_forward *forward, size_t first, size_t n) {
 
 /* All rows in bursts of each size. */
 static void bursts(hk_forward *forward) {
-    for (size_t size = 1; size <= HK_FORWARD_MOST; size++) {
+    for (size_t size = 1; size <= HK_MAX_FRAMES; size++) {
         for (size_t first = 0; first < ROWS; first += size) {
             IS(burst(forward, first, ROWS - first < size ? ROWS - first : size), 0);
         }

@@ -8,7 +8,7 @@
 #include <stdlib.h>
 #include <string.h>
 
-enum { ROOM = 6, WORDS = 100000, STEPS = 200000, MOST_OF_MODEL = 8 };
+enum { ROOM = 6, WORDS = 100000, STEPS = 200000, MAX_OF_MODEL = 8 };
 
 static hk_hand *open_ring(uint32_t size, uint32_t put, uint32_t take) {
     hk_ring_plan plan = {size, 1, put, take, 0, 0};
@@ -94,7 +94,7 @@ static void ends_that_hold(void) {
     uint64_t word = 9;
     IS(hk_hand_split(hand, &other), HK_OK);
     IS(hk_producer_open(&puts, hand, 0), HK_OK), IS(hk_consumer_open(&takes, other, 0), HK_OK);
-    IS(hk_producer_hold(puts, 0), HK_E_COUNT), IS(hk_producer_hold(puts, HK_MOST + 1), HK_E_COUNT);
+    IS(hk_producer_hold(puts, 0), HK_E_COUNT), IS(hk_producer_hold(puts, HK_MAX_WORDS + 1), HK_E_COUNT);
     IS(hk_producer_hold(puts, 3), HK_OK), IS(hk_hand_span(hand), 0), IS(hk_ring_try_put_bulk(other, 0, words, 1), 1);
     /* The first word reserves, the third one gives up the side. */
     IS(hk_producer_put(puts, 101), HK_OK), IS(hk_hand_span(hand), 1);
@@ -160,7 +160,7 @@ static void spans_of_its_side(void) {
 /* Two ends and a list that says what has to be on the ring: random puts, takes, holds and releases, rings of 1 to 7
  * words. */
 static void beside_a_model(unsigned seed) {
-    uint64_t queued[MOST_OF_MODEL], next = 1, word;
+    uint64_t queued[MAX_OF_MODEL], next = 1, word;
     size_t count = 0, room = 1 + seed % 7;
     hk_hand *hand = open_ring((uint32_t)room, HK_HTS, HK_HTS), *other = NULL;
     IS(hk_hand_split(hand, &other), HK_OK);

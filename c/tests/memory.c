@@ -2,6 +2,9 @@
  * openings is refused: the calls that take no memory go on. Linked with --wrap for aligned_alloc and free. */
 #include "tests.h"
 
+#include <hokhtura_wait.h>
+
+#include <limits.h>
 #include <stdlib.h>
 
 extern void *__real_aligned_alloc(size_t, size_t);
@@ -92,6 +95,22 @@ static void open_fib(struct all *all) {
     add(all, 0x0a000000, 24, 0), add(all, 0x0c000000, 25, 5);
     draw_up(all, hk_fib_remove(all->fib, 0x0c000000, 25), hk_fib_pending(all->fib), hk_fib_count(all->fib));
     publish(all);
+}
+
+/* Each request of two publishes is refused, with all after it: both return, and a later one publishes. */
+static void publish_waiting(void) {
+    long refused = 0;
+    for (int all = 0; !all;) {
+        hk_fib *fib;
+        IS(hk_fib_open(&fib, 16, 4, NULL, 0, NULL, 0), HK_OK), IS(hk_fib_add(fib, 0x0a000000, 8, 1), HK_OK);
+        count = 0, from = ++refused, to = LONG_MAX;
+        int64_t first = hk_fib_publish_wait(fib, NULL), second = hk_fib_publish_wait(fib, NULL);
+        all = count < from;
+        from = to = 0;
+        IS(first == HK_OK || first == HK_E_MEMORY, 1), IS(second, all ? HK_OK : HK_E_MEMORY);
+        IS(hk_fib_publish_wait(fib, NULL), HK_OK);
+        hk_fib_free(fib);
+    }
 }
 
 static void open_all(struct all *all) {
@@ -215,6 +234,7 @@ int main(void) {
     call_all(&all);
     IS(count, 0), IS(before, requests);
     free_all(&all);
+    publish_waiting();
     IS(live, 0);
     return hk_count_up("memory");
 }

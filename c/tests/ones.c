@@ -9,7 +9,7 @@
 #include <stdlib.h>
 #include <string.h>
 
-enum { RINGS = 4, MOST_OF_MODEL = 8, STEPS = 200000, WORDS = 100000 };
+enum { RINGS = 4, MAX_OF_MODEL = 8, STEPS = 200000, WORDS = 100000 };
 
 /* Rings of both modes and several sizes. */
 static const hk_ring_plan plans[RINGS] = {
@@ -39,7 +39,7 @@ static void one_by_one(void) {
 
 /* What has to be on each ring. */
 struct model {
-    uint64_t words[MOST_OF_MODEL];
+    uint64_t words[MAX_OF_MODEL];
     size_t count, room;
 };
 

@@ -6,7 +6,7 @@
 /* LONGEST is the longest get that fills the cache, too, and CACHE the size of a large cache. */
 enum { FEW = 6, MANY = (1 << 20) - 1, LARGE = 20000, LONGEST = 512, CACHE = 300 };
 
-static uint32_t got[HK_POOL_MOST + 1];
+static uint32_t got[HK_MAX_NUMBERS + 1];
 static unsigned char met[MANY];
 
 static void mark(void) {
@@ -67,16 +67,16 @@ static void refusals(void) {
     IS(hk_pool_try_get_bulk(pool, NULL, 1), HK_E_NULL);
     IS(hk_pool_try_get_bulk(pool, NULL, 0), HK_E_COUNT);
     IS(hk_pool_try_get_bulk(pool, got, 0), HK_E_COUNT);
-    IS(hk_pool_try_get_bulk(pool, got, HK_POOL_MOST + 1), HK_E_COUNT);
+    IS(hk_pool_try_get_bulk(pool, got, HK_MAX_NUMBERS + 1), HK_E_COUNT);
     IS(hk_pool_try_get_bulk(pool, got, SIZE_MAX), HK_E_COUNT);
     mark();
     IS(hk_pool_try_get_bulk(pool, got, FEW + 1), HK_E_NOROOM);
-    IS(hk_pool_try_get_bulk(pool, got, HK_POOL_MOST), HK_E_NOROOM);
+    IS(hk_pool_try_get_bulk(pool, got, HK_MAX_NUMBERS), HK_E_NOROOM);
     IS(got[0], UINT32_MAX);
     IS(hk_pool_try_put_bulk(NULL, &one, 1), HK_E_NULL);
     IS(hk_pool_try_put_bulk(pool, NULL, 1), HK_E_NULL);
     IS(hk_pool_try_put_bulk(pool, NULL, 0), HK_E_COUNT);
-    IS(hk_pool_try_put_bulk(pool, got, HK_POOL_MOST + 1), HK_E_COUNT);
+    IS(hk_pool_try_put_bulk(pool, got, HK_MAX_NUMBERS + 1), HK_E_COUNT);
     IS(hk_pool_try_put_bulk(pool, &one, 1), HK_E_NOTYOURS);
     IS(hk_pool_try_flush(NULL), HK_E_NULL);
     IS(hk_pool_try_flush(pool), 0);
@@ -140,19 +140,19 @@ static void long_gets(void) {
     IS(hk_pool_try_get_bulk(pool, got, 1), 1), is_left(pool, CACHE, LARGE - 1 - CACHE);
     /* The cache has 1 to 300, and 300 is the newest. */
     mark();
-    IS(hk_pool_try_get_bulk(pool, got, HK_POOL_MOST), HK_POOL_MOST);
-    is_left(pool, 0, LARGE - 1 - HK_POOL_MOST);
-    IS(is_row(got + CACHE, HK_POOL_MOST - CACHE, CACHE + 1, 1), 1);
+    IS(hk_pool_try_get_bulk(pool, got, HK_MAX_NUMBERS), HK_MAX_NUMBERS);
+    is_left(pool, 0, LARGE - 1 - HK_MAX_NUMBERS);
+    IS(is_row(got + CACHE, HK_MAX_NUMBERS - CACHE, CACHE + 1, 1), 1);
     got[CACHE] = UINT32_MAX, IS(is_row(got, CACHE, CACHE, -1), 1);
     for (uint32_t i = 0; i < CACHE; i++) back[i] = CACHE - i;
-    IS(hk_pool_try_put_bulk(pool, back, CACHE), CACHE), is_left(pool, CACHE, LARGE - 1 - HK_POOL_MOST);
+    IS(hk_pool_try_put_bulk(pool, back, CACHE), CACHE), is_left(pool, CACHE, LARGE - 1 - HK_MAX_NUMBERS);
     /* Now 1 is the newest. A get that the cache has enough for leaves the free ring alone. */
     mark();
     IS(hk_pool_try_get_bulk(pool, got, CACHE), CACHE), IS(is_row(got, CACHE, 1, 1), 1);
-    is_left(pool, 0, LARGE - 1 - HK_POOL_MOST);
+    is_left(pool, 0, LARGE - 1 - HK_MAX_NUMBERS);
     mark();
-    IS(hk_pool_try_get_bulk(pool, got, LONGEST), LONGEST), IS(is_row(got, LONGEST, HK_POOL_MOST + 1, 1), 1);
-    is_left(pool, CACHE, LARGE - 1 - HK_POOL_MOST - LONGEST - CACHE);
+    IS(hk_pool_try_get_bulk(pool, got, LONGEST), LONGEST), IS(is_row(got, LONGEST, HK_MAX_NUMBERS + 1, 1), 1);
+    is_left(pool, CACHE, LARGE - 1 - HK_MAX_NUMBERS - LONGEST - CACHE);
     hk_pool_free(pool);
 }
 
@@ -165,7 +165,7 @@ static void long_refusals(void) {
     IS(hk_pool_try_flush(pool), CACHE), IS(hk_pool_try_put_bulk(pool, got, CACHED), CACHED);
     mark();
     IS(hk_pool_try_get_bulk(pool, got, N + 1), HK_E_NOROOM);
-    IS(hk_pool_try_get_bulk(pool, got, HK_POOL_MOST), HK_E_NOROOM);
+    IS(hk_pool_try_get_bulk(pool, got, HK_MAX_NUMBERS), HK_E_NOROOM);
     is_left(pool, CACHED, N - CACHED), IS(got[0], UINT32_MAX), IS(got[N], UINT32_MAX);
     get_all(pool, N, N), is_left(pool, 0, 0);
     hk_pool_free(pool);
@@ -174,21 +174,22 @@ static void long_refusals(void) {
 /* Puts, sends and receives of as many numbers as a call may have: the order stays. */
 static void long_calls(void) {
     hk_pool *pool = NULL;
-    static uint32_t all[HK_POOL_MOST + 1];
-    enum { N = HK_POOL_MOST + 1 };
+    static uint32_t all[HK_MAX_NUMBERS + 1];
+    enum { N = HK_MAX_NUMBERS + 1 };
     IS(hk_pool_open(&pool, N, LONGEST, 1), HK_OK);
     mark();
-    IS(hk_pool_try_get_bulk(pool, got, HK_POOL_MOST), HK_POOL_MOST), IS(is_row(got, HK_POOL_MOST, 0, 1), 1);
-    IS(hk_pool_try_send_bulk(pool, 0, got, HK_POOL_MOST), HK_POOL_MOST), IS(hk_pool_ring_count(pool, 0), HK_POOL_MOST);
+    IS(hk_pool_try_get_bulk(pool, got, HK_MAX_NUMBERS), HK_MAX_NUMBERS), IS(is_row(got, HK_MAX_NUMBERS, 0, 1), 1);
+    IS(hk_pool_try_send_bulk(pool, 0, got, HK_MAX_NUMBERS), HK_MAX_NUMBERS);
+    IS(hk_pool_ring_count(pool, 0), HK_MAX_NUMBERS);
     memset(all, 0xff, sizeof all);
-    IS(hk_pool_try_receive_bulk(pool, 0, all, HK_POOL_MOST), HK_POOL_MOST), IS(memcmp(all, got, sizeof all), 0);
-    IS(hk_pool_try_send_burst(pool, 0, all, HK_POOL_MOST), HK_POOL_MOST), IS(hk_pool_ring_room(pool, 0), 1);
+    IS(hk_pool_try_receive_bulk(pool, 0, all, HK_MAX_NUMBERS), HK_MAX_NUMBERS), IS(memcmp(all, got, sizeof all), 0);
+    IS(hk_pool_try_send_burst(pool, 0, all, HK_MAX_NUMBERS), HK_MAX_NUMBERS), IS(hk_pool_ring_room(pool, 0), 1);
     memset(all, 0xff, sizeof all);
-    IS(hk_pool_try_receive_burst(pool, 0, all, HK_POOL_MOST), HK_POOL_MOST), IS(memcmp(all, got, sizeof all), 0);
+    IS(hk_pool_try_receive_burst(pool, 0, all, HK_MAX_NUMBERS), HK_MAX_NUMBERS), IS(memcmp(all, got, sizeof all), 0);
     is_left(pool, 0, 1);
-    IS(hk_pool_try_put_bulk(pool, all, HK_POOL_MOST), HK_POOL_MOST), is_left(pool, 0, N);
-    IS(hk_pool_try_put_bulk(pool, all, HK_POOL_MOST), HK_E_NOTYOURS);
-    IS(hk_pool_try_get_bulk(pool, got, 1), 1), IS(got[0], HK_POOL_MOST), is_left(pool, LONGEST, N - 1 - LONGEST);
+    IS(hk_pool_try_put_bulk(pool, all, HK_MAX_NUMBERS), HK_MAX_NUMBERS), is_left(pool, 0, N);
+    IS(hk_pool_try_put_bulk(pool, all, HK_MAX_NUMBERS), HK_E_NOTYOURS);
+    IS(hk_pool_try_get_bulk(pool, got, 1), 1), IS(got[0], HK_MAX_NUMBERS), is_left(pool, LONGEST, N - 1 - LONGEST);
     hk_pool_free(pool);
 }
 
@@ -234,7 +235,7 @@ static void passed(void) {
     IS(hk_pool_try_send_bulk(first, 0, got, 0), HK_E_COUNT);
     IS(hk_pool_try_receive_bulk(second, 2, taken, 1), HK_E_RING);
     IS(hk_pool_try_receive_bulk(second, SIZE_MAX, taken, 1), HK_E_RING);
-    IS(hk_pool_try_receive_bulk(second, 0, taken, HK_POOL_MOST + 1), HK_E_COUNT);
+    IS(hk_pool_try_receive_bulk(second, 0, taken, HK_MAX_NUMBERS + 1), HK_E_COUNT);
     IS(hk_pool_try_receive_bulk(second, 0, NULL, 1), HK_E_NULL);
     IS(hk_pool_try_receive_bulk(second, 0, taken, 1), HK_E_NOROOM);
     IS(hk_pool_try_send_bulk(first, 1, got, 3), 3);
@@ -359,8 +360,8 @@ int main(void) {
     sizes(1, 0, 1);
     sizes(FEW, 2, 2);
     sizes(1000, 512, 512);
-    sizes(5000, 0, HK_POOL_MOST);
-    sizes(LARGE, 512, HK_POOL_MOST);
+    sizes(5000, 0, HK_MAX_NUMBERS);
+    sizes(LARGE, 512, HK_MAX_NUMBERS);
     sizes(1025, 1, 7);
     sizes(MANY, 32, 33);
     refusals();

@@ -38,8 +38,8 @@ static struct made {
     hk_forward *forwarder;
     hk_reorder *window;
 } made, unmade;
-static uint64_t given[HK_MOST + 1], places[HK_MOST + 1];
-static uint32_t numbers[HK_POOL_MOST + 1];
+static uint64_t given[HK_MAX_WORDS + 1], places[HK_MAX_WORDS + 1];
+static uint32_t numbers[HK_MAX_NUMBERS + 1];
 static const uint32_t addresses[2] = {0x0a000001, 0x0a010001};
 static const hk_port one_port[1] = {{0x0a000001, {2, 0, 0, 0, 0, 1}, 24, 0}};
 static const hk_next_hop one_hop[1] = {{0, {2, 0, 0, 0, 0, 2}}};
@@ -66,7 +66,7 @@ static const hk_frame too_long[2] = {{frame, HELD, HELD}, {frame, HELD, HELD - 1
 struct seen {
     int64_t spans[6], rings[6], numbers[NUMBERS + 1], counts[1 + POOL_RINGS], hops[4], drawn[4], found[2];
     int64_t verdict, class;
-    uint64_t words[HK_MOST], next;
+    uint64_t words[HK_MAX_WORDS], next;
 };
 
 static void open_hand(hk_hand **hand) {
@@ -156,7 +156,7 @@ static void look(struct seen *seen) {
     for (int i = 0; i < 2; i++) seen->found[i] = hk_forward_lookup(forwarder, addresses[i]);
     seen->verdict = hk_forward_verdict(forwarder, frame, HELD, HELD);
     seen->class = hk_forward_class(forwarder, 0, frame, HELD);
-    if (hk_ring_peek_take_burst(other, 0, seen->words, HK_MOST) < 0 || hk_ring_finish_take(other, 0) != 0
+    if (hk_ring_peek_take_burst(other, 0, seen->words, HK_MAX_WORDS) < 0 || hk_ring_finish_take(other, 0) != 0
         || hk_reorder_next(window, &seen->next) != HK_OK) hk_failed++;
 }
 
@@ -167,8 +167,8 @@ static const char *volatile call;
 /* Whether the arrays and the places for handles are as they were made. */
 static int is_unwritten(void) {
     int same = memcmp(&made, &unmade, sizeof made) == 0 && memcmp(frame, unsent, sizeof frame) == 0;
-    for (size_t i = 0; i <= HK_MOST; i++) same &= places[i] == UINT64_MAX && given[i] == 100 + i;
-    for (size_t i = 0; i <= HK_POOL_MOST; i++) same &= numbers[i] == UINT32_MAX;
+    for (size_t i = 0; i <= HK_MAX_WORDS; i++) same &= places[i] == UINT64_MAX && given[i] == 100 + i;
+    for (size_t i = 0; i <= HK_MAX_NUMBERS; i++) same &= numbers[i] == UINT32_MAX;
     return same;
 }
 
@@ -205,19 +205,20 @@ static void all(void) {
 
 /* What is on the rings, in the pool and in the window is what was put there. */
 static void contents(void) {
-    uint64_t words[HK_MOST] = {0};
+    uint64_t words[HK_MAX_WORDS] = {0};
     IS(hk_ring_finish_put(putting, given, SPAN), SPAN);
-    IS(hk_ring_try_take_burst(putting, 0, words, HK_MOST), SPAN), IS(memcmp(words, given, SPAN * sizeof *words), 0);
+    IS(hk_ring_try_take_burst(putting, 0, words, HK_MAX_WORDS), SPAN);
+    IS(memcmp(words, given, SPAN * sizeof *words), 0);
     IS(hk_ring_finish_take(taking, SPAN), SPAN);
-    IS(hk_ring_try_take_burst(taking, 0, words, HK_MOST), LEFT), IS(words[0], given[SPAN]);
+    IS(hk_ring_try_take_burst(taking, 0, words, HK_MAX_WORDS), LEFT), IS(words[0], given[SPAN]);
     IS(hk_ring_release_take(holding, words, 1), 1), IS(words[0], given[0]);
-    IS(hk_ring_try_take_burst(holding, 0, words, HK_MOST), SPAN + LEFT - 1), IS(words[0], given[1]);
+    IS(hk_ring_try_take_burst(holding, 0, words, HK_MAX_WORDS), SPAN + LEFT - 1), IS(words[0], given[1]);
     IS(hk_producer_put(putter, 2), HK_OK), IS(hk_consumer_take(taker, words), HK_OK), IS(words[0], 1);
     IS(hk_consumer_take(multi_taker, words), HK_OK), IS(words[0], 1);
-    IS(hk_ring_try_take_burst(idle, 1, words, HK_MOST), 2), IS(memcmp(words, given, 2 * sizeof *words), 0);
-    IS(hk_hand_drain(closed, 0, words, HK_MOST), 2), IS(memcmp(words, given, 2 * sizeof *words), 0);
+    IS(hk_ring_try_take_burst(idle, 1, words, HK_MAX_WORDS), 2), IS(memcmp(words, given, 2 * sizeof *words), 0);
+    IS(hk_hand_drain(closed, 0, words, HK_MAX_WORDS), 2), IS(memcmp(words, given, 2 * sizeof *words), 0);
     IS(hk_pool_try_receive_bulk(pool, 0, numbers, 1), 1);
-    IS(hk_reorder_insert(window, 1, 11), HK_OK), IS(hk_reorder_drain(window, words, HK_MOST), 2);
+    IS(hk_reorder_insert(window, 1, 11), HK_OK), IS(hk_reorder_drain(window, words, HK_MAX_WORDS), 2);
     IS(words[0], 11), IS(words[1], 12);
 }
 
@@ -241,7 +242,7 @@ static void died(int signal) {
 int main(void) {
     signal(SIGSEGV, died), signal(SIGBUS, died);
     setvbuf(stdout, NULL, _IONBF, 0);
-    for (uint64_t i = 0; i <= HK_MOST; i++) given[i] = 100 + i;
+    for (uint64_t i = 0; i <= HK_MAX_WORDS; i++) given[i] = 100 + i;
     open_hands(), open_ends(), open_pool(), open_tables(), open_forwarder(), open_window();
     memset(places, 0xff, sizeof places), memset(numbers, 0xff, sizeof numbers);
     memset(&made, 0xff, sizeof made), unmade = made;

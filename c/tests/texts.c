@@ -34,7 +34,7 @@ int main(void) {
         }
         check(code, row);
     }
-    check(1, done), check(HK_MOST, done), check(INT64_MAX, done);
+    check(1, done), check(HK_MAX_WORDS, done), check(INT64_MAX, done);
     /* Codes whose lower half is that of HK_E_NOROOM, and of 0. */
     check(INT64_MIN, &unknown), check(-1 - ((int64_t)1 << 32), &unknown), check(-((int64_t)1 << 32), &unknown);
     return hk_count_up("texts");

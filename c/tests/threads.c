@@ -8,7 +8,7 @@
 #include <stdatomic.h>
 #include <stdlib.h>
 
-enum { SENDERS = 2, TAKERS = 2, BURST = 32, LONGEST = 2 * HK_MOST };
+enum { SENDERS = 2, TAKERS = 2, BURST = 32, LONGEST = 2 * HK_MAX_WORDS };
 
 static uint64_t each = 5000000;
 static unsigned char *met;

@@ -339,7 +339,7 @@ static void one_try(void) {
     BOTH(hk_hand_close(hand));
     BOTH(hk_hand_drain(hand, RING, words, COUNT));
     /* No export is given more plans than there may be rings. */
-    told(never, never, never), IS(hk_hand_open(&second, &plan, HK_MOST_RINGS + 1), HK_E_PLAN), tried(0, 0, 0);
+    told(never, never, never), IS(hk_hand_open(&second, &plan, HK_MAX_RINGS + 1), HK_E_PLAN), tried(0, 0, 0);
     IS(second == NULL, 1);
     told(never, never, never), hk_hand_free(hand), freed(1);
 }
@@ -439,8 +439,8 @@ static void tables_that_change(void) {
     BOTH(hk_forward_lookup_bulk(forward, numbers, hops, 0));
     IS(second == NULL && another == NULL, 1);
     told(never, never, never);
-    IS(hk_fib_open(&another, 16, 1, &port, HK_MOST_PORTS + 1, &hop, 1), HK_E_PLAN);
-    IS(hk_fib_open(&another, 16, 1, &port, 1, &hop, HK_MOST_HOPS + 1), HK_E_PLAN), tried(0, 0, 0);
+    IS(hk_fib_open(&another, 16, 1, &port, HK_MAX_PORTS + 1, &hop, 1), HK_E_PLAN);
+    IS(hk_fib_open(&another, 16, 1, &port, 1, &hop, HK_MAX_HOPS + 1), HK_E_PLAN), tried(0, 0, 0);
     told(never, never, never), hk_fib_free(fib), freed(1);
 }
 
@@ -458,7 +458,7 @@ static void forwarders(void) {
     IS(hk_forward_verdict(forward, bytes, COUNT, COUNT - 1), HK_E_COUNT);
     IS(hk_forward_burst(forward, frames, numbers, 2), HK_E_COUNT);
     IS(hk_forward_burst(forward, NULL, NULL, 0), HK_E_COUNT);
-    IS(hk_forward_burst(forward, frames, numbers, HK_FORWARD_MOST + 1), HK_E_COUNT), tried(0, 0, 0);
+    IS(hk_forward_burst(forward, frames, numbers, HK_MAX_FRAMES + 1), HK_E_COUNT), tried(0, 0, 0);
     told(never, never, never), hk_forward_free(forward), freed(1);
 }
 

@@ -9,7 +9,7 @@ static hk_hand *hand, *other;
 static hk_pool *pool, *sharer;
 static hk_fib *fib;
 static hk_forward *reader;
-static uint64_t words[HK_MOST + 6], out[HK_MOST + 6];
+static uint64_t words[HK_MAX_WORDS + 6], out[HK_MAX_WORDS + 6];
 static int relaxed, ends_at;
 
 static int ends(void) {
@@ -50,22 +50,25 @@ static void puts_of(uint32_t mode) {
     fill(), from(2), IS(hk_ring_put_bulk(hand, 0, words, 3, takes), HK_E_NOROOM), IS(relaxed, 2);
     fill(), from(0), IS(hk_ring_put_burst(hand, 0, words, 3, takes), 1), IS(relaxed, 1);
     fill(), from(0), IS(hk_ring_put(hand, 0, words, 3, takes), 3), IS(relaxed, 3);
-    fill(), from(0), IS(hk_ring_put(hand, 0, words, HK_MOST + 6, takes), HK_MOST + 6), IS(relaxed, HK_MOST + 6);
+    fill(), from(0), IS(hk_ring_put(hand, 0, words, HK_MAX_WORDS + 6, takes), HK_MAX_WORDS + 6);
+    IS(relaxed, HK_MAX_WORDS + 6);
     fill(), from(2), IS(hk_ring_put(hand, 0, words, 3, takes), 1), from(1);
     fill(), from(1), IS(hk_ring_put(hand, 0, words, 3, ends), HK_E_NOROOM), IS(hk_hand_span(hand), 0);
     empty(), from(0), IS(hk_ring_put_bulk(hand, 0, words, 3, takes), 3), IS(relaxed, 0);
     empty(), from(0), IS(hk_ring_take_bulk(hand, 0, out, 3, puts_one), 3), IS(relaxed, 3);
     empty(), from(2), IS(hk_ring_take_bulk(hand, 0, out, 3, puts_one), HK_E_NOROOM), IS(relaxed, 2);
     empty(), from(0), IS(hk_ring_take_burst(hand, 0, out, 3, puts_one), 1), IS(relaxed, 1);
-    empty(), from(0), IS(hk_ring_take(hand, 0, out, HK_MOST + 6, puts_one), HK_MOST + 6), IS(relaxed, HK_MOST + 6);
-    for (int i = 1; i < HK_MOST + 6; i++) IS(out[i], out[0] + (uint64_t)i);
+    empty(), from(0), IS(hk_ring_take(hand, 0, out, HK_MAX_WORDS + 6, puts_one), HK_MAX_WORDS + 6);
+    IS(relaxed, HK_MAX_WORDS + 6);
+    for (int i = 1; i < HK_MAX_WORDS + 6; i++) IS(out[i], out[0] + (uint64_t)i);
     empty(), from(1), IS(hk_ring_take(hand, 0, out, 3, ends), HK_E_NOROOM);
     /* Codes that time doesn't cure. */
     from(0), IS(hk_ring_put_bulk(NULL, 0, words, 3, ends), HK_E_NULL);
     IS(hk_ring_put(hand, 1, words, 3, ends), HK_E_RING);
     IS(hk_ring_put_burst(hand, 0, NULL, 3, ends), HK_E_NULL), IS(hk_ring_put(hand, 0, NULL, 3, ends), HK_E_NULL);
-    IS(hk_ring_take(hand, 0, NULL, HK_MOST + 6, ends), HK_E_NULL), IS(hk_ring_put(hand, 0, words, 0, ends), HK_E_COUNT);
-    IS(hk_ring_take_bulk(hand, 0, out, HK_MOST_ON_MULTI + 1, ends), HK_E_COUNT), IS(relaxed, 0);
+    IS(hk_ring_take(hand, 0, NULL, HK_MAX_WORDS + 6, ends), HK_E_NULL);
+    IS(hk_ring_put(hand, 0, words, 0, ends), HK_E_COUNT);
+    IS(hk_ring_take_bulk(hand, 0, out, HK_MAX_WORDS_MULTI + 1, ends), HK_E_COUNT), IS(relaxed, 0);
     hk_hand_free(hand), hk_hand_free(other);
 }
 
@@ -132,7 +135,7 @@ static void tables(void) {
 }
 
 int main(void) {
-    for (uint64_t i = 0; i < HK_MOST + 6; i++) words[i] = i;
+    for (uint64_t i = 0; i < HK_MAX_WORDS + 6; i++) words[i] = i;
     puts_of(HK_MULTI), puts_of(HK_HTS);
     after_a_peek();
     pools();

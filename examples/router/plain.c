@@ -54,8 +54,8 @@ static void send_all(uint32_t port, struct mmsghdr *m, uint32_t n) {
 
 static void *run(void *argument) {
     uint32_t port = (uint32_t)(uintptr_t)argument, n[PORTS] = {0};
-    struct mmsghdr m[PORTS][MOST_BURST];
-    struct iovec v[PORTS][MOST_BURST];
+    struct mmsghdr m[PORTS][MAX_BURST];
+    struct iovec v[PORTS][MAX_BURST];
     for (unsigned block = 0;;) {
         struct tpacket_block_desc *b = block_of(&ports[port], block);
         if (!b) continue;
@@ -65,7 +65,7 @@ static void *run(void *argument) {
             if (to < 0) continue;
             v[to][n[to]] = (struct iovec){(uint8_t *)h + h->tp_mac, h->tp_snaplen};
             m[to][n[to]] = (struct mmsghdr){.msg_hdr = {.msg_iov = &v[to][n[to]], .msg_iovlen = 1}};
-            if (++n[to] == MOST_BURST) send_all((uint32_t)to, m[to], n[to]), n[to] = 0;
+            if (++n[to] == MAX_BURST) send_all((uint32_t)to, m[to], n[to]), n[to] = 0;
         }
         for (uint32_t to = 0; to < now.ports; to++) send_all(to, m[to], n[to]), n[to] = 0;
         hand_back(b);

@@ -19,7 +19,7 @@
 #include <time.h>
 #include <unistd.h>
 
-/* TRIES: how often a get or a send is called while other threads come first, some 100 us apart: long enough for one
+/* TRIES: how often a get or a send is called while other threads come first, some 70 us apart: long enough for one
  * that the system has put aside in the middle of its call, and no endless wait for one that is stopped there. */
 enum { WORKERS = 16, RINGS = PORTS + WORKERS, TRIES = 500 };
 
@@ -75,7 +75,7 @@ static void give(struct thread *t, const uint32_t *numbers, uint32_t n) {
     memcpy(t->spare + t->spares, numbers, n * sizeof *numbers);
     t->spares += n;
     while (t->spares) {
-        uint32_t some = t->spares < HK_POOL_MOST ? t->spares : HK_POOL_MOST;
+        uint32_t some = t->spares < HK_MAX_NUMBERS ? t->spares : HK_MAX_NUMBERS;
         int64_t code = hk_pool_try_put_bulk(t->pool, t->spare + t->spares - some, some);
         if (code == HK_E_AGAIN) return;
         need(code, "put back");
@@ -125,7 +125,8 @@ static uint32_t receive(struct thread *t, uint32_t ring, uint32_t *numbers) {
  * the version before the last one, nothing can be prepared yet. */
 static int64_t draw_up(const struct settings *s, uint32_t *line) {
     int64_t code;
-    while ((code = hk_fib_clear(fib)) == HK_E_PENDING) nap();
+    while ((code = hk_fib_settle(fib)) == HK_E_PENDING) nap();
+    if (code >= 0) code = hk_fib_clear(fib);
     for (uint32_t i = 0; i < s->routes && code >= 0; i++) {
         *line = s->route[i].line;
         code = hk_fib_set_hop(fib, i, &s->route[i].hop);
@@ -146,9 +147,9 @@ static int publish(const char *name, const struct settings *s) {
 
 /* Makes the table, with these ports and room for a next hop of each route that there may be. */
 static int64_t open_fib(void) {
-    hk_next_hop *none = calloc(MOST_ROUTES, sizeof *none);
+    hk_next_hop *none = calloc(MAX_ROUTES, sizeof *none);
     int64_t code = HK_E_MEMORY;
-    if (none) code = hk_fib_open(&fib, now.number[BITS], now.number[GROUPS], now.port, now.ports, none, MOST_ROUTES);
+    if (none) code = hk_fib_open(&fib, now.number[BITS], now.number[GROUPS], now.port, now.ports, none, MAX_ROUTES);
     free(none);
     return code;
 }
@@ -163,9 +164,9 @@ static int beside(struct thread *t, uint32_t number) {
 }
 
 static void forward(struct thread *t, const uint32_t *in, uint32_t n) {
-    uint32_t left[MOST_BURST], back[MOST_BURST], out[PORTS][MOST_BURST], verdicts[MOST_BURST], to[PORTS] = {0};
+    uint32_t left[MAX_BURST], back[MAX_BURST], out[PORTS][MAX_BURST], verdicts[MAX_BURST], to[PORTS] = {0};
     uint32_t k = 0, drops = 0;
-    hk_frame frames[MOST_BURST];
+    hk_frame frames[MAX_BURST];
     for (uint32_t i = 0; i < n; i++) {
         int line = beside(t, in[i]);
         if (line >= 0) add(t, line, 1), back[drops++] = in[i];
@@ -216,7 +217,7 @@ static int copy(struct thread *t, const struct tpacket3_hdr *h, uint32_t *number
 
 static void *rx(void *argument) {
     struct thread *t = argument;
-    uint32_t ready[WORKERS][MOST_BURST], n[WORKERS] = {0}, number;
+    uint32_t ready[WORKERS][MAX_BURST], n[WORKERS] = {0}, number;
     for (unsigned block = 0; atomic_load(&stage) < 1;) {
         struct tpacket_block_desc *b = block_of(&ports[t->number], block);
         if (!b) continue;
@@ -238,7 +239,7 @@ static void *rx(void *argument) {
 
 static void *work(void *argument) {
     struct thread *t = argument;
-    uint32_t in[MOST_BURST], n;
+    uint32_t in[MAX_BURST], n;
     for (unsigned idle = 0; atomic_load(&stage) < 2 || atomic_load(&waiting[t->number].n);) {
         int stands = t->number == 0 && atomic_load(&held_up);
         if (!stands && (n = receive(t, t->number, in))) forward(t, in, n), idle = 0;
@@ -249,10 +250,10 @@ static void *work(void *argument) {
 
 static void *tx(void *argument) {
     struct thread *t = argument;
-    uint32_t in[MOST_BURST], n;
+    uint32_t in[MAX_BURST], n;
     for (unsigned idle = 0; atomic_load(&stage) < 3 || atomic_load(&waiting[workers + t->number].n);) {
-        struct mmsghdr m[MOST_BURST];
-        struct iovec v[MOST_BURST];
+        struct mmsghdr m[MAX_BURST];
+        struct iovec v[MAX_BURST];
         n = receive(t, workers + t->number, in);
         if (n) idle = 0;
         else if (++idle >= 200) nap();

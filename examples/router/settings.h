@@ -12,12 +12,12 @@
 #include <stdlib.h>
 #include <string.h>
 
-enum { PORTS = 16, MOST_BURST = 64, MOST_ROUTES = 65536 };
+enum { PORTS = 16, MAX_BURST = 64, MAX_ROUTES = 65536 };
 
 enum { BUFFERS, HEADROOM, ROOM, CACHE, BURST, RING, BITS, GROUPS, NUMBERS };
 static const struct { const char *key; uint32_t low, high, usual; } numeric[NUMBERS] = {
     {"buffers", 1, 65536, 0}, {"headroom", 0, 1024, 128}, {"room", 64, 65536, 2048}, {"cache", 0, 128, 32},
-    {"burst", 1, MOST_BURST, 32}, {"ring", 1, 65536, 512}, {"bits", 16, 24, 24}, {"groups", 0, 65536, 256}};
+    {"burst", 1, MAX_BURST, 32}, {"ring", 1, 65536, 512}, {"bits", 16, 24, 24}, {"groups", 0, 65536, 256}};
 
 enum section { TOP, PORT, ROUTE };
 static const struct { const char *key; int needed; } keys[3][3] = {
@@ -66,7 +66,7 @@ static const char *begin_section(struct settings *s, const char *name) {
     s->seen = 0;
     if (s->section == PORT) return s->ports == PORTS ? "more than 16 ports" : (s->ports++, NULL);
     if (strcmp(name, "route")) return "neither [[port]] nor [[route]]";
-    if (s->routes == MOST_ROUTES) return "more than 65,536 routes";
+    if (s->routes == MAX_ROUTES) return "more than 65,536 routes";
     if (s->routes == s->room_for_routes) {
         uint32_t n = s->routes ? 2 * s->routes : 64;
         struct route *more = realloc(s->route, n * sizeof *more);

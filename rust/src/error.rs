@@ -76,7 +76,7 @@ errors! {
     /// The limit of 2^62 handles is reached.
     Parts = 16, "too many handles";
     /// A number that the pool's handle doesn't have, has in its cache, or that is given twice.
-    NotYours = 17, "a number that the handle doesn't have, or given twice";
+    NotYours = 17, "a number that the handle doesn't have, has cached, or given twice";
     /// A depth that is not 1 to 32.
     Depth = 20, "a depth that is not 1 to 32";
     /// There is no such next hop, or it is 2^24 or more.

@@ -59,8 +59,8 @@ impl Fib {
         Fib::open(ffi::hk_fib_open, first, groups, ports, hops)
     }
 
-    /// The same, with the first level of both copies written when the table is made, 4 bytes for each entry in each
-    /// copy. A lookup has a branch less.
+    /// A table as by [`new`](Fib::new) whose first level is written whole when it is made, in both copies, 4 bytes for
+    /// each entry in each copy. A lookup has a branch less.
     ///
     /// # Errors
     ///

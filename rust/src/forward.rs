@@ -7,7 +7,7 @@ use core::net::Ipv4Addr;
 use core::ptr::NonNull;
 
 /// The largest number of frames in one burst.
-pub const FORWARD_MOST: usize = 64;
+pub const MAX_FRAMES: usize = 64;
 
 const TAGGED: u32 = 0x1_0000;
 const DROP: u32 = 0x2_0000;
@@ -166,8 +166,8 @@ impl Forwarder {
         u32::try_from(unsafe { ffi::hk_forward_lookup(self.0.as_ptr(), address.into()) }).ok()
     }
 
-    /// The same for addresses as numbers, all in one version: at each place of `hops` the number of the next hop for
-    /// the address at that place, or `u32::MAX`.
+    /// Looks up addresses, given as numbers, all in one version. Writes at each place of `hops` the number of the next
+    /// hop for the address at that place, or `u32::MAX`.
     ///
     /// # Errors
     ///
@@ -200,7 +200,7 @@ impl Forwarder {
         answer(unsafe { ffi::hk_forward_verdict(self.0.as_ptr(), at, held, wire) }).map(verdict)
     }
 
-    /// Forwards a burst of 1 to [`FORWARD_MOST`] frames, with their lookups together, and writes the verdict on each at
+    /// Forwards a burst of 1 to [`MAX_FRAMES`] frames, with their lookups together, and writes the verdict on each at
     /// its place. Returns how many are sent.
     ///
     /// # Errors
@@ -208,10 +208,10 @@ impl Forwarder {
     /// `Count`: no frame, too many, not as many places, or a frame with more bytes than it had on the wire. Nothing is
     /// changed then.
     pub fn forward_burst(&self, frames: &mut [Frame<'_>], verdicts: &mut [Verdict]) -> Result<usize, Error> {
-        if frames.len() > FORWARD_MOST || frames.len() != verdicts.len() {
+        if frames.len() > MAX_FRAMES || frames.len() != verdicts.len() {
             return Err(Error::Count);
         }
-        let mut numbers = [0; FORWARD_MOST];
+        let mut numbers = [0; MAX_FRAMES];
         let (at, n) = (frames.as_ptr().cast(), frames.len());
         let sent = answer(unsafe { ffi::hk_forward_burst(self.0.as_ptr(), at, numbers.as_mut_ptr(), n) })?;
         for (verdict, number) in verdicts.iter_mut().zip(numbers) {
@@ -237,8 +237,9 @@ fn verdict(number: usize) -> Verdict {
     Verdict::of(number as u32)
 }
 
-/// A reader that holds a version until this is dropped.
+/// A reader that holds a version until this is dropped. If this is forgotten, the version stays held.
 #[derive(Debug)]
+#[must_use]
 pub struct Held<'a>(&'a Forwarder);
 
 impl core::ops::Deref for Held<'_> {

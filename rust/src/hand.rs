@@ -23,8 +23,8 @@ impl Mode {
     }
 }
 
-/// A hand on a ring of words with its ends, and how many the ring holds. The marker makes it neither `Send` nor `Sync`
-/// by itself.
+/// A hand on a ring of words with its ends, and how many the ring holds. The marker makes it invariant in `T`, since
+/// other hands put what this one takes, and neither `Send` nor `Sync` by itself.
 pub(crate) struct Hand<T> {
     at: NonNull<ffi::Hand>,
     puts: NonNull<ffi::Producer>,
@@ -32,7 +32,7 @@ pub(crate) struct Hand<T> {
     capacity: usize,
     /// The word of a put or a take by an end that is pending.
     pending: Option<u64>,
-    words: PhantomData<(T, *mut u8)>,
+    words: PhantomData<*mut T>,
 }
 
 // SAFETY: a hand may go to another thread with the words that it may take. It isn't `Sync`: no two calls overlap.
@@ -100,7 +100,7 @@ impl<T: Word> Hand<T> {
         answer(unsafe { ffi::hk_ring_try_take_one(self.at.as_ptr(), 0, (&raw mut *word).cast()) })
     }
 
-    /// The same where there is no word of the type yet.
+    /// Takes one word as bits, if there is no word of the type yet.
     pub(crate) fn take_bits(&mut self, word: &mut u64) -> Result<usize, Error> {
         answer(unsafe { ffi::hk_ring_try_take_one(self.at.as_ptr(), 0, word) })
     }

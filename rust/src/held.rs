@@ -25,11 +25,11 @@ pub struct HeldTakes<'a, T: Word> {
 
 impl<T: Word> Producer<T> {
     /// A guard that holds the put side from its first `put` on: it reserves up to `most` positions at a time, 1 to
-    /// `MOST`.
+    /// `MAX_WORDS`.
     ///
     /// # Errors
     ///
-    /// `Mode` if the side isn't head/tail-sync; `Count` if `most` is 0 or above `MOST`.
+    /// `Mode` if the side isn't head/tail-sync; `Count` if `most` is 0 or above `MAX_WORDS`.
     ///
     /// ```
     /// use hokhtura::{Mode, Ring};
@@ -57,11 +57,11 @@ impl<T: Word> Producer<T> {
 
 impl<T: Word> Consumer<T> {
     /// A guard that holds the take side from its first `take` on: it reserves up to `most` words at a time, 1 to
-    /// `MOST`.
+    /// `MAX_WORDS`.
     ///
     /// # Errors
     ///
-    /// `Mode` if the side isn't head/tail-sync; `Count` if `most` is 0 or above `MOST`.
+    /// `Mode` if the side isn't head/tail-sync; `Count` if `most` is 0 or above `MAX_WORDS`.
     pub fn hold(&mut self, most: usize) -> Result<HeldTakes<'_, T>, Error> {
         self.hand().hold_takes(most)?;
         Ok(HeldTakes { hand: self.hand() })

@@ -27,12 +27,12 @@
 //! | `Mode::Hts` | the same, one call of the side at a time | sides that are held now and then |
 //! | `Mode::Hts`, held | [`Producer::hold`], [`Consumer::hold`] | words one by one, by one thread for a while |
 //!
-//! A put or a take reserves positions, and then publishes or frees them. A call tries a step up to 1,024 times, with a
-//! pause between two tries (the get of a pool up to twice as often), and only iterators that say so wait. The rings
-//! aren't lock-free: a thread that stops in between, or a handle that is dropped with a call pending, blocks that side
-//! and soon the other. Calls of others then return [`Error::Again`] (head/tail-sync), [`Error::Pending`] (multi) or
-//! [`Error::NoRoom`] forever. What a thread did before it put a word, or put or sent a number, happens before another
-//! thread takes, gets or receives it.
+//! A put or a take has two halves: it reserves positions, and then publishes or frees them. A call tries each half up
+//! to 1,024 times, with a pause between two tries, and only iterators that say so wait. The rings aren't lock-free: a
+//! thread that stops in between, or a handle that is dropped with a call pending, blocks that side and soon the other.
+//! Calls of others then return [`Error::Again`] (head/tail-sync), [`Error::Pending`] (multi) or [`Error::NoRoom`]
+//! forever. What a thread did before it put a word, or put or sent a number, happens before another thread takes, gets
+//! or receives it.
 //!
 //! [`Error::Pending`] of a ring isn't a refusal: the call has its positions, and has to be finished, by `finish`,
 //! `finish_put` or `finish_take`. So it mustn't be passed on by `?`. It can't occur with one producer and one consumer,
@@ -76,10 +76,10 @@ mod word;
 
 pub use error::Error;
 pub use fib::{Fib, Route};
-pub use forward::{Addressed, Forwarder, Frame, Held, NextHop, Port, Reason, Verdict, FORWARD_MOST};
+pub use forward::{Addressed, Forwarder, Frame, Held, NextHop, Port, Reason, Verdict, MAX_FRAMES};
 pub use hand::Mode;
 pub use held::{HeldPuts, HeldTakes};
-pub use pool::{Pool, POOL_MOST};
+pub use pool::{Pool, MAX_NUMBERS};
 pub use queue::Queue;
 pub use reorder::{InTurn, Reorder};
 pub use ring::{Consumer, Left, Producer, Ring, Taken};
@@ -87,10 +87,10 @@ pub use routes::{FirstLevel, Routes};
 pub use word::Word;
 
 /// The largest number of words in one call on a head/tail-sync side.
-pub const MOST: usize = 4095;
+pub const MAX_WORDS: usize = 4095;
 
 /// The largest number of words in one put or take on a multi side: as many as any ring holds.
-pub const MOST_ON_MULTI: usize = 1_048_575;
+pub const MAX_WORDS_MULTI: usize = 1_048_575;
 
 /// What a thread does that waits for another one.
 pub(crate) fn relax() {

@@ -6,7 +6,7 @@ use core::marker::PhantomData;
 use core::ptr::{null_mut, NonNull};
 
 /// The largest count of numbers in one call on a pool.
-pub const POOL_MOST: usize = 4096;
+pub const MAX_NUMBERS: usize = 4096;
 
 /// One thread's handle on a pool of the numbers 0 to `n - 1`, with its own cache in front of the free ring that all
 /// share.
@@ -60,7 +60,7 @@ impl Pool {
     }
 
     /// Fills the slice with numbers, or leaves it as it is. If the cache has too few, the others come from the free
-    /// ring, and for up to 512 places as many more as the cache's size, if that ring has them.
+    /// ring. For a slice of up to 512 places the cache is then filled too, if that ring has enough.
     ///
     /// # Errors
     ///

@@ -27,9 +27,9 @@ use core::fmt;
 /// # }
 /// ```
 pub struct Queue<T> {
-    // It is dropped before `rest`.
+    // It is dropped before `shared`.
     hand: Hand<*mut T>,
-    rest: Arc<Rest<T>>,
+    shared: Arc<Shared<T>>,
 }
 
 // SAFETY: a handle may go to another thread with the values that it may take. It isn't `Sync`: no two calls overlap.
@@ -37,7 +37,7 @@ unsafe impl<T: Send> Send for Queue<T> {}
 
 /// What all handles share: a hand that is used only at the end. Each handle drops its own hand before it gives this up,
 /// so the kept hand is the only one then.
-struct Rest<T> {
+struct Shared<T> {
     kept: Hand<*mut T>,
 }
 
@@ -48,7 +48,7 @@ fn value<T>(at: *mut T) -> Box<T> {
     unsafe { Box::from_raw(at) }
 }
 
-impl<T> Drop for Rest<T> {
+impl<T> Drop for Shared<T> {
     fn drop(&mut self) {
         let mut word = [0];
         if self.kept.close().is_err() {
@@ -70,7 +70,7 @@ impl<T: Send> Queue<T> {
     pub fn new(capacity: usize) -> Result<Self, Error> {
         let mut kept = Hand::open(capacity, Mode::Hts, Mode::Hts)?;
         let hand = kept.split()?;
-        Ok(Queue { hand, rest: Arc::new(Rest { kept }) })
+        Ok(Queue { hand, shared: Arc::new(Shared { kept }) })
     }
 
     /// Another handle on the same ring, for another thread.
@@ -79,7 +79,7 @@ impl<T: Send> Queue<T> {
     ///
     /// `Memory`, `Again`, `Parts`.
     pub fn try_clone(&mut self) -> Result<Self, Error> {
-        Ok(Queue { hand: self.hand.split()?, rest: Arc::clone(&self.rest) })
+        Ok(Queue { hand: self.hand.split()?, shared: Arc::clone(&self.shared) })
     }
 
     /// Puts a value. It allocates the value's box, also if the ring then has no room.

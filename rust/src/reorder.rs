@@ -60,7 +60,7 @@ impl<T: Word> Reorder<T> {
     ///
     /// # Errors
     ///
-    /// `Count` if there are more than `MOST` places.
+    /// `Count` if there are more than `MAX_WORDS` places.
     pub fn drain(&mut self, words: &mut [T]) -> Result<usize, Error> {
         match unsafe { ffi::hk_reorder_drain(self.0.as_ptr(), words.as_mut_ptr().cast(), words.len()) } {
             ffi::NOTHING => Ok(0),
@@ -103,6 +103,7 @@ impl<T: Word> fmt::Debug for Reorder<T> {
 }
 
 /// The words of a window, as they leave it in their turn.
+#[must_use]
 pub struct InTurn<'w, T: Word> {
     window: &'w mut Reorder<T>,
 }

@@ -31,9 +31,9 @@ macro_rules! puts {
         ///
         /// # Errors
         ///
-        /// `Open`: an earlier call of this handle is pending; `Count` if there are none or more than `MOST`, on a multi
-        /// side `MOST_ON_MULTI`; `NoRoom`; `Worn`; `Again`. `Pending`: the positions are reserved, and `finish_put`
-        /// with the same words puts them.
+        /// `Open`: an earlier call of this handle is pending; `Count` if there are none or more than `MAX_WORDS`, on a
+        /// multi side `MAX_WORDS_MULTI`; `NoRoom`; `Worn`; `Again`. `Pending`: the positions are reserved, and
+        /// `finish_put` with the same words puts them.
         pub fn try_put_bulk(&mut self, words: &[T]) -> Result<usize, Error> {
             self.hand.put(words, true)
         }
@@ -61,7 +61,7 @@ macro_rules! puts {
         ///
         /// # Errors
         ///
-        /// `Pending`: not yet. `NotOpen`: no put is open. `Count`: the slice has fewer words than were reserved.
+        /// `Pending`: not yet. `NotOpen`: no put is open. `Count`: the slice doesn't fit what was reserved.
         pub fn finish_put(&mut self, words: &[T]) -> Result<usize, Error> {
             self.hand.finish_put(words)
         }
@@ -81,9 +81,9 @@ macro_rules! takes {
         ///
         /// # Errors
         ///
-        /// `Count` if there are no places or more than `MOST`, on a multi side `MOST_ON_MULTI`; `NoRoom` if too few
-        /// words are queued; `Again`; `Open`: an earlier call of this handle is pending. `Pending`: the words are at
-        /// the front of the slice already, and `finish_take` takes them off the ring.
+        /// `Count` if there are no places or more than `MAX_WORDS`, on a multi side `MAX_WORDS_MULTI`; `NoRoom` if too
+        /// few words are queued; `Again`; `Open`: an earlier call of this handle is pending. `Pending`: the words are
+        /// at the front of the slice already, and `finish_take` takes them off the ring.
         pub fn try_take_bulk(&mut self, words: &mut [T]) -> Result<usize, Error> {
             self.hand.take(words, true)
         }
@@ -113,13 +113,13 @@ macro_rules! takes {
         ///
         /// # Errors
         ///
-        /// `Pending`: not yet. `NotOpen`: no take is open. `Count`: `n` is less than what was reserved.
+        /// `Pending`: not yet. `NotOpen`: no take is open. `Count`: `n` doesn't fit what was reserved.
         pub fn finish_take(&mut self, n: usize) -> Result<usize, Error> {
             self.hand.finish_take(n)
         }
 
         /// The words that are queued, one after the other. Each is taken as it is returned. It ends at any error: the
-        /// ring is empty, other threads came first (`Again`), or an earlier take of this handle is pending (`Open`). So
+        /// ring is empty, other threads came first (`Again`), or an earlier call of this handle is pending (`Open`). So
         /// `None` doesn't mean that the ring is empty. While an earlier take of another thread isn't finished, it
         /// waits, without a limit.
         pub fn taken(&mut self) -> Taken<'_, T> {
@@ -259,7 +259,7 @@ impl<T: Word> Ring<T> {
         Ring::with_modes(capacity, Mode::Multi, Mode::Multi)
     }
 
-    /// The same with a mode for each side.
+    /// A ring that holds `capacity` words, 1 to 2^20 - 1, with a mode for each side.
     ///
     /// # Errors
     ///
@@ -268,7 +268,16 @@ impl<T: Word> Ring<T> {
         Ok(Ring { hand: Hand::open(capacity, put, take)? })
     }
 
-    /// The two ends of the ring, for two threads.
+    /// The two ends of the ring, for two threads. Both keep the ring's type of words: what is put as one type is taken
+    /// as the same.
+    ///
+    /// ```compile_fail
+    /// # fn main() -> Result<(), hokhtura::Error> {
+    /// let (producer, _consumer) = hokhtura::Ring::<&'static for<'a> fn(&'a str)>::new(7)?.split()?;
+    /// let _other: hokhtura::Producer<&'static fn(&'static str)> = producer;
+    /// # Ok(())
+    /// # }
+    /// ```
     ///
     /// # Errors
     ///

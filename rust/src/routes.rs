@@ -90,8 +90,8 @@ impl Routes {
         u32::try_from(unsafe { ffi::hk_routes_lookup(self.0.as_ptr(), address.into()) }).ok()
     }
 
-    /// The same for addresses as numbers: at each place of `hops` the next hop for the address at that place, or
-    /// `u32::MAX`.
+    /// Looks up addresses, given as numbers. Writes at each place of `hops` the next hop for the address at that place,
+    /// or `u32::MAX`.
     ///
     /// # Errors
     ///

@@ -1,5 +1,5 @@
 //! Forwarding of frames. What becomes of each kind of frame is tested from C; here that the crate passes it on.
-use hokhtura::FORWARD_MOST;
+use hokhtura::MAX_FRAMES;
 use hokhtura::{Addressed, Error, Fib, FirstLevel, Forwarder, Frame, NextHop, Port, Reason, Route, Verdict};
 use std::net::Ipv4Addr;
 use std::thread;
@@ -64,7 +64,7 @@ fn a_burst_is_forwarded_by_threads() -> Result<(), Error> {
         assert_eq!((first, second), (sent(), frame(65)));
     };
     thread::spawn(burst).join().expect("a burst");
-    assert_eq!(FORWARD_MOST, 64);
+    assert_eq!(MAX_FRAMES, 64);
     Ok(())
 }
 

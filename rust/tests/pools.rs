@@ -1,5 +1,5 @@
 //! Pools of numbers.
-use hokhtura::{Error, Pool, POOL_MOST};
+use hokhtura::{Error, Pool, MAX_NUMBERS};
 use std::thread;
 
 #[test]
@@ -17,7 +17,7 @@ fn each_number_is_got_once_and_put_once() -> Result<(), Error> {
     let mut numbers = [u32::MAX; 100];
     assert_eq!(pool.try_get_bulk(&mut [0; 101]), Err(Error::NoRoom));
     assert_eq!(pool.try_get_bulk(&mut []), Err(Error::Count));
-    assert_eq!(pool.try_get_bulk(&mut vec![0; POOL_MOST + 1]), Err(Error::Count));
+    assert_eq!(pool.try_get_bulk(&mut vec![0; MAX_NUMBERS + 1]), Err(Error::Count));
     for part in numbers.chunks_mut(9) {
         pool.try_get_bulk(part)?;
     }
@@ -41,7 +41,7 @@ fn each_number_is_got_once_and_put_once() -> Result<(), Error> {
 #[test]
 fn long_calls_take_from_the_cache_and_then_from_the_free_ring() -> Result<(), Error> {
     let mut pool = Pool::new(20_000, 300, 0)?;
-    let mut numbers = vec![0; POOL_MOST];
+    let mut numbers = vec![0; MAX_NUMBERS];
     pool.try_get_bulk(&mut numbers[..1])?;
     assert_eq!((pool.cached(), pool.free_count()), (300, 20_000 - 301));
     pool.try_get_bulk(&mut numbers)?;

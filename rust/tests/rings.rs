@@ -1,5 +1,5 @@
 //! Rings by their two ends, in one thread and in several.
-use hokhtura::{Error, Mode, Ring, MOST, MOST_ON_MULTI};
+use hokhtura::{Error, Mode, Ring, MAX_WORDS, MAX_WORDS_MULTI};
 use std::thread;
 
 const MODES: [Mode; 2] = [Mode::Multi, Mode::Hts];
@@ -31,10 +31,10 @@ fn counts_and_plans_are_refused() -> Result<(), Error> {
     assert_eq!(Ring::<u64>::new(usize::MAX).err(), Some(Error::Plan));
     let mut ring = Ring::<u64>::new(6000)?;
     assert_eq!(ring.try_put_bulk(&[]), Err(Error::Count));
-    assert_eq!(ring.try_put_bulk(&vec![0; MOST_ON_MULTI + 1]), Err(Error::Count));
+    assert_eq!(ring.try_put_bulk(&vec![0; MAX_WORDS_MULTI + 1]), Err(Error::Count));
     assert_eq!(ring.try_put_bulk(&vec![0; 6001]), Err(Error::NoRoom));
     assert_eq!(ring.try_put_bulk(&vec![0; 6000]), Ok(6000));
-    assert_eq!(ring.try_take_burst(&mut vec![0; MOST_ON_MULTI]), Ok(6000));
+    assert_eq!(ring.try_take_burst(&mut vec![0; MAX_WORDS_MULTI]), Ok(6000));
     ring.try_put_bulk(&[1])?;
     assert_eq!(ring.finish_put(&[0]), Err(Error::NotOpen));
     assert_eq!(ring.finish_take(1), Err(Error::NotOpen));
@@ -208,7 +208,7 @@ fn threads_put_and_take_by_ends() -> Result<(), Error> {
 
 #[test]
 fn a_held_side_is_given_back_when_it_is_dropped() -> Result<(), Error> {
-    for most in [1, 2, 7, MOST] {
+    for most in [1, 2, 7, MAX_WORDS] {
         let (mut producer, mut consumer) = Ring::with_modes(6, Mode::Hts, Mode::Hts)?.split()?;
         let mut puts = producer.hold(most)?;
         for word in 0..6u64 {

@@ -26,13 +26,13 @@ RENAMED = {"EMPTY": "NULL"}
 OF_C = {"HK_OK", "HK_E_NOTHING", "HK_E_BEGUN"}
 # A fault that no call of C can meet: its handles are empty where one is made.
 UNPUBLISHED = {"HK_E_USED"}
-LIMITS = {"HK_MOST": [("capi/src/rings/member.rt", "MOST"), ("capi/src/reorder_windows.rt", "MOST")],
-          "HK_MOST_ON_MULTI": [("capi/src/rings/member.rt", "MOST_ON_MULTI")],
-          "HK_MOST_RINGS": [("capi/src/rings/opening.rt", "MOST_RINGS")],
-          "HK_POOL_MOST": [("capi/src/pools/member.rt", "MOST_NUMBERS")],
-          "HK_MOST_PORTS": [("live_routes/src/ports.rt", "MAX_PORTS")],
-          "HK_MOST_HOPS": [("live_routes/src/ports.rt", "MAX_HOPS")],
-          "HK_FORWARD_MOST": [("live_routes/src/bursts.rt", "MOST")],
+LIMITS = {"HK_MAX_WORDS": [("capi/src/rings/member.rt", "MAX_WORDS"), ("capi/src/reorder_windows.rt", "MAX_WORDS")],
+          "HK_MAX_WORDS_MULTI": [("capi/src/rings/member.rt", "MAX_WORDS_MULTI")],
+          "HK_MAX_RINGS": [("capi/src/rings/opening.rt", "MAX_RINGS")],
+          "HK_MAX_NUMBERS": [("capi/src/pools/member.rt", "MAX_NUMBERS")],
+          "HK_MAX_PORTS": [("live_routes/src/ports.rt", "MAX_PORTS")],
+          "HK_MAX_HOPS": [("live_routes/src/ports.rt", "MAX_HOPS")],
+          "HK_MAX_FRAMES": [("live_routes/src/bursts.rt", "MAX_FRAMES")],
           "HK_TAGGED": [("live_routes/src/frame.rt", "TAGGED")],
           "HK_DROP": [("live_routes/src/frame.rt", "DROP")]}
 

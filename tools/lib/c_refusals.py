@@ -25,8 +25,8 @@ ON_MULTI = re.compile(r"hk_ring_(try_(put|take)_(bulk|burst)|finish_put)")
 # The counts of calls that forward, and the values that the table has to have of each.
 OF_FORWARD = {
     "port": {"PORTS", "SIZE_MAX"},
-    "port_count": {"0", "HK_MOST_PORTS + 1", "SIZE_MAX"},
-    "hop_count": {"0", "HK_MOST_HOPS + 1", "SIZE_MAX"},
+    "port_count": {"0", "HK_MAX_PORTS + 1", "SIZE_MAX"},
+    "hop_count": {"0", "HK_MAX_HOPS + 1", "SIZE_MAX"},
     "held": {"0"},
     "wire": {"0", "HELD - 1"},
 }
@@ -117,13 +117,13 @@ def read_table(calls):
 def most(name):
     """The largest count of a call."""
     if name == "hk_hand_open":
-        return "HK_MOST_RINGS"
+        return "HK_MAX_RINGS"
     if name.endswith("_lookup_bulk"):
         return "SIZE_MAX / 8"
     if ON_MULTI.fullmatch(name):
-        return "HK_MOST_ON_MULTI"
-    limits = {"pool": "HK_POOL_MOST", "forward": "HK_FORWARD_MOST"}
-    return limits.get(name.split("_")[1], "HK_MOST")
+        return "HK_MAX_WORDS_MULTI"
+    limits = {"pool": "HK_MAX_NUMBERS", "forward": "HK_MAX_FRAMES"}
+    return limits.get(name.split("_")[1], "HK_MAX_WORDS")
 
 
 def wanted(entry, place):

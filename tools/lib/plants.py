@@ -32,7 +32,7 @@ import shutil
 import sys
 import types
 
-MOST, MINUTES = "2000", "90"
+MAX_PLANTS, MINUTES = "2000", "90"
 ANSWER, REFUSAL, BACK = "result", "refuses anew", "handed back"
 
 
@@ -187,7 +187,7 @@ def main(words):
     bodies.Bodies, plant.plant = Lazy, kept_plant
     out, sys.stdout = sys.stdout, open(os.devnull, "w", encoding="utf-8")
     try:
-        plant.main("--max", MOST, "--minutes", MINUTES, *words)
+        plant.main("--max", MAX_PLANTS, "--minutes", MINUTES, *words)
     finally:
         sys.stdout = out
     crate, count, judged = os.path.basename(os.getcwd()), collections.Counter(), collections.defaultdict(set)

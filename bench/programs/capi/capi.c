@@ -25,7 +25,7 @@
 #include <unistd.h>
 
 #define SLOTS 1024
-#define MOST 128
+#define MAX_WORDS 128
 #define WARM 20000
 #define CHUNK 2000
 #define ADDRESSES (1u << 20)
@@ -138,8 +138,8 @@ static void ends(const char *only, uint64_t *words, int hts, int both, unsigned 
 static void alone(const char *only, unsigned long count)
 {
 	static const size_t sizes[] = { 1, 8, 32, 128 };
-	uint64_t words[MOST];
-	for (unsigned i = 0; i < MOST; i++) words[i] = i + 1;
+	uint64_t words[MAX_WORDS];
+	for (unsigned i = 0; i < MAX_WORDS; i++) words[i] = i + 1;
 	if (!only || strcmp(only, "held-1") == 0) held(words, only != NULL, count);
 	for (int hts = 0; hts < 2; hts++) {
 		ones(only, words, hts, count);
@@ -504,7 +504,7 @@ static void *produce(void *given)
 {
 	struct job *job = given;
 	hk_producer *end;
-	uint64_t table[MOST], next = 0, sum = 0;
+	uint64_t table[MAX_WORDS], next = 0, sum = 0;
 	pin(job->cpu);
 	if (hk_producer_open(&end, job->hand, 0) < 0 || (job->by == HELD_ENDS && hk_producer_hold(end, HELD) < 0)) exit(1);
 	for (unsigned long i = 0; i < job->calls; i++) {
@@ -523,7 +523,7 @@ static void *consume(void *given)
 {
 	struct job *job = given;
 	hk_consumer *end;
-	uint64_t table[MOST], sum = 0;
+	uint64_t table[MAX_WORDS], sum = 0;
 	pin(job->cpu);
 	if (hk_consumer_open(&end, job->hand, 0) < 0 || (job->by == HELD_ENDS && hk_consumer_hold(end, HELD) < 0)) exit(1);
 	for (unsigned long i = 0; i < job->calls; i++) {
@@ -568,7 +568,7 @@ int main(int argc, char **argv)
 	else if (argc == 2 && !strcmp(argv[1], "publishes")) publishes();
 	else if (argc == 3 && !strcmp(argv[1], "memory")) memory(!strcmp(argv[2], "twice"));
 	else if (argc == 2 && !strcmp(argv[1], "forwards")) forwards();
-	else if (argc == 6 && !strcmp(argv[1], "threads") && atoi(argv[3]) <= 4 && atoi(argv[4]) <= MOST) {
+	else if (argc == 6 && !strcmp(argv[1], "threads") && atoi(argv[3]) <= 4 && atoi(argv[4]) <= MAX_WORDS) {
 		int held = !strcmp(argv[2], "held"), hts = held || !strcmp(argv[2], "hts");
 		enum by by = held ? HELD_ENDS : !strcmp(argv[2], "ends") ? ENDS : LISTS;
 		threads(hts, by, atoi(argv[3]), by == LISTS ? atoi(argv[4]) : 1, strtoul(argv[5], NULL, 10));

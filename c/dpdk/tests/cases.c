@@ -10,18 +10,18 @@
 #include <stdio.h>
 #include <string.h>
 
-enum { MOST = 256 };
+enum { MAX_CASES = 256 };
 
 static struct {
     const char *name;
     int (*run)(unsigned);
     unsigned which;
-} cases[MOST];
+} cases[MAX_CASES];
 static unsigned count;
 static unsigned seconds;
 
 void case_add(const char *name, int (*run)(unsigned), unsigned which) {
-    if (count == MOST) abort();
+    if (count == MAX_CASES) abort();
     cases[count].name = name;
     cases[count].run = run;
     cases[count++].which = which;

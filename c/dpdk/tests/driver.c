@@ -13,7 +13,7 @@
 #include <rte_malloc.h>
 #include <rte_mempool.h>
 
-enum { MOST_OBJECTS = (1 << 20) - 1, THREADS = 200, ROUNDS = 10 };
+enum { MAX_OBJECTS = (1 << 20) - 1, THREADS = 200, ROUNDS = 10 };
 
 static const char *ops;
 static int wrong;
@@ -105,11 +105,11 @@ static void all_there(struct rte_mempool *mp) {
 }
 
 static void sizes(void) {
-    struct rte_mempool *mp = pool_of(MOST_OBJECTS);
+    struct rte_mempool *mp = pool_of(MAX_OBJECTS);
     CHECK(mp != NULL);
     if (mp) all_there(mp);
     rte_mempool_free(mp);
-    is_refused(MOST_OBJECTS + 1, EINVAL);
+    is_refused(MAX_OBJECTS + 1, EINVAL);
 }
 
 /* A long get takes all or none, also if there is enough for its first piece: what that took goes back. */

@@ -139,6 +139,26 @@ static void no_hand(void) {
     rte_lpm_free(lpm);
 }
 
+/* Each request of two changes is refused, with all after it: both return, and later changes are made. */
+static void changes_without_memory(void) {
+    uint32_t hop = 0;
+    long tried = 0;
+    for (int answer = -ENOMEM; answer == -ENOMEM;) {
+        struct rte_lpm *lpm = a_table();
+        CHECK(lpm && rte_lpm_add(lpm, 1u << 24, 8, 1) == 0);
+        requests = 0;
+        refused = ++tried;
+        int first = rte_lpm_add(lpm, 2u << 24, 26, 2);
+        answer = rte_lpm_add(lpm, 3u << 24, 26, 3);
+        CHECK((first == 0 || first == -ENOMEM) && (answer == 0 || answer == -ENOMEM));
+        rte_lpm_delete_all(lpm);
+        refused = 0;
+        CHECK(rte_lpm_add(lpm, 4u << 24, 26, 4) == 0 && rte_lpm_lookup(lpm, 4u << 24, &hop) == 0 && hop == 4);
+        rte_lpm_free(lpm);
+    }
+    CHECK(tried > 1);
+}
+
 /* ---- Rings --------------------------------------------------------------------------------------------------------*/
 
 static void refusals(void) {
@@ -428,6 +448,7 @@ static const struct {
              {"a table without memory", table_memory},
              {"a window without memory", window_memory},
              {"a thread without memory", no_hand},
+             {"changes of routes without memory", changes_without_memory},
              {"what a ring refuses", refusals},
              {"counts beside a peek", beside_a_peek},
              {"long calls", long_calls},

@@ -11,7 +11,7 @@
 #include <rte_errno.h>
 #include <rte_mempool.h>
 
-enum { OBJECTS = 100, TAKEN = 10, MOST_WORDS = 64 };
+enum { OBJECTS = 100, TAKEN = 10, MAX_WORDS = 64 };
 
 static int wrong;
 
@@ -77,8 +77,8 @@ static void in_primary(const char *ops, char **words) {
 }
 
 int main(int argc, char **argv) {
-    char *words[MOST_WORDS], type[] = "--proc-type=secondary";
-    if (argc < 2 || argc + 2 > MOST_WORDS) return 2;
+    char *words[MAX_WORDS], type[] = "--proc-type=secondary";
+    if (argc < 2 || argc + 2 > MAX_WORDS) return 2;
     const char *ops = argv[1];
     for (int i = 0; i < argc; i++) words[i] = argv[i];
     words[argc] = type;

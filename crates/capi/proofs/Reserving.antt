@@ -16,9 +16,9 @@ use Rattle.capi.specs.Members.{Rings}
 use Rattle.capi.specs.Spans.{HasReserved, IsAsked, tags}
 use Rattle.capi.specs.declared.rings.word64.Word64.{Word64}
 
-asked_of : (how : How) (n room count : ℕ) → count ≡ granted how n room → 0 < count → IsAsked how n count
-asked_of Bulk n room count is some = grind (arith, nat_tests)
-asked_of Burst n room count is some = omega (arith, is)
+found_room_of : (how : How) (n room count : ℕ) → count ≡ granted how n room → 0 < count → IsAsked how n count
+found_room_of Bulk n room count is some = grind (arith, nat_tests)
+found_room_of Burst n room count is some = omega (arith, is)
 
 module _ (f : Rings) (most : ℕ) (how : How) (n ring : ℕ) (side : Side) (v : View Word64) where
   pub reserved_of : (span : Span) (left : ℕ) (shown : List Word64) (w : View Word64) → ring < length (rings_of f)
@@ -38,5 +38,5 @@ module _ (f : Rings) (most : ℕ) (how : How) (n ring : ℕ) (side : Side) (v : 
         some = s.positive;
         few = omega (arith, s.granted, granted_few how n room);
         fits = (may plan p.1).1;
-        asked = asked_of how n room span.count s.granted s.positive;
+        asked = found_room_of how n room span.count s.granted s.positive;
       }

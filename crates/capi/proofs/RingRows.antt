@@ -19,7 +19,7 @@ use Rattle.capi.specs.Codes.{code_of}
 use Rattle.capi.specs.Finishes.{DoesNotFit}
 use Rattle.capi.specs.Members.{Rings}
 use Rattle.capi.specs.Plans.{extent_asked, mode_asked, plan_asked}
-use Rattle.capi.specs.Rests.{RefusesClose}
+use Rattle.capi.specs.Leftovers.{RefusesClose}
 use Rattle.capi.specs.RingCalls.{SameButLoads, member_view}
 use Rattle.capi.specs.Spans.{HasReserved, HasSettled, IsAsked, IsEarly, call_limit, limit_in, limit_of, room_of, start_fault}
 use Rattle.capi.specs.declared.rings.fault.Fault.TheVariants as fault

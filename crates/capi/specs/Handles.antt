@@ -69,7 +69,7 @@ abbrev pub table_in : Object → Option Routes
 table_in (object.Routes t) = Some t.value
 table_in (object.Reorder w) = None
 table_in (object.Hand m) = None
-table_in (object.Rest r) = None
+table_in (object.Leftover r) = None
 table_in (object.Pool p) = None
 table_in (object.Forward f) = None
 table_in (object.Fib r) = None
@@ -78,7 +78,7 @@ abbrev pub window_in : Object → Option (Waiting ℕ)
 window_in (object.Reorder w) = Some w
 window_in (object.Routes t) = None
 window_in (object.Hand m) = None
-window_in (object.Rest r) = None
+window_in (object.Leftover r) = None
 window_in (object.Pool p) = None
 window_in (object.Forward f) = None
 window_in (object.Fib r) = None

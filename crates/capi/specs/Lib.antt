@@ -21,7 +21,7 @@ pub mod Ends
 pub mod EndCalls
 pub mod Plans
 pub mod Openings
-pub mod Rests
+pub mod Leftovers
 pub mod PoolMembers
 pub mod Tries
 pub mod PoolCalls

@@ -21,16 +21,16 @@ use Rattle.capi.specs.Tries.{IsPartOf, IsSame, Received, Sent, refusal_fault}
 use Rattle.capi.specs.Spans.{start_fault}
 use Rattle.capi.specs.declared.rings.fault.Fault.{Fault}
 use Rattle.capi.specs.declared.rings.fault.Fault.TheVariants as fault
-use Rattle.capi.specs.declared.pools.member.TheConstants.{MOST_NUMBERS}
+use Rattle.capi.specs.declared.pools.member.TheConstants.{MAX_NUMBERS}
 use Rattle.capi.specs.declared.pools.member.Number.{Number}
 
 -- a count that no call takes
 abbrev pub IsBadCount : ℕ → Fault → Type 0
-IsBadCount n why = (why ≡ fault.Count) × ((n ≡ 0) ⊎ (MOST_NUMBERS < n))
+IsBadCount n why = (why ≡ fault.Count) × ((n ≡ 0) ⊎ (MAX_NUMBERS < n))
 
 -- a count that a call takes
 abbrev pub IsGoodCount : ℕ → Type 0
-IsGoodCount n = (0 < n) × (n ≤ MOST_NUMBERS)
+IsGoodCount n = (0 < n) × (n ≤ MAX_NUMBERS)
 
 module _ {G : Ghosts Number} {H : StoredGhosts (Option Number) Number} {C : Type 0} {K : StoreGhosts C Number}
     (l : Local Number 4096 (Option Number) C G H K) where

@@ -14,7 +14,7 @@ use Rattle.capi.specs.declared.object.Object.TheVariants as object
 abbrev pub pool_in : Object → Option PoolMember
 pool_in (object.Pool p) = Some p
 pool_in (object.Hand m) = None
-pool_in (object.Rest r) = None
+pool_in (object.Leftover r) = None
 pool_in (object.Routes t) = None
 pool_in (object.Reorder w) = None
 pool_in (object.Forward f) = None

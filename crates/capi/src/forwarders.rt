@@ -10,7 +10,7 @@ use crate::object::Object;
 use crate::rings::Fault;
 use crate::route_tables::look_up_in;
 use ipv4::Hop;
-use live_routes::{Fib, Frame, MOST, Port, RouteReader, addressed_at, fits};
+use live_routes::{Fib, Frame, MAX_FRAMES, Port, RouteReader, addressed_at, fits};
 
 type Reader = RouteReader<Hop, Port>;
 
@@ -167,7 +167,7 @@ pub(crate) fn verdict(slot: &mut Option<Object>, frame: &[u8], wire: usize) -> R
 fn is_burst(frames: &[Frame<'_>], verdicts: &[u32]) -> bool
     ensures { IsTrue result ↔ IsBurst frames.now verdicts.now }
 {
-    if frames.is_empty() || frames.len() > MOST || frames.len() != verdicts.len() {
+    if frames.is_empty() || frames.len() > MAX_FRAMES || frames.len() != verdicts.len() {
         return false;
     }
     frames.iter().all(|frame| fits(frame))

@@ -1,16 +1,16 @@
 //! The exports that open, split and close hands.
 ghost use Rattle.std.specs.Prelude.{◌≡◌, IfErr, IfOk, None, Some};
 ghost use Rattle.capi.specs.Codes.{Answers};
-ghost use Rattle.capi.specs.HandCalls.{AtRest, HasNoHand};
+ghost use Rattle.capi.specs.HandCalls.{AtLeftover, HasNoHand};
 ghost use Rattle.capi.specs.HandExports.{OpensHand, SplitsAt, SplitsHand};
-ghost use Rattle.capi.specs.Rests.{DrainsRest};
+ghost use Rattle.capi.specs.Leftovers.{DrainsLeftover};
 ghost use Rattle.capi.specs.Closings.{ClosesAt};
 ghost use Rattle.capi.specs.declared.object.Object.TheVariants as object;
 
 use crate::handle::Handle;
 use crate::keeping::{borrow, give, is_used, split_off, with_new, with_object};
 use crate::object::Object;
-use crate::rings::{Asked, Fault, MOST, Member, Word64, answer, close, drain, open, split};
+use crate::rings::{Asked, Fault, MAX_WORDS, Member, Word64, answer, close, drain, open, split};
 use std::alloc::Global;
 
 /// Opens a set of rings, all empty, and the first hand on it.
@@ -84,8 +84,8 @@ fn close_in(slot: &mut Option<Object>) -> Result<u32, Fault>
 {
     match take_hand(slot) {
         Ok(member) => match close(member) {
-            Ok(rest) => {
-                *slot = Some(Object::Rest(rest));
+            Ok(leftover) => {
+                *slot = Some(Object::Leftover(leftover));
                 Ok(0)
             }
             Err((member, why)) => {
@@ -124,9 +124,9 @@ pub extern "C" fn hkx_hand_drain(
     ring: usize,
     words: &mut [Word64],
 ) -> i64
-    ensures { Answers result (λ outcome. AtRest h.old.value h.new.value
-        (λ r u code. DrainsRest code MOST ring words.old words.new r u) outcome
+    ensures { Answers result (λ outcome. AtLeftover h.old.value h.new.value
+        (λ r u code. DrainsLeftover code MAX_WORDS ring words.old words.new r u) outcome
         × IfErr outcome (λ _. words.new ≡ words.old)) }
 {
-    with_object!(alloc, h, Rest(rest) => drain(rest, ring, words))
+    with_object!(alloc, h, Leftover(leftover) => drain(leftover, ring, words))
 }

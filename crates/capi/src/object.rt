@@ -1,6 +1,6 @@
 //! The kinds of objects.
 use crate::pools::PoolMember;
-use crate::rings::{Member, Rest};
+use crate::rings::{Leftover, Member};
 use ipv4::Hop;
 use live_routes::{Port, RouteReader, RouteWriter};
 use lpm::Table;
@@ -13,7 +13,7 @@ pub enum Object {
     /// A hand on a set of rings.
     Hand(Member),
     /// What is left on rings that were closed.
-    Rest(Rest),
+    Leftover(Leftover),
     /// A table of routes, which several handles may share.
     Routes(Arc<Table>),
     /// A reorder window of words.

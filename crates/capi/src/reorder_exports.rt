@@ -8,7 +8,7 @@ ghost use Rattle.capi.specs.Windows.{Drains, Inserts, OpensWindow};
 use crate::handle::Handle;
 use crate::keeping::{borrow, give, is_used, with_new, with_object};
 use crate::object::Object;
-use crate::reorder_windows::{MOST, drain, insert, made, next, slide};
+use crate::reorder_windows::{MAX_WORDS, drain, insert, made, next, slide};
 use crate::rings::{Fault, answer};
 use std::alloc::Global;
 
@@ -33,7 +33,7 @@ pub extern "C" fn hkx_reorder_insert(alloc: Global, h: &mut Handle, number: u64,
 #[unsafe(no_mangle)]
 pub extern "C" fn hkx_reorder_drain(alloc: Global, h: &mut Handle, words: &mut [u64]) -> i64
     ensures { Answers result (λ outcome. AtWindow h.old.value h.new.value
-        (λ w u code. Drains code MOST words.old words.new w u) outcome
+        (λ w u code. Drains code MAX_WORDS words.old words.new w u) outcome
         × IfErr outcome (λ _. words.new ≡ words.old)) }
 {
     with_object!(alloc, h, Reorder(window) => drain(window, words))

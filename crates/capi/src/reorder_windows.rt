@@ -8,7 +8,7 @@ use reorder::{InsertFault, MAX_SIZE, Window};
 use std::alloc::Global;
 
 /// The largest number of words in one call.
-pub(crate) const MOST: usize = 4095;
+pub(crate) const MAX_WORDS: usize = 4095;
 
 /// The fault for one of the window's own.
 fn fault(why: InsertFault) -> Fault
@@ -48,8 +48,8 @@ pub(crate) fn insert(window: &mut Window<u64>, number: u64, word: u64) -> Result
 
 /// Moves the words whose turn it is to the front of an array.
 fn drain_from(window: &mut Window<u64>, words: &mut [u64]) -> u32
-    requires few { length words.old ≤ MOST }
-    ensures { Drains (Ok result) MOST words.old words.new window.old window.new }
+    requires few { length words.old ≤ MAX_WORDS }
+    ensures { Drains (Ok result) MAX_WORDS words.old words.new window.old window.new }
 {
     for i in 0..words.len() {
         match window.pop() {
@@ -60,11 +60,11 @@ fn drain_from(window: &mut Window<u64>, words: &mut [u64]) -> u32
     words.len() as u32
 }
 
-/// Moves the words whose turn it is to the front of an array. Errors: `Count` if it has more than `MOST` places.
+/// Moves the words whose turn it is to the front of an array. Errors: `Count` if it has more than `MAX_WORDS` places.
 pub(crate) fn drain(window: &mut Window<u64>, words: &mut [u64]) -> Result<u32, Fault>
-    ensures { Drains result MOST words.old words.new window.old window.new }
+    ensures { Drains result MAX_WORDS words.old words.new window.old window.new }
 {
-    if words.len() > MOST {
+    if words.len() > MAX_WORDS {
         return Err(Fault::Count);
     }
     Ok(drain_from(window, words))

@@ -11,14 +11,15 @@ use crate::handle::Handle;
 use crate::keeping::{borrow, with_object};
 use crate::object::Object;
 use crate::rings::{
-    Fault, MOST, Word64, answer, how, look, put_word, put_words, side_of, take_word, take_words,
+    Fault, MAX_WORDS, Word64, answer, how, look, put_word, put_words, side_of, take_word,
+    take_words,
 };
 use std::alloc::Global;
 
-/// Puts at most `MOST` words, or those of a `long` call.
+/// Puts at most `MAX_WORDS` words, or those of a `long` call.
 #[inline(always)]
 fn put(alloc: Global, h: &mut Handle, ring: usize, words: &[Word64], bulk: bool, long: bool) -> i64
-    requires short { long ≡ false → length words.now ≤ MOST }
+    requires short { long ≡ false → length words.now ≤ MAX_WORDS }
     ensures { Answers result (AtHand h.old.value h.new.value (PutsWords ring (how_of bulk) words.now)) }
 {
     with_object!(alloc, h, Hand(member) => put_words(member, ring, words, how(bulk), long))
@@ -43,13 +44,13 @@ pub extern "C" fn hkx_ring_put(
 ) -> i64
     ensures { Answers result (AtHand h.old.value h.new.value (PutsWords ring (how_of bulk) words.now)) }
 {
-    if words.len() > MOST {
+    if words.len() > MAX_WORDS {
         return put_long(alloc, h, ring, words, bulk);
     }
     put(alloc, h, ring, words, bulk, false)
 }
 
-/// Takes words to an array of at most `MOST` places, or by a `long` call.
+/// Takes words to an array of at most `MAX_WORDS` places, or by a `long` call.
 #[inline(always)]
 fn take(
     alloc: Global,
@@ -59,7 +60,7 @@ fn take(
     bulk: bool,
     long: bool,
 ) -> i64
-    requires short { long ≡ false → length words.old ≤ MOST }
+    requires short { long ≡ false → length words.old ≤ MAX_WORDS }
     ensures { Answers result
         (AtHand h.old.value h.new.value (TakesWords ring (how_of bulk) words.old words.new)) }
 {
@@ -87,7 +88,7 @@ pub extern "C" fn hkx_ring_take(
     ensures { Answers result
         (AtHand h.old.value h.new.value (TakesWords ring (how_of bulk) words.old words.new)) }
 {
-    if words.len() > MOST {
+    if words.len() > MAX_WORDS {
         return take_long(alloc, h, ring, words, bulk);
     }
     take(alloc, h, ring, words, bulk, false)

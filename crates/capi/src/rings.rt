@@ -27,7 +27,7 @@ mod starting;
 mod whole_calls;
 mod word64;
 
-pub(crate) use closing::Rest;
+pub(crate) use closing::Leftover;
 pub(crate) use end_calls::{
     end_put, end_take, is_put_recent, is_take_recent, put_on_held, put_when_open, take_on_held,
     take_when_open,
@@ -37,7 +37,7 @@ pub(crate) use ends::{hold_end, open_end, release_end};
 pub(crate) use fault::{Fault, answer};
 pub(crate) use holding::{advance_put, advance_take, hold_take, release_take};
 pub(crate) use making::open;
-pub(crate) use member::{MOST, Member};
+pub(crate) use member::{MAX_WORDS, Member};
 pub(crate) use member_calls::{clamped, look, queued_or_room, side_of};
 pub(crate) use opening::Asked;
 pub(crate) use span_calls::{finish_put_of, finish_take_of, peek_put_of, peek_take_of};

@@ -9,7 +9,7 @@ use std::thread::{Threads, available_parallelism};
 const OTHERS: usize = 2;
 
 /// The most workers that are chosen: no run was measured to be faster with more.
-const MOST: usize = 2;
+const MAX_CHOSEN: usize = 2;
 
 /// What the command line requests.
 #[derive(Clone, Copy, Debug, PartialEq, Eq)]
@@ -41,5 +41,5 @@ impl Workers {
 pub fn workers_for(processors: usize) -> usize
     ensures chosen { IsChosen processors result }
 {
-    processors.saturating_sub(OTHERS).min(MOST)
+    processors.saturating_sub(OTHERS).min(MAX_CHOSEN)
 }

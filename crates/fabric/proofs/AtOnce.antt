@@ -27,17 +27,17 @@ use Rattle.fabric_laws.proofs.Lanes.{own_same}
 use Rattle.fabric.specs.declared.hand.recent.Recent.{Recent}
 use Rattle.fabric.specs.declared.ring.Positions.{Positions}
 use Rattle.fabric.specs.declared.ring.Ring.{Ring}
-use Rattle.fabric.specs.AtOnce.{AskedLast, HasReservedOne, HasStartedOne, IsRecent, tail_in, word_in}
+use Rattle.fabric.specs.AtOnce.{FoundRoomLast, HasReservedOne, HasStartedOne, IsRecent, tail_in, word_in}
 use Rattle.fabric.specs.OpenSpans.{HasStarted}
 use Rattle.fabric.specs.Rings.{HasReserved, IsSameSeat, IsSeated, slot_values, slots_of}
 use Rattle.fabric.specs.Starts.{MayStart, Starts}
-use Rattle.fabric.specs.Views.{HasAsked, span_of}
+use Rattle.fabric.specs.Views.{HasFoundRoom, span_of}
 use Rattle.fabric.proofs.Calls.{reserved_as, told_ring}
 use Rattle.fabric.proofs.Starting.{GoesOn}
 
--- what was asked last, as a fact of one tail, and back
-pub asked_of : {T : Type 0} (ring : ℕ) (side : Side) (v : View T) → AskedLast ring side v → HasAsked ring side (tail_in v.observed) v
-asked_of ring side v is = (
+-- what room was found last, as a fact of one tail, and back
+pub found_room_of : {T : Type 0} (ring : ℕ) (side : Side) (v : View T) → FoundRoomLast ring side v → HasFoundRoom ring side (tail_in v.observed) v
+found_room_of ring side v is = (
   record { ring = ring; side = side; looked_at = word_in v.observed; tail_seen = Some (tail_in v.observed) },
   is,
   refl,
@@ -45,22 +45,22 @@ asked_of ring side v is = (
   refl,
 )
 
-pub asked_last : {T : Type 0} (ring : ℕ) (side : Side) (word tail : ℕ) (v : View T)
-    → v.observed ≡ Some record { ring = ring; side = side; looked_at = word; tail_seen = Some tail } → AskedLast ring side v × (tail_in v.observed ≡ tail)
-asked_last ring side word tail v is = (
+pub found_room_last : {T : Type 0} (ring : ℕ) (side : Side) (word tail : ℕ) (v : View T)
+    → v.observed ≡ Some record { ring = ring; side = side; looked_at = word; tail_seen = Some tail } → FoundRoomLast ring side v × (tail_in v.observed ≡ tail)
+found_room_last ring side word tail v is = (
   is ∙ ap (λ (z : Option Observed). Some record { ring = ring; side = side; looked_at = word_in z; tail_seen = Some (tail_in z) }) (sym is),
   ap tail_in is,
 )
 
 -- what a hand remembers is so, if it is so of one side
 pub recent_at : {T : Type 0} (m : Recent) (v : View T) (ring : ℕ) (side : Side) (plan : RingPlan) → m.own ≡ own_at ring side
-    → slice_get v.plans ring ≡ Some plan → AskedLast ring side v
+    → slice_get v.plans ring ≡ Some plan → FoundRoomLast ring side v
     → m.left ≤ room_by_look side plan.geometry.capacity (position_of plan.geometry (mode_of plan side) m.word) (tail_in v.observed)
     → (mode_of plan side ≡ Hts → m.word % range_of plan.geometry ≡ 0) → IsRecent m v
 recent_at m v ring side plan own at asked room whole ring' side' plan' own' at' =
     let to = own_same ring side ring' side' (sym own ∙ own') in
     let is_plan : plan ≡ plan' = same_plan (sym at ∙ (ap (slice_get v.plans) to.0 ∙ at')) in (
-      subst (λ (z : ℕ × Side). AskedLast z.0 z.1 v) (λ k. (to.0 k, to.1 k)) asked,
+      subst (λ (z : ℕ × Side). FoundRoomLast z.0 z.1 v) (λ k. (to.0 k, to.1 k)) asked,
       subst (λ (z : Side × RingPlan). m.left ≤ room_by_look z.0 z.1.geometry.capacity (position_of z.1.geometry (mode_of z.1 z.0) m.word) (tail_in v.observed))
           (λ k. (to.1 k, is_plan k)) room,
       subst (λ (z : Side × RingPlan). mode_of z.1 z.0 ≡ Hts → m.word % range_of z.1.geometry ≡ 0) (λ k. (to.1 k, is_plan k)) whole,
@@ -127,7 +127,7 @@ module _ {T : Type 0} {N : ℕ} {S : Type 0} (tags : T → List ℕ) (r : Ring T
             single = λ _ free. subst (AreSingle tags) (sym shown) (won.4 free);
           }
 
-  pub reserved_one : (x n : ℕ) → HasAsked r.index side n s.me.0 → (mode_of plan side ≡ Hts → word % range_of plan.geometry ≡ 0)
+  pub reserved_one : (x n : ℕ) → HasFoundRoom r.index side n s.me.0 → (mode_of plan side ≡ Hts → word % range_of plan.geometry ≡ 0)
       → at_once_tells tags (step slots i word (word + 1) none) s.me x t.me → x ≡ word → HasReservedOne tags r side word s t
   reserved_one x n asked whole tells hit =
       let known : slice_get s.me.0.plans r.index ≡ Some plan = told_ring s.me.0.plans r.fabric.now.plan.rings.items r.index plan seat.plans r.in_plan.0 in
@@ -177,13 +177,13 @@ module _ {T : Type 0} {N : ℕ} {S : Type 0} (tags : T → List ℕ) (r : Ring T
           let saw : ℕ = tail_in s.me.0.observed in
           let there : recent.left ≤ room_by_look side plan.geometry.capacity start saw =
           subst (λ (w : ℕ). recent.left ≤ room_by_look side plan.geometry.capacity (position_of plan.geometry (mode_of plan side) w) saw) from old.1 in
-          let now = asked_last r.index side word h.tail t.me.0 (ap (λ z. z.observed) h.reserved.view ∙ ap (λ z. z.observed) h.found.view) in
+          let now = found_room_last r.index side word h.tail t.me.0 (ap (λ z. z.observed) h.reserved.view ∙ ap (λ z. z.observed) h.found.view) in
           let room : next.left ≤ room_by_look side plan.geometry.capacity (position_of plan.geometry (mode_of plan side) next.word) (tail_in t.me.0.observed) =
           subst (λ (z : ℕ × ℕ). next.left ≤ room_by_look side plan.geometry.capacity z.0 z.1) (λ k. (sym further k, sym now.1 k))
-          (room_after side plan.geometry.capacity start saw h.tail recent.left next.left (h.more saw (asked_of r.index side s.me.0 old.0)) less there) in
+          (room_after side plan.geometry.capacity start saw h.tail recent.left next.left (h.more saw (found_room_of r.index side s.me.0 old.0)) less there) in
           recent_at next t.me.0 r.index side plan (same_own ∙ own) (ap (λ l. slice_get l r.index) plans ∙ known) now.0 room whole
 
-      pub started_one : (most n : ℕ) (range : Positions) → range.start ≡ start → range.count ≡ 1 → s.me.1 ≡ [] → HasAsked r.index side n s.me.0
+      pub started_one : (most n : ℕ) (range : Positions) → range.start ≡ start → range.count ≡ 1 → s.me.1 ≡ [] → HasFoundRoom r.index side n s.me.0
           → 0 < room_by_look side plan.geometry.capacity start n → start < plan.geometry.last → MayStart tags most 1 side plan s.me.0
           → HasStartedOne tags most side r s.me.0 t range
       started_one most n range first one no_slots asked room low may = (
@@ -237,7 +237,7 @@ recent_started tags most n how side r v s range m h own there whole left =
     let plan : RingPlan = r.shape.now.plan in
     let starts = h.starts in
     let known : slice_get s.me.0.plans r.index ≡ Some plan = told_ring s.me.0.plans r.fabric.now.plan.rings.items r.index plan h.seated.plans r.in_plan.0 in
-    let now = asked_last r.index side starts.word starts.tail s.me.0 (ap (λ z. z.observed) starts.view ∙ ap (λ z. z.observed) starts.found.view) in
+    let now = found_room_last r.index side starts.word starts.tail s.me.0 (ap (λ z. z.observed) starts.view ∙ ap (λ z. z.observed) starts.found.view) in
     let room : m.left ≤ room_by_look side plan.geometry.capacity (position_of plan.geometry (mode_of plan side) m.word) (tail_in s.me.0.observed) =
     subst (λ (z : ℕ × ℕ × ℕ). z.0 ≤ room_by_look side plan.geometry.capacity z.1 z.2) (λ k. (sym left k, sym there k, sym now.1 k))
     (rest_is side plan.geometry.capacity range.start range.count starts.tail range.left starts.rest) in

@@ -14,7 +14,7 @@ use Rattle.fabric_laws.specs.Words.{own_at}
 use Rattle.fabric.specs.AtOnce.{HasReservedOne, IsLoaded, IsRecent, tail_in}
 use Rattle.fabric.specs.Held.{span_at}
 use Rattle.fabric.specs.OneCalls.{MovesOne, RefusesPutOne, RefusesTakeOne}
-use Rattle.fabric.specs.Views.{HasAsked}
+use Rattle.fabric.specs.Views.{HasFoundRoom}
 use Rattle.fabric.specs.declared.fabric.Fabric.{Fabric}
 use Rattle.fabric.specs.declared.hand.SettleFault.{SettleFault}
 use Rattle.fabric.specs.declared.hand.StartFault.{StartFault}
@@ -23,7 +23,7 @@ use Rattle.fabric.specs.declared.hand.in_place.OpenSpan.TheVariants as open_span
 use Rattle.fabric.specs.declared.hand.in_place.Reserved.{Reserved}
 use Rattle.fabric.specs.declared.hand.in_place.WholeFault.TheVariants.{Start, Settle}
 use Rattle.fabric.specs.declared.ring.Ring.{Ring}
-use Rattle.fabric.proofs.AtOnce.{asked_last, recent_at}
+use Rattle.fabric.proofs.AtOnce.{found_room_last, recent_at}
 
 -- a ring of eight slots for seven items
 abbrev ring : Mode → RingPlan
@@ -41,7 +41,7 @@ seen side word tail = Some record { ring = 0; side = side; looked_at = word; tai
 module _ {T : Type 0} (v : View T) where
   after_a_put : v.plans ≡ ring Multi ∷ [] → v.observed ≡ seen Put 4 2 → IsRecent record { own = own_at 0 Put; word = 5; left = 4 } v
   after_a_put plans saw =
-      let asked = asked_last 0 Put 4 2 v saw in
+      let asked = found_room_last 0 Put 4 2 v saw in
       recent_at _ v 0 Put (ring Multi) refl (ap (λ l. slice_get l 0) plans) asked.0
       (subst (λ (t : ℕ). 4 ≤ 7 + t - 5) (sym asked.1) (omega arith)) (λ hts. absurd (let e : Multi ≡ Hts = hts in cc))
 
@@ -81,7 +81,7 @@ module _ {T : Type 0} {N : ℕ} {S : Type 0} (tags : T → List ℕ) (r : Ring T
   shows_an_item_to_put : (x : T) (xs : List T) → side ≡ Put → t.me.0.shown ≡ x ∷ xs → HasReservedOne tags r side word s t → ⊥
   shows_an_item_to_put x xs put shows is = absurd (let e : ◌≡◌ {A = List T} [] (x ∷ xs) = sym (is.reserved.empty put) ∙ shows in cc)
 
-  sees_an_older_tail : (n : ℕ) (h : HasReservedOne tags r side word s t) → HasAsked r.index side n s.me.0 → h.tail < n → ⊥
+  sees_an_older_tail : (n : ℕ) (h : HasReservedOne tags r side word s t) → HasFoundRoom r.index side n s.me.0 → h.tail < n → ⊥
   sees_an_older_tail n h asked older = absurd (omega (arith, older, h.more n asked))
 
 module _ {T : Type 0} {N : ℕ} {S : Type 0} (tags : T → List ℕ) (f : Fabric T N S) (most here : ℕ) (v u : View T) where

@@ -18,7 +18,7 @@ use Rattle.fabric.specs.declared.hand.recent.Recent.{Recent}
 use Rattle.fabric.specs.OpenSpans.{HasStarted}
 use Rattle.fabric.specs.Rings.{HasReserved}
 use Rattle.fabric.specs.Starts.{Found}
-use Rattle.fabric.specs.Views.{HasAsked}
+use Rattle.fabric.specs.Views.{HasFoundRoom}
 
 -- the word of a last look, and how far the other side was settled by the question for room after it
 abbrev pub word_in : Option Observed → ℕ
@@ -35,15 +35,15 @@ tail_in (Some o) = tail_of o.tail_seen
 
 module _ {T : Type 0} where
   -- the last question for room was one of this side
-  abbrev pub AskedLast : ℕ → Side → View T → Type 0
-  AskedLast ring side v = v.observed
+  abbrev pub FoundRoomLast : ℕ → Side → View T → Type 0
+  FoundRoomLast ring side v = v.observed
       ≡ Some record { ring = ring; side = side; looked_at = word_in v.observed; tail_seen = Some (tail_in v.observed) }
 
   -- what a hand remembers of a side is so: it was there when it last asked for room, and that leaves as many positions;
   -- the word shows no reservation
   abbrev pub IsRecent : Recent → View T → Type 0
   IsRecent r v = (ring : ℕ) (side : Side) (plan : RingPlan) → r.own ≡ own_at ring side → slice_get v.plans ring ≡ Some plan
-      → AskedLast ring side v
+      → FoundRoomLast ring side v
       × (r.left ≤ room_by_look side plan.geometry.capacity (position_of plan.geometry (mode_of plan side) r.word) (tail_in v.observed))
       × (mode_of plan side ≡ Hts → r.word % range_of plan.geometry ≡ 0)
 
@@ -58,7 +58,7 @@ module _ {T : Type 0} {N : ℕ} {S : Type 0} (tags : T → List ℕ) where
     pub tail : ℕ
     pub seen : View T
     pub found : Found tags r.index side r.shape.now.plan word tail s.me.0 seen
-    pub more : (n : ℕ) → HasAsked r.index side n s.me.0 → n ≤ tail
+    pub more : (n : ℕ) → HasFoundRoom r.index side n s.me.0 → n ≤ tail
     pub reserved : HasReserved tags r side
         (position_of r.shape.now.plan.geometry (mode_of r.shape.now.plan side) word) 1 (record s { me = (seen, s.me.1) }) t
 

@@ -138,7 +138,7 @@ pub trait TakeItems<T: Tagged>: Items<T> {
 
     /// Moves the items out of `count` slots from the position `start` on, which are the first of the row, into an empty
     /// list. They are the row's last ones afterwards, and hold nothing.
-    fn drain<S: Stored<T>>(
+    fn take_out<S: Stored<T>>(
         &mut self,
         shared: &Slots<T, S>,
         shape: &Shape,

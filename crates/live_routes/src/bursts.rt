@@ -10,7 +10,7 @@ use ipv4::Hop;
 use lpm::NextHop;
 
 /// The maximum number of frames in one burst.
-pub const MOST: usize = 64;
+pub const MAX_FRAMES: usize = 64;
 
 /// Writes the addresses to look up for frames, each at its frame's place.
 fn write_addresses(frames: &[Frame<'_>], addresses: &mut [u32])
@@ -42,8 +42,8 @@ fn forward_block(
     }
 }
 
-/// Forwards frames, with their lookups together, and writes the numbers of their verdicts. Requires: at most `MOST`
-/// frames and as many places, no frame with more bytes than it had on the wire. Takes no memory.
+/// Forwards frames, with their lookups together, and writes the numbers of their verdicts. Requires: at most
+/// `MAX_FRAMES` frames and as many places, no frame with more bytes than it had on the wire. Takes no memory.
 pub(crate) fn forward_all(frames: &mut [Frame<'_>], verdicts: &mut [u32], fib: &Fib<Hop, Port>)
     requires few { length frames.old ≤ 64 }
     requires whole { All IsWhole frames.old }
@@ -52,8 +52,8 @@ pub(crate) fn forward_all(frames: &mut [Frame<'_>], verdicts: &mut [u32], fib: &
     ensures frames { frames.new ≡ map (left fib.now) frames.old }
 {
     let count = frames.len();
-    let mut addresses = [0; MOST];
-    let mut found = [NextHop::none(); MOST];
+    let mut addresses = [0; MAX_FRAMES];
+    let mut found = [NextHop::none(); MAX_FRAMES];
     write_addresses(frames, &mut addresses[..count]);
     fib.lookup_burst(&addresses[..count], &mut found[..count]);
     let hops = fib.hops();

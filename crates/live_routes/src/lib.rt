@@ -21,7 +21,7 @@ mod settling;
 mod writer;
 
 pub use addressed::{Addressed, addressed_to};
-pub use bursts::MOST;
+pub use bursts::MAX_FRAMES;
 pub use change::Change;
 pub use fault::LiveFault;
 pub use fib::Fib;

@@ -7,7 +7,7 @@ ghost use Rattle.fabric.specs.Owned.{one_if, told};
 ghost use Rattle.pool.specs.Places.{AreBelow, AreOnce, ArePlaced};
 
 use crate::hands::carries;
-use crate::word_stack::MOST_PLACES;
+use crate::word_stack::MAX_PLACES;
 use arrayvec::ArrayVec;
 use burst::Word;
 
@@ -38,7 +38,7 @@ pub(crate) fn is_among<T: Word>(words: &[T], at: &[u16], b: u32) -> bool
 #[inline]
 fn push_one_apart<T: Word>(words: &mut [T], n: usize, at: &mut [u16], item: T) -> bool
     requires fits { n < length words.old }
-    requires small { length words.old ≤ MOST_PLACES }
+    requires small { length words.old ≤ MAX_PLACES }
     requires placed { ArePlaced T.numbers at.old (take n words.old) }
     requires single { AreSingle T.numbers (take n words.old) }
     requires one { (length (T.numbers item) == 1) ≡ true }
@@ -72,7 +72,7 @@ pub(crate) fn push_all_apart<T: Word>(
     items: &[T],
 ) -> bool
     requires fits { n + length items.now ≤ length words.old }
-    requires small { length words.old ≤ MOST_PLACES }
+    requires small { length words.old ≤ MAX_PLACES }
     requires placed { ArePlaced T.numbers at.old (take n words.old) }
     requires single { AreSingle T.numbers (take n words.old) }
     requires ones { AreSingle T.numbers items.now }
@@ -95,7 +95,7 @@ pub(crate) fn push_all_apart<T: Word>(
 
 /// Gives the buffers of words their places. Requires: each word carries one buffer, and none is in two words.
 pub(crate) fn place_all<T: Word>(words: &[T], at: &mut [u16])
-    requires small { length words.now ≤ MOST_PLACES }
+    requires small { length words.now ≤ MAX_PLACES }
     requires single { AreSingle T.numbers words.now }
     requires once { AreOnce T.numbers words.now }
     requires below { AreBelow T.numbers (length at.old) words.now }

@@ -7,7 +7,7 @@ ghost use Rattle.pool.specs.WordStacks.{buffers_in, room_in, words_in};
 
 use crate::places::push_all_apart;
 use crate::stack::Stack;
-use crate::word_stack::{MOST_PLACES, WordStack};
+use crate::word_stack::{MAX_PLACES, WordStack};
 use burst::Word;
 use std::alloc::{AllocError, Global};
 
@@ -18,7 +18,7 @@ impl<T: Word> WordStack<T> {
         room: usize,
         buffers: usize,
     ) -> Result<WordStack<T>, AllocError>
-        requires small { room ≤ MOST_PLACES }
+        requires small { room ≤ MAX_PLACES }
         ensures empty { IfOk result (λ s. words_in s ≡ []) }
         ensures room { IfOk result (λ s. room_in s ≡ room) }
         ensures buffers { IfOk result (λ s. buffers_in s ≡ buffers) }

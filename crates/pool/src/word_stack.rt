@@ -7,7 +7,7 @@ use crate::stack::Stack;
 use burst::Tagged;
 
 /// The most words that it has room for: a place is two bytes.
-pub(crate) const MOST_PLACES: usize = 65_536;
+pub(crate) const MAX_PLACES: usize = 65_536;
 
 /// A stack of words, and for each buffer of the pool the place where it lay when it was pushed last. So a buffer is in
 /// the stack exactly if the word at its place carries it, and a pop leaves the places as they are.

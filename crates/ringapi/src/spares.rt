@@ -9,7 +9,7 @@ use fabric::{Fabric, Hand, SplitFault, Stored};
 use std::alloc::{AllocError, Global};
 
 /// The most hands that are kept: each has at most half the parts of the one before it.
-const MOST: usize = 64;
+const MAX_SPARES: usize = 64;
 
 /// How often a call tries at most if other threads come first.
 const TRIES: u32 = 1024;
@@ -55,7 +55,7 @@ fn thin<T: Tagged, const N: usize, S: Stored<T>>(
     let Some(mut hand) = hands.pop() else {
         return Err(SpareFault::Empty);
     };
-    for _i in 0..MOST {
+    for _i in 0..MAX_SPARES {
         match hand.split(alloc, f) {
             Ok((first, second)) => {
                 hand = second;
@@ -82,7 +82,7 @@ impl<T: Tagged, const N: usize, S: Stored<T>> Spares<T, N, S> {
     pub fn new(alloc: Global, f: &Fabric<T, N, S>) -> Result<Spares<T, N, S>, AllocError>
         ensures key { IfOk result (λ s. s.lock.key ≡ f.now) }
     {
-        let hands = Vec::with_capacity(alloc, MOST)?;
+        let hands = Vec::with_capacity(alloc, MAX_SPARES)?;
         match KeyedLock::new(alloc, hands, f) {
             Ok(lock) => Ok(Spares { lock }),
             Err(_) => Err(AllocError),

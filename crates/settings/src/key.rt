@@ -14,7 +14,7 @@ pub enum Key {
     Headroom,
     /// Bytes of room in each buffer besides the headroom: 64 to 65,536, default 2,048.
     Room,
-    /// Buffers in the cache of each worker: 0 to 128, default 32.
+    /// Free buffers that the reader takes at a time: 0 to 128, default 32.
     Cache,
     /// The maximum number of packets moved at once: 1 to 64, default 32.
     Burst,

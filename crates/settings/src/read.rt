@@ -26,7 +26,7 @@ pub struct Settings {
     pub headroom: u32,
     /// Bytes of room in each buffer besides the headroom: 64 to 65,536.
     pub room: u32,
-    /// Buffers in the cache of each worker: 0 to 128.
+    /// Free buffers that the reader takes at a time: 0 to 128.
     pub cache: u32,
     /// The maximum number of packets moved at once: 1 to 64.
     pub burst: u32,

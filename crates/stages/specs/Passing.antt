@@ -20,12 +20,12 @@ pub record AreRings (plans : List RingPlan) : Type 0 where
   pub mixed : (plan : RingPlan) → slice_get plans 2 ≡ Some plan → plan.free ≡ false
 
 -- what a ring is planned with: its capacity, the modes of its sides, and whether it holds free segments
-abbrev pub asked_of : RingPlan → ℕ × (Mode × (Mode × Bool))
-asked_of plan = (plan.geometry.capacity, (plan.put, (plan.take, plan.free)))
+abbrev pub found_room_of : RingPlan → ℕ × (Mode × (Mode × Bool))
+found_room_of plan = (plan.geometry.capacity, (plan.put, (plan.take, plan.free)))
 
 -- one for all segments, and two of the same capacity
 abbrev pub AreAsked : ℕ → ℕ → List RingPlan → Type 0
-AreAsked buffers ring plans = map asked_of plans
+AreAsked buffers ring plans = map found_room_of plans
     ≡ (buffers, (Multi, (Multi, true))) ∷ (ring, (Multi, (Hts, false))) ∷ (ring, (Multi, (Multi, false))) ∷ []
 
 module _ {T : Type 0} where

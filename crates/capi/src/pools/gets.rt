@@ -11,7 +11,7 @@ ghost use Rattle.capi.specs.Same.{GetsNumbers};
 ghost use Rattle.capi.specs.Tries.{IsSame, Received};
 
 use crate::pools::member::{
-    MOST_ASKED, MOST_FILLING, MOST_NUMBERS, Number, PoolCache, PoolMember, PoolRings,
+    MAX_ASKED, MAX_FILLING, MAX_NUMBERS, Number, PoolCache, PoolMember, PoolRings,
 };
 use crate::pools::tries::{Tries, receive};
 use crate::rings::{Fault, fault_of};
@@ -56,13 +56,13 @@ fn draw(
     requires short { length (cache_of local.old) < length into.old }
     requires enough { length into.old - length (cache_of local.old) ≤ asked }
     requires most { asked ≤ length into.old - length (cache_of local.old) + cache_size local.old }
-    requires fits { asked ≤ MOST_ASKED }
+    requires fits { asked ≤ MAX_ASKED }
     ensures local { IsLocalOf f.now local.new }
     ensures got { IfOk result (λ _. HasDrawn f.now local.old local.new (length into.old) asked into.new) }
     ensures back { IfErr result (λ _. (into.new ≡ into.old) × IsSame local.old local.new) }
     ensures refused { IfErr result (λ why. Received f.now by_bulk 0 asked local.old local.new (Err why) []) }
 {
-    let mut places = [Number { value: 0 }; MOST_ASKED];
+    let mut places = [Number { value: 0 }; MAX_ASKED];
     let taken = &mut places[..asked];
     match receive(f, local, 0, How::Bulk, taken, &mut Tries::new()) {
         Ok(_) => {
@@ -80,7 +80,7 @@ fn get_missing(f: &PoolRings, local: &mut PoolCache, into: &mut [Number]) -> Res
     requires rings { ArePoolRings (rings_of f.now) }
     requires there { 0 < length (rings_of f.now) }
     requires short { length (cache_of local.old) < length into.old }
-    requires few { length into.old ≤ MOST_NUMBERS }
+    requires few { length into.old ≤ MAX_NUMBERS }
     ensures local { IsLocalOf f.now local.new }
     ensures exact { Gets f.now local.old local.new into.old into.new result }
 {
@@ -102,7 +102,7 @@ fn get_more(f: &PoolRings, local: &mut PoolCache, into: &mut [Number]) -> Result
     requires rings { ArePoolRings (rings_of f.now) }
     requires there { 0 < length (rings_of f.now) }
     requires short { length (cache_of local.old) < length into.old }
-    requires few { length into.old ≤ MOST_FILLING }
+    requires few { length into.old ≤ MAX_FILLING }
     ensures local { IsLocalOf f.now local.new }
     ensures exact { Gets f.now local.old local.new into.old into.new result }
 {
@@ -127,11 +127,11 @@ fn get_numbers(f: &PoolRings, local: &mut PoolCache, into: &mut [Number]) -> Res
     ensures exact { Gets f.now local.old local.new into.old into.new result }
 {
     let n = into.len();
-    if n == 0 || n > MOST_NUMBERS {
+    if n == 0 || n > MAX_NUMBERS {
         return Err(Fault::Count);
     }
     if local.len() < n {
-        if n > MOST_FILLING {
+        if n > MAX_FILLING {
             return get_missing(f, local, into);
         }
         return get_more(f, local, into);

@@ -12,13 +12,13 @@ use ringapi::Spares;
 use std::sync::Arc;
 
 /// The most numbers of one call, and of one request to a ring.
-pub(crate) const MOST_NUMBERS: usize = 4096;
+pub(crate) const MAX_NUMBERS: usize = 4096;
 
 /// The most numbers of a get that fills the cache, too. A longer one asks only for those that it lacks.
-pub(crate) const MOST_FILLING: usize = 512;
+pub(crate) const MAX_FILLING: usize = 512;
 
 /// The most numbers that such a get asks for: those of the call and a whole cache.
-pub(crate) const MOST_ASKED: usize = 1024;
+pub(crate) const MAX_ASKED: usize = 1024;
 
 /// The largest size of a cache.
 pub(crate) const MAX_CACHE: u32 = 512;

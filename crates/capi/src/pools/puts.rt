@@ -6,7 +6,7 @@ ghost use Rattle.capi.specs.PoolCalls.{Flushes, Puts};
 ghost use Rattle.capi.specs.PoolMembers.{ArePoolRings};
 ghost use Rattle.capi.specs.Same.{PutsNumbers};
 
-use crate::pools::member::{MOST_ASKED, MOST_NUMBERS, Number, PoolCache, PoolMember, PoolRings};
+use crate::pools::member::{MAX_ASKED, MAX_NUMBERS, Number, PoolCache, PoolMember, PoolRings};
 use crate::pools::tries::{Tries, refused, send};
 use crate::rings::Fault;
 use geom::How;
@@ -22,7 +22,7 @@ fn put_numbers(f: &PoolRings, local: &mut PoolCache, items: &[Number]) -> Result
     ensures exact { Puts f.now local.old local.new items.now result }
 {
     let n = items.len();
-    if n == 0 || n > MOST_NUMBERS {
+    if n == 0 || n > MAX_NUMBERS {
         return Err(Fault::Count);
     }
     match local.put_cached_from_slice(items) {
@@ -70,7 +70,7 @@ pub fn flush_numbers(f: &PoolRings, local: &mut PoolCache) -> Result<u32, Fault>
     if n == 0 {
         return Ok(0);
     }
-    let mut places = [Number { value: 0 }; MOST_ASKED];
+    let mut places = [Number { value: 0 }; MAX_ASKED];
     let cached = &mut places[..n];
     match local.get_cached_into_slice(cached) {
         Ok(()) => (),

@@ -1,7 +1,7 @@
 //! Numbers that are sent to other handles over rings, and received from them.
 ghost use Rattle.capi.specs.Same.{ReceivesNumbers, SendsNumbers};
 
-use crate::pools::member::{MOST_NUMBERS, Number, PoolMember};
+use crate::pools::member::{MAX_NUMBERS, Number, PoolMember};
 use crate::pools::tries::{Tries, receive, refused, send};
 use crate::rings::{Fault, fault_of};
 use geom::How;
@@ -20,7 +20,7 @@ pub fn send_numbers(
         return Err(Fault::Ring);
     }
     let n = items.len();
-    if n == 0 || n > MOST_NUMBERS {
+    if n == 0 || n > MAX_NUMBERS {
         return Err(Fault::Count);
     }
     // Ring 0 is the free ring.
@@ -46,7 +46,7 @@ pub fn receive_numbers(
         return Err(Fault::Ring);
     }
     let n = into.len();
-    if n == 0 || n > MOST_NUMBERS {
+    if n == 0 || n > MAX_NUMBERS {
         return Err(Fault::Count);
     }
     let from = ring + 1;

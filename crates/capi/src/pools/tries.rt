@@ -66,6 +66,7 @@ fn try_send(
     ensures kept { IfErr result (λ _. IsKept (view_of local.old) (view_of local.new)) }
 {
     tries.left -= 1;
+    // an arm for each, so that the proof has each answer separately
     match local.try_send_from_slice(f, ring, how, items) {
         Ok(moved) => Ok(moved),
         Err(why) => Err(why),
@@ -130,6 +131,7 @@ fn try_receive(
     ensures back { IfErr result (λ _. into.new ≡ into.old) }
 {
     tries.left -= 1;
+    // an arm for each, so that the proof has each answer separately
     match local.try_receive_into_slice(f, ring, how, into) {
         Ok(moved) => Ok(moved),
         Err(why) => Err(why),

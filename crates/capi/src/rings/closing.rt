@@ -8,7 +8,7 @@ use fabric::Closed;
 
 /// What is left on the rings of a set that was closed.
 #[derive(Drop)]
-pub struct Rest {
+pub struct Leftover {
     pub closed: Closed<Word64, Slot<Word64>>,
     pub rings: usize,
     pub ghost many: { rings ≡ ring_count closed },

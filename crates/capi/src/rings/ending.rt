@@ -1,12 +1,12 @@
 //! Closing rings, and taking what is left on them.
 ghost use Rattle.std.specs.Prelude.{◌≡◌, ◌<◌, ◌≤◌, IfErr, IfOk, length};
 ghost use Rattle.fabric.specs.Closed.{ring_count};
-ghost use Rattle.capi.specs.Rests.{Closes, DrainsRest, Empties, RefusesClose};
+ghost use Rattle.capi.specs.Leftovers.{Closes, DrainsLeftover, Empties, RefusesClose};
 ghost use Rattle.capi.specs.RingCalls.{SameMember};
 
-use crate::rings::closing::Rest;
+use crate::rings::closing::Leftover;
 use crate::rings::fault::Fault;
-use crate::rings::member::{MOST, Member};
+use crate::rings::member::{MAX_WORDS, Member};
 use crate::rings::word64::Word64;
 use fabric::OpenSpan;
 use ringapi::Port;
@@ -14,7 +14,7 @@ use std::sync::Arc;
 
 /// Closes the rings of a member that has no open span, and that no other shares. Errors: `Open`; `Shared`; the member
 /// comes back.
-pub fn close(member: Member) -> Result<Rest, (Member, Fault)>
+pub fn close(member: Member) -> Result<Leftover, (Member, Fault)>
     ensures closed { IfOk result (λ r. Closes member r) }
     ensures refused { IfErr result (λ e. SameMember member e.0 × RefusesClose member e.1) }
 {
@@ -34,7 +34,7 @@ pub fn close(member: Member) -> Result<Rest, (Member, Fault)>
     let Port { fabric, hand } = port;
     let rings = fabric.rings();
     match Arc::try_unwrap(fabric) {
-        Ok(whole) => Ok(Rest {
+        Ok(whole) => Ok(Leftover {
             closed: whole.close(hand.into_hand()),
             rings,
         }),
@@ -55,13 +55,13 @@ pub fn close(member: Member) -> Result<Rest, (Member, Fault)>
 }
 
 /// Takes the words that are left on a ring, the oldest first, as many as there are places.
-fn empty(rest: &mut Rest, ring: usize, words: &mut [Word64]) -> u32
-    requires few { length words.old ≤ MOST }
-    requires ring { ring < ring_count rest.old.closed }
-    ensures { Empties ring words.old words.new result rest.old rest.new }
+fn empty(leftover: &mut Leftover, ring: usize, words: &mut [Word64]) -> u32
+    requires few { length words.old ≤ MAX_WORDS }
+    requires ring { ring < ring_count leftover.old.closed }
+    ensures { Empties ring words.old words.new result leftover.old leftover.new }
 {
     for i in 0..words.len() {
-        match rest.closed.next(ring) {
+        match leftover.closed.next(ring) {
             Some(word) => words[i] = word,
             None => return i as u32,
         }
@@ -71,14 +71,14 @@ fn empty(rest: &mut Rest, ring: usize, words: &mut [Word64]) -> u32
 
 /// Takes the words that are left on a ring, the oldest first, once its number and theirs were tested. Errors: `Ring`;
 /// `Count`.
-pub fn drain(rest: &mut Rest, ring: usize, words: &mut [Word64]) -> Result<u32, Fault>
-    ensures { DrainsRest result MOST ring words.old words.new rest.old rest.new }
+pub fn drain(leftover: &mut Leftover, ring: usize, words: &mut [Word64]) -> Result<u32, Fault>
+    ensures { DrainsLeftover result MAX_WORDS ring words.old words.new leftover.old leftover.new }
 {
-    if ring >= rest.rings {
+    if ring >= leftover.rings {
         return Err(Fault::Ring);
     }
-    if words.len() > MOST {
+    if words.len() > MAX_WORDS {
         return Err(Fault::Count);
     }
-    Ok(empty(rest, ring, words))
+    Ok(empty(leftover, ring, words))
 }

@@ -6,7 +6,7 @@ ghost use Rattle.geom.specs.declared.plan.Side.TheVariants.{Put, Take};
 use crate::rings::end::{End, EndState};
 use crate::rings::fault::Fault;
 use crate::rings::holding::release_take;
-use crate::rings::member::{MOST, Member};
+use crate::rings::member::{MAX_WORDS, Member};
 use crate::rings::span_calls::finish_put_of;
 use fabric::OpenSpan;
 use geom::{Mode, Side};
@@ -47,7 +47,7 @@ pub fn hold_end(member: &mut Member, side: Side, most: usize) -> Result<u32, Fau
         Mode::Multi => return Err(Fault::Mode),
         Mode::Hts => (),
     }
-    if most == 0 || most > MOST {
+    if most == 0 || most > MAX_WORDS {
         return Err(Fault::Count);
     }
     member.ends.set(

@@ -11,7 +11,7 @@ ghost use Rattle.capi.specs.Members.{ArePlain, AreShown};
 ghost use Rattle.capi.specs.declared.rings.word64.Word64.{Word64 as Words};
 
 use crate::rings::fault::Fault;
-use crate::rings::member::{MOST, Rings, WordHand};
+use crate::rings::member::{MAX_WORDS, Rings, WordHand};
 use crate::rings::settling::{publish, withdraw, withdraw_all};
 use crate::rings::word64::Word64;
 use fabric::Reserved;
@@ -60,13 +60,13 @@ pub(crate) fn finish_take(
     hand: &mut WordHand,
     reserved: Reserved,
     n: usize,
-    shown: &[Word64; MOST],
+    shown: &[Word64; MAX_WORDS],
 ) -> Result<u32, Fault>
     requires of { IsPlacedOf f.now hand.old }
     requires open { hand.old.span ≡ open_span.Take reserved }
     requires plain { ArePlain (rings_of f.now) }
     requires shows { IsHtsOf (placed_view hand.old).plans reserved.ring side.Take
-        → (reserved.range.count ≤ MOST) × (take reserved.range.count shown.now ≡ (placed_view hand.old).shown) }
+        → (reserved.range.count ≤ MAX_WORDS) × (take reserved.range.count shown.now ≡ (placed_view hand.old).shown) }
     ensures of { IsPlacedOf f.now hand.new }
     ensures shows { AreShown hand.new shown.now }
     ensures finish { FinishesTake f.now (span_at Take reserved) (placed_view hand.old) n (placed_view hand.new) result }

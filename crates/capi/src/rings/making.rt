@@ -11,8 +11,8 @@ ghost use Rattle.capi.specs.declared.rings.fault.Fault.TheVariants as fault;
 
 use crate::rings::end::Ends;
 use crate::rings::fault::Fault;
-use crate::rings::member::{MOST, Member, WordSpares};
-use crate::rings::opening::{Asked, MOST_RINGS, plans};
+use crate::rings::member::{MAX_WORDS, Member, WordSpares};
+use crate::rings::opening::{Asked, MAX_RINGS, plans};
 use crate::rings::word64::Word64;
 use burst::Slot;
 use fabric::{Fabric, HandInPlace, OpenFault, Opened};
@@ -44,7 +44,7 @@ fn fabric_of(
 fn first_member(
     alloc: Global,
     opened: Opened<Word64, 4095, Slot<Word64>>,
-    shown: Box<[Word64; MOST]>,
+    shown: Box<[Word64; MAX_WORDS]>,
 ) -> Result<Member, Fault>
     requires of { IsHandOf opened.fabric opened.hand }
     requires plain { ArePlain (rings_of opened.fabric) }
@@ -82,11 +82,11 @@ pub fn open(alloc: Global, asked: &[Asked]) -> Result<Member, Fault>
     ensures made { IfOk result (λ m. IsNewHand asked.now m) }
     ensures refused { IfErr result (λ why. RefusesRings asked.now why) }
 {
-    if asked.len() > MOST_RINGS {
+    if asked.len() > MAX_RINGS {
         return Err(Fault::Plan);
     }
     let plans = plans(alloc, asked)?;
-    let Ok(shown) = Box::new(alloc, [Word64 { bits: 0 }; MOST]) else {
+    let Ok(shown) = Box::new(alloc, [Word64 { bits: 0 }; MAX_WORDS]) else {
         return Err(Fault::Memory);
     };
     match fabric_of(alloc, plans) {

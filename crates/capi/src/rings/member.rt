@@ -13,10 +13,10 @@ use ringapi::{Port, Spares};
 use std::sync::Arc;
 
 /// The largest number of words in a call on a head/tail-sync side, which its word has room to count.
-pub const MOST: usize = 4095;
+pub const MAX_WORDS: usize = 4095;
 
 /// The largest number of words in a call on a multi side: no ring holds more.
-pub const MOST_ON_MULTI: usize = 1_048_575;
+pub const MAX_WORDS_MULTI: usize = 1_048_575;
 
 /// Rings of words.
 pub(crate) type Rings = Fabric<Word64, 4095, Slot<Word64>>;
@@ -35,7 +35,7 @@ pub(crate) type WordSpares = Spares<Word64, 4095, Slot<Word64>>;
 pub struct Member {
     pub port: WordPort,
     /// The words of an open take of a head/tail-sync side, from the front.
-    pub shown: Box<[Word64; MOST]>,
+    pub shown: Box<[Word64; MAX_WORDS]>,
     /// How many more positions were free, or words were queued, after the last call.
     pub left: u64,
     /// The ring of the last put, and that of the last take: a call on the same ring needn't look it up.

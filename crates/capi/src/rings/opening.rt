@@ -7,7 +7,7 @@ use geom::{Geometry, Mode, RingPlan};
 use std::alloc::Global;
 
 /// The most rings of a set.
-pub(crate) const MOST_RINGS: usize = 64;
+pub(crate) const MAX_RINGS: usize = 64;
 
 /// A ring that C asks for, as `hk_ring_plan` of `hokhtura.h`.
 #[repr(C)]
@@ -88,7 +88,7 @@ fn plan(asked: &Asked) -> Option<RingPlan>
 
 /// The plans of rings. Errors: `Plan` if there is no such ring; `Memory`.
 pub(crate) fn plans(alloc: Global, asked: &[Asked]) -> Result<Vec<RingPlan>, Fault>
-    requires few { length asked.now ≤ MOST_RINGS }
+    requires few { length asked.now ≤ MAX_RINGS }
     ensures made { IfOk result (λ made. AreAsked asked.now made.items) }
     ensures refused { IfErr result (λ why. RefusesPlans asked.now why) }
 {

@@ -8,7 +8,7 @@ ghost use Rattle.capi.specs.Members.{AreShown};
 ghost use Rattle.capi.specs.declared.rings.word64.Word64.{Word64 as Words};
 
 use crate::rings::fault::Fault;
-use crate::rings::member::{MOST, Rings, WordHand};
+use crate::rings::member::{MAX_WORDS, Rings, WordHand};
 use crate::rings::starting::{fault_of, keep, room_in, start_put, start_take};
 use crate::rings::word64::Word64;
 use geom::How;
@@ -41,7 +41,7 @@ pub(crate) fn peek_take(
     ring: usize,
     words: &mut [Word64],
     how: How,
-    shown: &mut [Word64; MOST],
+    shown: &mut [Word64; MAX_WORDS],
 ) -> (u64, Result<u32, Fault>)
     requires of { IsPlacedOf f.now hand.old }
     requires idle { hand.old.span ≡ open_span.Idle }

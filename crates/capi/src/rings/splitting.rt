@@ -8,7 +8,7 @@ ghost use Rattle.capi.specs.Spare.{RefusesSpare};
 
 use crate::rings::end::Ends;
 use crate::rings::fault::Fault;
-use crate::rings::member::{MOST, Member};
+use crate::rings::member::{MAX_WORDS, Member};
 use crate::rings::word64::Word64;
 use burst::Slot;
 use fabric::{Hand, HandInPlace, OpenSpan};
@@ -69,7 +69,7 @@ pub fn split(alloc: Global, member: Member) -> (Member, Result<Member, Fault>)
         OpenSpan::Idle => (),
         _ => return (member, Err(Fault::Open)),
     }
-    let Ok(shown) = Box::new(alloc, [Word64 { bits: 0 }; MOST]) else {
+    let Ok(shown) = Box::new(alloc, [Word64 { bits: 0 }; MAX_WORDS]) else {
         return (member, Err(Fault::Memory));
     };
     let Ok(fabric) = Arc::try_clone(&member.port.fabric) else {

@@ -9,7 +9,7 @@ ghost use Rattle.fabric.specs.declared.hand.in_place.OpenSpan.TheVariants as ope
 ghost use Rattle.capi.specs.Spans.{HasReserved, WasRefused, limit_of, room_of, start_fault};
 
 use crate::rings::fault::Fault;
-use crate::rings::member::{MOST, Rings, WordHand};
+use crate::rings::member::{MAX_WORDS, Rings, WordHand};
 use crate::rings::word64::Word64;
 use fabric::{Reserved, StartFault};
 use geom::How;
@@ -38,9 +38,9 @@ pub(crate) fn room_in(why: StartFault) -> u64
 
 /// Keeps the words of a take that stays open: its first `count` ones.
 #[inline]
-pub(crate) fn keep(shown: &mut [Word64; MOST], words: &[Word64], count: usize)
+pub(crate) fn keep(shown: &mut [Word64; MAX_WORDS], words: &[Word64], count: usize)
     requires there { count ≤ length words.now }
-    requires few { count ≤ MOST }
+    requires few { count ≤ MAX_WORDS }
     ensures { take count shown.new ≡ take count words.now }
 {
     shown[..count].copy_from_slice(&words[..count]);
@@ -64,6 +64,7 @@ pub(crate) fn start_put(
     ensures refused { IfErr result (λ why. (hand.new.span ≡ open_span.Idle)
         × WasRefused f.now (limit_of Hts) how n ring Put (placed_view hand.old) why (placed_view hand.new)) }
 {
+    // an arm for each, so that the proof has each answer separately
     match hand.try_start_put(f, ring, n, how) {
         Ok(reserved) => Ok(reserved),
         Err(why) => Err(why),
@@ -92,6 +93,7 @@ pub(crate) fn start_take(
         × WasRefused f.now (limit_of Hts) how (length words.old) ring Take (placed_view hand.old) why
         (placed_view hand.new)) }
 {
+    // an arm for each, so that the proof has each answer separately
     match hand.try_start_take(f, ring, words.len(), how, words) {
         Ok(reserved) => Ok(reserved),
         Err(why) => Err(why),

@@ -13,7 +13,7 @@ ghost use Rattle.capi.specs.Spans.{call_limit};
 ghost use Rattle.capi.specs.declared.rings.word64.Word64.{Word64 as Item};
 
 use crate::rings::fault::Fault;
-use crate::rings::member::{MOST, MOST_ON_MULTI, Member, Rings, WordPort};
+use crate::rings::member::{MAX_WORDS, MAX_WORDS_MULTI, Member, Rings, WordPort};
 use crate::rings::reaching::try_reach;
 use crate::rings::starting::{fault_of, room_in};
 use crate::rings::word64::Word64;
@@ -28,22 +28,22 @@ pub fn how(bulk: bool) -> How
     if bulk { How::Bulk } else { How::Burst }
 }
 
-/// The longest span for a call with `n` words on a side. `MOST` is right for all calls that have no more: for those
-/// that aren't `long` the mode isn't looked at.
+/// The longest span for a call with `n` words on a side. `MAX_WORDS` is right for all calls that have no more: for
+/// those that aren't `long` the mode isn't looked at.
 #[inline(always)]
 fn longest(_f: &Rings, place: &Place, side: Side, _n: usize, long: bool) -> usize
     requires of { IsPlaceOf _f.now place.now }
-    requires short { long ≡ false → _n ≤ MOST }
+    requires short { long ≡ false → _n ≤ MAX_WORDS }
     ensures counts { HasCounts place.now side result }
     ensures small { result < 2 ^ 20 }
     ensures same { (_n ≤ result) ↔ (_n ≤ call_limit _f.now (place_ring place.now) side) }
 {
     if !long {
-        return MOST;
+        return MAX_WORDS;
     }
     match place.mode(side) {
-        Mode::Multi => MOST_ON_MULTI,
-        Mode::Hts => MOST,
+        Mode::Multi => MAX_WORDS_MULTI,
+        Mode::Hts => MAX_WORDS,
     }
 }
 
@@ -62,7 +62,7 @@ fn put_in(
     requires plain { ArePlain (rings_of port.old.fabric.value) }
     requires place { IsPlaceOf port.old.fabric.value place.now }
     requires mode { mode ≡ place_mode place.now Put }
-    requires short { long ≡ false → length words.now ≤ MOST }
+    requires short { long ≡ false → length words.now ≤ MAX_WORDS }
     ensures fabric { port.new.fabric ≡ port.old.fabric }
     ensures shows { (shown : List Item) → AreShown port.new.hand shown }
     ensures put { Puts port.old.fabric.value how (place_ring place.now) (placed_view port.old.hand) words.now result.0
@@ -92,7 +92,7 @@ fn take_in(
     requires plain { ArePlain (rings_of port.old.fabric.value) }
     requires place { IsPlaceOf port.old.fabric.value place.now }
     requires mode { mode ≡ place_mode place.now Take }
-    requires short { long ≡ false → length words.old ≤ MOST }
+    requires short { long ≡ false → length words.old ≤ MAX_WORDS }
     ensures fabric { port.new.fabric ≡ port.old.fabric }
     ensures shows { (shown : List Item) → AreShown port.new.hand shown }
     ensures take { Takes port.old.fabric.value how (place_ring place.now) (placed_view port.old.hand) words.old
@@ -122,7 +122,7 @@ pub(crate) fn put_at(
     requires idle { port.old.hand.span ≡ open_span.Idle }
     requires plain { ArePlain (rings_of port.old.fabric.value) }
     requires place { IsPlaceOf port.old.fabric.value place.now }
-    requires short { long ≡ false → length words.now ≤ MOST }
+    requires short { long ≡ false → length words.now ≤ MAX_WORDS }
     ensures fabric { port.new.fabric ≡ port.old.fabric }
     ensures shows { (shown : List Item) → AreShown port.new.hand shown }
     ensures put { Puts port.old.fabric.value how (place_ring place.now) (placed_view port.old.hand) words.now result.0
@@ -146,7 +146,7 @@ pub(crate) fn take_at(
     requires idle { port.old.hand.span ≡ open_span.Idle }
     requires plain { ArePlain (rings_of port.old.fabric.value) }
     requires place { IsPlaceOf port.old.fabric.value place.now }
-    requires short { long ≡ false → length words.old ≤ MOST }
+    requires short { long ≡ false → length words.old ≤ MAX_WORDS }
     ensures fabric { port.new.fabric ≡ port.old.fabric }
     ensures shows { (shown : List Item) → AreShown port.new.hand shown }
     ensures take { Takes port.old.fabric.value how (place_ring place.now) (placed_view port.old.hand) words.old
@@ -253,7 +253,7 @@ pub(crate) fn take_one_at(
 }
 
 /// Puts the first of these words on a ring, as many as `how` says and there is room for. Requires: there are at most
-/// `MOST`, or the call is `long`. Errors: `Ring`, `Open`; those of a start; `Pending`, and the span stays open.
+/// `MAX_WORDS`, or the call is `long`. Errors: `Ring`, `Open`; those of a start; `Pending`, and the span stays open.
 #[inline(always)]
 pub fn put_words(
     member: &mut Member,
@@ -262,7 +262,7 @@ pub fn put_words(
     how: How,
     long: bool,
 ) -> Result<u32, Fault>
-    requires short { long ≡ false → length words.now ≤ MOST }
+    requires short { long ≡ false → length words.now ≤ MAX_WORDS }
     ensures { PutsWords ring how words.now member.old member.new result }
 {
     let port = &member.port;
@@ -279,8 +279,8 @@ pub fn put_words(
 }
 
 /// Takes words from a ring to the front of an array, as many as `how` says and are queued. Requires: it has at most
-/// `MOST` places, or the call is `long`. Errors: `Ring`, `Open`; those of a start; `Pending`, and the span stays open:
-/// its words are at the front of the array.
+/// `MAX_WORDS` places, or the call is `long`. Errors: `Ring`, `Open`; those of a start; `Pending`, and the span stays
+/// open: its words are at the front of the array.
 #[inline(always)]
 pub fn take_words(
     member: &mut Member,
@@ -289,7 +289,7 @@ pub fn take_words(
     how: How,
     long: bool,
 ) -> Result<u32, Fault>
-    requires short { long ≡ false → length words.old ≤ MOST }
+    requires short { long ≡ false → length words.old ≤ MAX_WORDS }
     ensures { TakesWords ring how words.old words.new member.old member.new result }
 {
     let port = &member.port;

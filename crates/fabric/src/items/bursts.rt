@@ -7,7 +7,7 @@ ghost use Rattle.std.proofs.Math.Seq.{take-length};
 use crate::hand::owned::Owned;
 use crate::items::{Items, PutItems, TakeItems};
 use crate::plan::Shape;
-use crate::slots::{Slots, drain, fill};
+use crate::slots::{Slots, fill, take_out};
 use crate::stored::{Cell, Stored};
 use atomic_table::Seat;
 use burst::{Burst, Tagged};
@@ -87,7 +87,7 @@ impl<T: Tagged, const N: usize> PutItems<T> for Burst<T, N> {
     ) {
         // as in fill
         let shape = *shape;
-        drain(shared, &shape, seat, start, count, &mut self.cells);
+        take_out(shared, &shape, seat, start, count, &mut self.cells);
     }
 }
 
@@ -95,7 +95,7 @@ impl<T: Tagged, const N: usize> TakeItems<T> for Burst<T, N> {
     ghost room = { λ _. N };
 
     #[inline]
-    fn drain<S: Stored<T>>(
+    fn take_out<S: Stored<T>>(
         &mut self,
         shared: &Slots<T, S>,
         shape: &Shape,
@@ -105,6 +105,6 @@ impl<T: Tagged, const N: usize> TakeItems<T> for Burst<T, N> {
     ) {
         // as in fill
         let shape = *shape;
-        drain(shared, &shape, seat, start, count, &mut self.cells);
+        take_out(shared, &shape, seat, start, count, &mut self.cells);
     }
 }

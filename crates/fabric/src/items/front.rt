@@ -5,7 +5,7 @@ use crate::hand::owned::Owned;
 use crate::items::{Items, TakeItems};
 use crate::plan::Shape;
 use crate::slots::Slots;
-use crate::slots::slices::{drain_slice, fill_slice};
+use crate::slots::slices::{fill_slice, take_out_slice};
 use crate::stored::{Cell, Stored};
 use atomic_table::Seat;
 use burst::Word;
@@ -67,7 +67,7 @@ impl<'s, T: Word> TakeItems<T> for Front<'s, T> {
     ghost room = { λ f. length f.words.now };
 
     #[inline(always)]
-    fn drain<S: Stored<T>>(
+    fn take_out<S: Stored<T>>(
         &mut self,
         shared: &Slots<T, S>,
         shape: &Shape,
@@ -75,7 +75,7 @@ impl<'s, T: Word> TakeItems<T> for Front<'s, T> {
         start: u64,
         count: usize,
     ) {
-        drain_slice(shared, shape, seat, start, &mut self.words[0..count]);
+        take_out_slice(shared, shape, seat, start, &mut self.words[0..count]);
         self.count = count;
     }
 }

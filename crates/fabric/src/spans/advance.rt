@@ -131,7 +131,7 @@ impl<T: Tagged, const N: usize, S: Stored<T>> Ring<'_, T, N, S> {
         ensures items { I.items into.new ≡ take k seat.old.me.0.shown }
         ensures beside { I.beside into.old into.new }
     {
-        into.drain(&self.fabric.table.shared, self.shape, seat, range.start, k);
+        into.take_out(&self.fabric.table.shared, self.shape, seat, range.start, k);
         skip(seat, range.count - k);
     }
 

@@ -14,7 +14,7 @@ loop-i-preserved c =
       inside = search rules;
       long = search rules;
       after = λ k above. drop-set-lt k c.loop-i.words c.loop-i.i c.in-Some.word (omega (arith, above)) ∙ v.after k (omega (arith, above));
-      given = emptied_more c.loop-i.words c.loop-i.i c.in-Some.word (left c.args.rest.now.closed c.args.ring)
-          (left c.loop-i.rest.closed c.args.ring) (left c.next.new.self c.args.ring) here v.given c.in-Some.ensures.first;
+      given = emptied_more c.loop-i.words c.loop-i.i c.in-Some.word (left c.args.leftover.now.closed c.args.ring)
+          (left c.loop-i.leftover.closed c.args.ring) (left c.next.new.self c.args.ring) here v.given c.in-Some.ensures.first;
       others = λ q other. c.next.ensures.others q other ∙ v.others q other;
     }

@@ -6,8 +6,8 @@ use Rattle.fabric.proofs.Offers.{same_run}
 use Rattle.fabric.proofs.Blocks.{all_in_front, none_behind, same_words}
 use Rattle.fabric.proofs.ring.Ring.move_out.Goals as goal
 
-pub drain-requires-clause-held : goal.drain-requires-clause-held
-drain-requires-clause-held g c =
+pub take_out-requires-clause-held : goal.take_out-requires-clause-held
+take_out-requires-clause-held g c =
     let r = c.args.self.now in
     let q = c.requires in
     let s = c.args.share.now.seat in
@@ -19,7 +19,7 @@ pub invariant_of-share : goal.invariant_of-share
 invariant_of-share g c =
     let share = c.args.share.now in
     let tags = g.T.Tagged.numbers in
-    let is = c.drain.ensures.seat.1 in
+    let is = c.take_out.ensures.seat.1 in
     record {
       counted = share.counted ∙ ap (λ z. z.parts) (sym is);
       alive = subst (λ z. 0 < z.parts) (sym is) share.alive;
@@ -34,7 +34,7 @@ returns-clause-slots g c =
     let s = c.args.share.now.seat in
     let range = c.args.range in
     let row = q.slots ∙ same_run r.fabric.now.plan.rings.items r.index r.shape.now range.start (map Some s.me.0.shown) r.in_plan.1 in
-    c.drain.ensures.emptied
+    c.take_out.ensures.emptied
     ∙ ap (λ l. l ++ run (shape_slot r.shape.now) range.start (replicate range.count None))
     (none_behind (shape_slot r.shape.now) range.start range.count s.me.0.shown s.me.1 q.full row)
     ∙ sym (same_run r.fabric.now.plan.rings.items r.index r.shape.now range.start (replicate range.count None) r.in_plan.1)
@@ -46,8 +46,8 @@ returns-clause-copied g c =
     let s = c.args.share.now.seat in
     let range = c.args.range in
     let row = q.slots ∙ same_run r.fabric.now.plan.rings.items r.index r.shape.now range.start (map Some s.me.0.shown) r.in_plan.1 in
-    let d = c.drain.ensures in (
-      same_words (shape_slot r.shape.now) range.start (g.I.Items.items c.drain.new.self) s.me.0.shown (drop range.count s.me.1) (drop range.count s.me.1)
+    let d = c.take_out.ensures in (
+      same_words (shape_slot r.shape.now) range.start (g.I.Items.items c.take_out.new.self) s.me.0.shown (drop range.count s.me.1) (drop range.count s.me.1)
           (d.long ∙ sym q.full)
           (sym d.items ∙ all_in_front (shape_slot r.shape.now) range.start range.count s.me.0.shown s.me.1 q.full row),
       d.beside,

@@ -1,7 +1,7 @@
 use Rattle.std.proofs.Common.{arith, ◌<◌, ◌+◌, ◌-◌, ap, refl, subst, sym, ◌∙◌}
 use Rattle.fabric_laws.specs.Words.{own_at}
 use Rattle.fabric.specs.AtOnce.{tail_in}
-use Rattle.fabric.proofs.AtOnce.{asked_of, goes_on, recent_on, started_one}
+use Rattle.fabric.proofs.AtOnce.{found_room_of, goes_on, recent_on, started_one}
 use Rattle.fabric.proofs.Calls.{told_ring}
 use Rattle.fabric.proofs.Starting.{may_start, row_later, well_later}
 use Rattle.fabric.proofs.ring.Ring.open_at_once.Goals as goal
@@ -22,7 +22,7 @@ reserve_at_once-found-requires g c =
         (
           c.requires.idle.1,
           (
-            (tail_in share.seat.me.0.observed, asked_of r.index c.args.side share.seat.me.0 old.0, omega (arith, old.1, yes.0)),
+            (tail_in share.seat.me.0.observed, found_room_of r.index c.args.side share.seat.me.0 old.0, omega (arith, old.1, yes.0)),
             (old.2, (omega (arith, c.position-start.ensures, c.if-start-last.false), ((λ hts. omega (arith, c.requires.counts hts, may.1)), may.2))),
           ),
         ),
@@ -58,7 +58,7 @@ returns-clause-started g c =
     started_one tags r c.args.side c.args.recent.now.word 0 (own_at r.index c.args.side) share.seat c.reserve_at_once-found.new.seat c.requires.seat refl
     c.reserve_at_once-found.ensures.seat (c.reserve_at_once-found.ensures.won c.if-found-word.false) c.args.most (tail_in share.seat.me.0.observed)
     (record { start = c.position-start.result; count = 1; left = 0; last = _ }) c.position-start.ensures refl c.requires.idle.0
-    (asked_of r.index c.args.side share.seat.me.0 old.0) (omega (arith, old.1, yes.0)) (omega (arith, c.position-start.ensures, c.if-start-last.false)) may
+    (found_room_of r.index c.args.side share.seat.me.0 old.0) (omega (arith, old.1, yes.0)) (omega (arith, c.position-start.ensures, c.if-start-last.false)) may
 
 pub returns-clause-recent : goal.returns-clause-recent
 returns-clause-recent g c _ =

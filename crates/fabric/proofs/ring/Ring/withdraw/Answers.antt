@@ -4,8 +4,8 @@ use Rattle.fabric.proofs.Advancing.{turn_ends, turn_long, words_are, words_many,
 use Rattle.fabric.proofs.Offers.{same_run}
 use Rattle.fabric.proofs.ring.Ring.withdraw.Goals as goal
 
-pub drain-requires-clause-held : goal.drain-requires-clause-held
-drain-requires-clause-held g c =
+pub take_out-requires-clause-held : goal.take_out-requires-clause-held
+take_out-requires-clause-held g c =
     let q = c.requires in
     let r = c.args.self.now in
     let me = c.args.seat.now.me in
@@ -24,7 +24,7 @@ skip-requires g c =
     let me = c.args.seat.now.me in
     let range = c.args.range in
     let has = q.held.slots ∙ same_run r.fabric.now.plan.rings.items r.index r.shape.now range.start (map Some me.0.shown) r.in_plan.1 in
-    turn_long (shape_slot r.shape.now) range.start range.count c.args.k me.0.shown q.fits q.held.whole me.1 has c.drain.new.seat.me.1 c.drain.ensures.emptied
+    turn_long (shape_slot r.shape.now) range.start range.count c.args.k me.0.shown q.fits q.held.whole me.1 has c.take_out.new.seat.me.1 c.take_out.ensures.emptied
 
 pub returns-clause-slots : goal.returns-clause-slots
 returns-clause-slots g c =
@@ -35,7 +35,7 @@ returns-clause-slots g c =
     let k = c.args.k in
     let has = q.held.slots ∙ same_run r.fabric.now.plan.rings.items r.index r.shape.now range.start (map Some me.0.shown) r.in_plan.1 in
     ap (λ m. m.1) c.skip.ensures.2
-    ∙ (turn_ends (shape_slot r.shape.now) range.start range.count k me.0.shown q.fits q.held.whole me.1 has c.drain.new.seat.me.1 c.drain.ensures.emptied
+    ∙ (turn_ends (shape_slot r.shape.now) range.start range.count k me.0.shown q.fits q.held.whole me.1 has c.take_out.new.seat.me.1 c.take_out.ensures.emptied
     ∙ sym (same_run r.fabric.now.plan.rings.items r.index r.shape.now range.start (replicate k None ++ drop k (map Some me.0.shown)) r.in_plan.1))
 
 pub returns-clause-items : goal.returns-clause-items
@@ -45,5 +45,5 @@ returns-clause-items g c =
     let me = c.args.seat.now.me in
     let range = c.args.range in
     let has = q.held.slots ∙ same_run r.fabric.now.plan.rings.items r.index r.shape.now range.start (map Some me.0.shown) r.in_plan.1 in
-    words_are (shape_slot r.shape.now) range.start range.count c.args.k me.0.shown q.fits q.held.whole me.1 has (g.I.Items.items c.drain.new.self)
-    c.drain.ensures.long c.drain.ensures.items
+    words_are (shape_slot r.shape.now) range.start range.count c.args.k me.0.shown q.fits q.held.whole me.1 has (g.I.Items.items c.take_out.new.self)
+    c.take_out.ensures.long c.take_out.ensures.items
