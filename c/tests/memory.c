@@ -102,6 +102,7 @@ static void publish_waiting(void) {
     long refused = 0;
     for (int all = 0; !all;) {
         hk_fib *fib;
+        from = to = 0;
         IS(hk_fib_open(&fib, 16, 4, NULL, 0, NULL, 0), HK_OK), IS(hk_fib_add(fib, 0x0a000000, 8, 1), HK_OK);
         count = 0, from = ++refused, to = LONG_MAX;
         int64_t first = hk_fib_publish_wait(fib, NULL), second = hk_fib_publish_wait(fib, NULL);
