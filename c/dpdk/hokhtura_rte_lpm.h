@@ -187,10 +187,11 @@ static inline int hkl_publish(struct rte_lpm *lpm, int64_t code) {
 }
 
 static inline int rte_lpm_add(struct rte_lpm *lpm, uint32_t ip, uint8_t depth, uint32_t next_hop) {
+    int64_t code = HK_E_GROUPS;
     if (!lpm) return -EINVAL;
     pthread_mutex_lock(&lpm->lock);
-    int is_full = hk_fib_count(lpm->fib) >= lpm->max_rules && hk_fib_get(lpm->fib, ip, depth) == HK_E_NOROUTE;
-    int64_t code = is_full ? HK_E_GROUPS : hkl_settle(lpm);
+    if (hk_fib_count(lpm->fib) < lpm->max_rules || hk_fib_get(lpm->fib, ip, depth) != HK_E_NOROUTE)
+        code = hkl_settle(lpm);
     if (code >= 0) code = hk_fib_add(lpm->fib, ip, depth, next_hop);
     int answer = hkl_publish(lpm, code);
     pthread_mutex_unlock(&lpm->lock);
