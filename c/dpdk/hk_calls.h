@@ -28,7 +28,8 @@ static __rte_noinline int64_t hk_take_on(hk_hand *hand, uint64_t *words, size_t 
     return hk_finish_take_after(hand, n, code, NULL);
 }
 
-/* Puts n words, as many as the side's calls move, on ring 0. Returns how many; HK_E_NOROOM, HK_E_WORN; HK_E_OPEN: the hand has a peek. */
+/* Puts n words, as many as the side's calls move, on ring 0. Returns how many; HK_E_NOROOM, HK_E_WORN; HK_E_OPEN: the
+ * hand has a peek. */
 static __rte_always_inline int64_t hk_put(hk_hand *hand, const uint64_t *words, size_t n, int bulk) {
     int64_t code = bulk ? hk_ring_try_put_bulk(hand, 0, words, n) : hk_ring_try_put_burst(hand, 0, words, n);
     return likely(code >= 0) ? code : hk_put_on(hand, words, n, bulk, code);

@@ -1,5 +1,5 @@
-/* Two threads and a ring: one puts the numbers from 1 to 1,000,000 on it word by word, the other takes them and adds them
- * up. Each has a hand, and an end that holds its side. */
+/* Two threads and a ring: one puts the numbers from 1 to 1,000,000 on it word by word, the other takes them and adds
+ * them up. Each has a hand, and an end that holds its side. */
 #include <hokhtura.h>
 #include <pthread.h>
 #include <sched.h>

@@ -1,6 +1,7 @@
-/* Packets that one thread gets and another frees. The free packets are pointers on one ring, the filled ones on another:
- * two readers get packets and fill them, two writers look at them and free them. Each pointer that is put is taken once.
- * That a packet is freed once, and only by the thread that has it, is up to the program: no call checks it. */
+/* Packets that one thread gets and another frees. The free packets are pointers on one ring, the filled ones on
+ * another: two readers get packets and fill them, two writers look at them and free them. Each pointer that is put is
+ * taken once. That a packet is freed once, and only by the thread that has it, is up to the program: no call checks
+ * it. */
 #include <hokhtura.h>
 #include <hokhtura_wait.h>
 #include <pthread.h>
