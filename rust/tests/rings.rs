@@ -1,5 +1,5 @@
 //! Rings by their two ends, in one thread and in several.
-use hokhtura::{Error, Mode, Ring, MAX_WORDS, MAX_WORDS_MULTI};
+use hokhtura::{Error, Mode, Producer, Ring, MAX_WORDS, MAX_WORDS_MULTI};
 use std::thread;
 
 const MODES: [Mode; 2] = [Mode::Multi, Mode::Hts];
@@ -264,5 +264,13 @@ fn two_threads_hold_both_sides() -> Result<(), Error> {
         assert_eq!(found, Ok(word));
     }
     sender.join().unwrap();
+    Ok(())
+}
+
+/// It compiles, and the doctest of `Ring::split` that differs only in the type of the assignment doesn't.
+#[test]
+fn an_end_has_the_type_of_its_ring() -> Result<(), Error> {
+    let (producer, _consumer) = Ring::<&'static for<'a> fn(&'a str)>::new(7)?.split()?;
+    let _same: Producer<&'static for<'a> fn(&'a str)> = producer;
     Ok(())
 }

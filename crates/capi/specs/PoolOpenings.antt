@@ -9,7 +9,7 @@ use Rattle.pool.specs.Locals.{cache_of, cache_size, view_of}
 use Rattle.capi.specs.declared.rings.fault.Fault.{Fault}
 use Rattle.capi.specs.declared.rings.fault.Fault.TheVariants as fault
 use Rattle.capi.specs.PoolMembers.{all_numbers}
-use Rattle.capi.specs.declared.pools.member.TheConstants.{MAX_CACHE, MAX_POOL, MAX_RINGS}
+use Rattle.capi.specs.declared.pools.member.TheConstants.{MAX_CACHE, MAX_POOL, MAX_POOL_RINGS}
 use Rattle.capi.specs.declared.pools.member.Number.{Number}
 use Rattle.capi.specs.declared.pools.member.PoolMember.{PoolMember}
 
@@ -36,10 +36,10 @@ pub record IsPoolSize (n size rings : ℕ) : Type 0 where
   pub some : 0 < n
   pub few : n ≤ MAX_POOL
   pub small : size ≤ MAX_CACHE
-  pub most : rings ≤ MAX_RINGS
+  pub most : rings ≤ MAX_POOL_RINGS
 
 abbrev pub NoPoolSize : ℕ → ℕ → ℕ → Type 0
-NoPoolSize n size rings = (n ≡ 0) ⊎ ((MAX_POOL < n) ⊎ ((MAX_CACHE < size) ⊎ (MAX_RINGS < rings)))
+NoPoolSize n size rings = (n ≡ 0) ⊎ ((MAX_POOL < n) ⊎ ((MAX_CACHE < size) ⊎ (MAX_POOL_RINGS < rings)))
 
 -- no such pool can be, or there was no memory
 abbrev pub RefusesPool : ℕ → ℕ → ℕ → Fault → Type 0

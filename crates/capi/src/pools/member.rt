@@ -27,7 +27,7 @@ pub(crate) const MAX_CACHE: u32 = 512;
 pub(crate) const MAX_POOL: u32 = (1 << 20) - 1;
 
 /// The most rings that pass numbers on: a set of rings has 64, and one is the free ring.
-pub(crate) const MAX_RINGS: u32 = 63;
+pub(crate) const MAX_POOL_RINGS: u32 = 63;
 
 /// The rings of a pool.
 pub(crate) type PoolRings = Fabric<Number, 4096, Slot<Number>>;

@@ -8,7 +8,8 @@ ghost use Rattle.capi.specs.PoolMembers.{ArePoolRings, all_numbers};
 ghost use Rattle.capi.specs.declared.rings.fault.Fault.TheVariants as fault;
 
 use crate::pools::member::{
-    MAX_CACHE, MAX_POOL, MAX_RINGS, Number, PoolCache, PoolHand, PoolMember, PoolRings, PoolSpares,
+    MAX_CACHE, MAX_POOL, MAX_POOL_RINGS, Number, PoolCache, PoolHand, PoolMember, PoolRings,
+    PoolSpares,
 };
 use crate::rings::Fault;
 use fabric::{Fabric, OpenFault, Opened};
@@ -47,7 +48,7 @@ fn extent(n: u32) -> Geometry
 fn plans(alloc: Global, n: u32, rings: usize) -> Result<Vec<RingPlan>, Fault>
     requires some { 0 < n }
     requires few { n ≤ MAX_POOL }
-    requires rings { rings ≤ MAX_RINGS }
+    requires rings { rings ≤ MAX_POOL_RINGS }
     ensures made { IfOk result (λ made. ArePoolRings made.items × WordsMayStand made.items n 4096) }
     ensures many { IfOk result (λ made. length made.items ≡ rings + 1) }
     ensures refused { IfErr result (λ why. why ≡ fault.Memory) }
@@ -172,7 +173,7 @@ fn may_be(n: u32, size: u32, rings: u32) -> bool
     if n == 0 || n > MAX_POOL {
         return false;
     }
-    size <= MAX_CACHE && rings <= MAX_RINGS
+    size <= MAX_CACHE && rings <= MAX_POOL_RINGS
 }
 
 /// A pool of n numbers, none of them cached, with this size of cache and as many rings to pass numbers on. Errors:
