@@ -2,9 +2,9 @@
  * rte_lpm.h: compile a program with -include hokhtura_rte_lpm.h, or include it before any header of DPDK.
  *
  * Each change first waits for lookups that still use the version before the last change, and is published before its
- * call returns 0; a lookup that began earlier may still use the old routes. One thread at a time changes a table, as with
- * rte_lpm; lookups may run meanwhile, and need no rte_rcu_qsbr. The arrays tbl24 and tbl8 aren't there: a program that
- * reads them doesn't compile. */
+ * call returns 0; a lookup that began earlier may still use the old routes. One thread at a time changes a table, as
+ * with rte_lpm; lookups may run meanwhile, and need no rte_rcu_qsbr. The arrays tbl24 and tbl8 aren't there: a program
+ * that reads them doesn't compile. */
 #ifndef HOKHTURA_RTE_LPM_H
 #define HOKHTURA_RTE_LPM_H 1
 

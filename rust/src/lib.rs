@@ -29,8 +29,8 @@
 //!
 //! A put or a take has two halves: it reserves positions, and then publishes or frees them. A call tries each half up
 //! to 1,024 times (the get of a pool up to twice as often), with a pause between two tries, and only iterators that say
-//! so wait. The rings aren't lock-free: a thread that stops in between, or a handle that is dropped with a call pending,
-//! blocks that side and soon the other. Calls of others then return [`Error::Again`] (head/tail-sync),
+//! so wait. The rings aren't lock-free: a thread that stops in between, or a handle that is dropped with a call
+//! pending, blocks that side and soon the other. Calls of others then return [`Error::Again`] (head/tail-sync),
 //! [`Error::Pending`] (multi) or [`Error::NoRoom`] forever. What a thread did before it put a word, or put or sent a
 //! number, happens before another thread takes, gets or receives it.
 //!

@@ -38,8 +38,8 @@ macro_rules! with_object {
 
 pub(crate) use with_object;
 
-/// `with_object!` for a call that does only the usual cases. The caller's answer is `None`, and nothing was done, if the
-/// call is `None`, and for a null handle and another kind of object.
+/// `with_object!` for a call that does only the usual cases. The caller's answer is `None`, and nothing was done, if
+/// the call is `None`, and for a null handle and another kind of object.
 macro_rules! try_with_object {
     ($alloc:ident, $h:ident, $kind:ident($object:ident) => $call:expr) => {{
         let Some(mut slot) = borrow($alloc, $h) else {
