@@ -6,7 +6,7 @@ use crate::fields::word_at;
 
 /// The one's complement sum of the bytes as 16-bit numbers, high byte first. Requires: an even number of bytes, at most
 /// 60, as in the longest IPv4 header. A header with a correct checksum sums to 0xFFFF.
-#[inline]
+#[inline(always)]
 pub fn sum16(bytes: &[u8]) -> u16
     requires even { length bytes.now % 2 ≡ 0 }
     requires short { length bytes.now ≤ 60 }

@@ -80,13 +80,17 @@ pub(crate) fn checked(frame: &[u8], wire: usize) -> Result<&[u8], Reason>
     Ok(packet)
 }
 
-/// Whether the header's checksum is right.
+/// Whether the header's checksum is right. Nearly all headers have no options: with their length as a constant, the
+/// compiler makes five additions of the sum.
 #[inline(always)]
 fn is_summed(packet: &[u8], len: usize) -> bool
     requires header { len ≡ header_len packet.now }
     requires whole { len ≤ length packet.now }
     ensures { result ≡ (ones_complement_sum (header_of packet.now) == 0xFFFF) }
 {
+    if len == SHORTEST {
+        return sum16(packet.split_at(SHORTEST).0) == 0xffff;
+    }
     sum16(packet.split_at(len).0) == 0xffff
 }
 
