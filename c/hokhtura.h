@@ -6,7 +6,7 @@
  * Threads reach what they share, a set of rings, a pool, a table of routes or a forwarding table, through a handle for
  * each thread: `hk_hand_split`, `hk_pool_split`, `hk_routes_share`, `hk_fib_share`. To pass a handle to another thread,
  * let the first thread's calls on it happen before the second's, as C11 has it: by the start or the end of a thread, a
- * lock, or a store with release order and a load with acquire order.
+ * lock, or a store with release order and a load with acquire order. A hand that was closed stays with its thread.
  * A call with a const handle changes nothing that other calls on it return. It is a call on that handle all the same:
  * two threads may not make it at the same time.
  *
@@ -244,8 +244,8 @@ HK_API int64_t hk_hand_left(const hk_hand *hand);
 HK_API int64_t hk_ring_count(const hk_hand *hand, size_t ring);
 HK_API int64_t hk_ring_room(const hk_hand *hand, size_t ring);
 
-/* Closes the set of rings, by its only hand: from then on the hand is for hk_hand_drain. HK_E_NULL, HK_E_KIND,
- * HK_E_OPEN. HK_E_SHARED while there are other hands. */
+/* Closes the set of rings, by its only hand: from then on the hand is for hk_hand_drain and hk_hand_free, by the thread
+ * that closed it. HK_E_NULL, HK_E_KIND, HK_E_OPEN. HK_E_SHARED while there are other hands. */
 HK_API HK_CHECKED int64_t hk_hand_close(hk_hand *hand);
 /* Takes at most n words, 0 to HK_MAX_WORDS, of those that are left on a ring of a closed set, the oldest first. Returns
  * how many: fewer than n if no more are left. HK_E_COUNT, HK_E_NULL, HK_E_KIND if the set isn't closed, HK_E_RING. */

@@ -52,5 +52,5 @@ def together(ours, theirs, rounds, results=None, pinned=False):
                       flush=True)
                 if results:
                     title, against = MODES[mode]
-                    results.add(f"{PARTIES[pairs]}, {n} {'word' if n == 1 else 'words'} a call, {title}", here, "Mitem/s", against, there,
-                                f"between threads, {title}")
+                    what = f"{PARTIES[pairs]}, {n} {'word' if n == 1 else 'words'} a call, {title}"
+                    results.add(what, here, "Mitem/s", against, there, f"between threads, {title}")

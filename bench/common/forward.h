@@ -46,8 +46,10 @@ static const char *const names[VERDICTS] = {
 	"tagged", "short", "not-ipv4", "bad-header", "bad-length", "bad-checksum", "expired", "no-route",
 };
 
-/* A verdict; SENT says that the route has to be looked up. Then it gives where the packet begins, and its destination. */
-static inline unsigned examine(const uint8_t *frame, uint32_t captured, uint32_t wire, unsigned *at, uint32_t *destination)
+/* A verdict; SENT says that the route has to be looked up. Then it gives where the packet begins, and its
+ * destination. */
+static inline unsigned examine(const uint8_t *frame, uint32_t captured, uint32_t wire, unsigned *at,
+                               uint32_t *destination)
 {
 	if (captured < 14) return SHORT;
 	*at = word(frame + 12) == 0x8100 ? 18 : 14;

@@ -1,7 +1,8 @@
 /* The routes and addresses that the yardstick of lpm and the project's program share, by splitmix64 from fixed states.
  *   routes, from state 1: a and r are the next two numbers; c = r % 100, e = r / 100 % 8.
  *     depth: 24 where c < 55, 16 + e where c < 85, 8 + e where c < 95, else 25 + e.
- *     address: first byte 1 + (a >> 24) % 223, the others a's low 24 bits, masked by the depth; the hop is the route's index.
+ *     address: first byte 1 + (a >> 24) % 223, the others a's low 24 bits, masked by the depth; the hop is the route's
+ *     index.
  *   hits, from state 2: a and b; an address of route a % count, with b's bits after the depth.
  *   anywhere, from state 3: the low 32 bits of the next number. */
 #pragma once

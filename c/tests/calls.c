@@ -14,8 +14,8 @@ static void plans(uint32_t put, uint32_t take) {
     hk_hand *hand = NULL;
     hk_ring_plan good = {8, 0, put, take, 0, 0};
     hk_ring_plan bad[] = {
-        {6, 0, put, take, 0, 0}, {1, 0, put, take, 0, 0}, {1u << 21, 0, put, take, 0, 0}, {0, 1, put, take, 0, 0}, {1u << 20, 1, put, take, 0, 0},
-        {8, 0, 2, take, 0, 0}, {8, 0, put, 2, 0, 0}, {8, 2, put, take, 0, 0},
+        {6, 0, put, take, 0, 0}, {1, 0, put, take, 0, 0}, {1u << 21, 0, put, take, 0, 0}, {0, 1, put, take, 0, 0},
+        {1u << 20, 1, put, take, 0, 0}, {8, 0, 2, take, 0, 0}, {8, 0, put, 2, 0, 0}, {8, 2, put, take, 0, 0},
     };
     IS(hk_hand_open(NULL, &good, 1), HK_E_NULL);
     IS(hk_hand_open(&hand, NULL, 1), HK_E_NULL);

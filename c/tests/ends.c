@@ -31,7 +31,8 @@ static void one_by_one(uint32_t mode) {
     IS(hk_producer_put(puts, 16), HK_OK), IS(hk_producer_put(puts, 17), HK_OK), IS(hk_ring_count(hand, 1), ROOM);
     IS(hk_producer_put(puts, 13), HK_E_NOROOM), IS(hk_consumer_take(takes, &word), HK_OK), IS(word, 10);
     IS(hk_ring_try_take_one(hand, 0, &word), 1), IS(word, 20), IS(hk_consumer_take(takes, &word), HK_OK), IS(word, 11);
-    IS(hk_hand_left(hand), 0), IS(hk_producer_finish(puts, 1), HK_E_NOTOPEN), IS(hk_consumer_finish(takes), HK_E_NOTOPEN);
+    IS(hk_hand_left(hand), 0);
+    IS(hk_producer_finish(puts, 1), HK_E_NOTOPEN), IS(hk_consumer_finish(takes), HK_E_NOTOPEN);
     IS(hk_producer_release(puts), HK_OK), IS(hk_consumer_release(takes), HK_OK);
     hk_producer_free(puts);
     IS(hk_producer_put(puts, 14), HK_E_NOTOPEN), IS(hk_producer_hold(puts, 1), HK_E_NOTOPEN);
@@ -136,7 +137,8 @@ static void *takes_words(void *at) {
     if (hk_consumer_open(&end, job->hand, 0) != HK_OK) return at;
     for (uint64_t i = 0; i < WORDS; i++) {
         int64_t code = hk_consumer_take(end, &word);
-        for (; code < 0; code = code == HK_E_PENDING ? hk_consumer_finish(end) : hk_consumer_take(end, &word)) sched_yield();
+        for (; code < 0; sched_yield())
+            code = code == HK_E_PENDING ? hk_consumer_finish(end) : hk_consumer_take(end, &word);
         size_t from = word > WORDS;
         if (word <= last[from]) return at;
         last[from] = word;
@@ -164,14 +166,18 @@ static void handed_over(void) {
     hk_consumer *takes[2] = {NULL, NULL};
     int64_t wrong = 0;
     IS(hk_hand_split(hands[0], &hands[1]), HK_OK);
-    for (int i = 0; i < 2; i++) IS(hk_producer_open(&puts[i], hands[i], 0), HK_OK), IS(hk_consumer_open(&takes[i], hands[i], 0), HK_OK);
+    for (int i = 0; i < 2; i++) {
+        IS(hk_producer_open(&puts[i], hands[i], 0), HK_OK);
+        IS(hk_consumer_open(&takes[i], hands[i], 0), HK_OK);
+    }
     for (uint64_t turn = 0; turn < TURNS; turn++) {
         int mine = turn % 2;
         uint64_t word = 0;
         wrong += hk_producer_hold(puts[mine], 2) != HK_OK || hk_producer_put(puts[mine], turn) != HK_OK;
         if (turn % 100 == 0) wrong += hk_producer_put(puts[!mine], 1) != HK_E_AGAIN;
         wrong += hk_producer_release(puts[mine]) != HK_OK;
-        wrong += hk_consumer_hold(takes[mine], 2) != HK_OK || hk_consumer_take(takes[mine], &word) != HK_OK || word != turn;
+        wrong += hk_consumer_hold(takes[mine], 2) != HK_OK || hk_consumer_take(takes[mine], &word) != HK_OK;
+        wrong += word != turn;
         wrong += hk_consumer_release(takes[mine]) != HK_OK;
     }
     IS(wrong, 0), IS(hk_ring_count(hands[0], 0), 0);

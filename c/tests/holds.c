@@ -112,7 +112,8 @@ static void ends_that_hold(void) {
     IS(hk_consumer_take(takes, &word), HK_OK), IS(word, 103), IS(hk_hand_span(other), 0);
     IS(hk_producer_put(puts, 107), HK_OK), IS(hk_hand_span(hand), 1);
     hk_producer_free(puts), hk_consumer_free(takes);
-    IS(hk_hand_span(hand), 0), IS(hk_producer_put(puts, 1), HK_E_NOTOPEN), IS(hk_consumer_take(takes, &word), HK_E_NOTOPEN);
+    IS(hk_hand_span(hand), 0), IS(hk_producer_put(puts, 1), HK_E_NOTOPEN);
+    IS(hk_consumer_take(takes, &word), HK_E_NOTOPEN);
     IS(hk_ring_try_take_burst(other, 0, out, 8), 3), IS(out[0], 104), IS(out[1], 105), IS(out[2], 107);
     hk_hand_free(hand), hk_hand_free(other);
 }
@@ -182,7 +183,8 @@ static void beside_a_model(unsigned seed) {
             break;
         default:
             word = 0;
-            if (hk_consumer_take(take, &word) != (count ? HK_OK : HK_E_NOROOM) || word != (count ? queued[0] : 0)) wrong++;
+            if (hk_consumer_take(take, &word) != (count ? HK_OK : HK_E_NOROOM)) wrong++;
+            else if (word != (count ? queued[0] : 0)) wrong++;
             else if (count) memmove(queued, queued + 1, --count * sizeof *queued);
         }
     }

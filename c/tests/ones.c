@@ -13,7 +13,8 @@ enum { RINGS = 4, MAX_OF_MODEL = 8, STEPS = 200000, WORDS = 100000 };
 
 /* Rings of both modes and several sizes. */
 static const hk_ring_plan plans[RINGS] = {
-    {3, 1, HK_MULTI, HK_MULTI, 0, 0}, {5, 1, HK_HTS, HK_HTS, 0, 0}, {1, 1, HK_MULTI, HK_HTS, 0, 0}, {7, 1, HK_HTS, HK_MULTI, 0, 0}};
+    {3, 1, HK_MULTI, HK_MULTI, 0, 0}, {5, 1, HK_HTS, HK_HTS, 0, 0},
+    {1, 1, HK_MULTI, HK_HTS, 0, 0}, {7, 1, HK_HTS, HK_MULTI, 0, 0}};
 
 static hk_hand *open_rings(void) {
     hk_hand *hand = NULL;

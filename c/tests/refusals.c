@@ -90,7 +90,8 @@ static void open_hands(void) {
 static void open_ends(void) {
     open_hand(&ended), open_hand(&multi);
     IS(hk_producer_open(&putter, ended, 0), HK_OK), IS(hk_consumer_open(&taker, ended, 0), HK_OK);
-    IS(hk_producer_open(&multi_putter, multi, MULTI_RING), HK_OK), IS(hk_consumer_open(&multi_taker, multi, MULTI_RING), HK_OK);
+    IS(hk_producer_open(&multi_putter, multi, MULTI_RING), HK_OK);
+    IS(hk_consumer_open(&multi_taker, multi, MULTI_RING), HK_OK);
     IS(hk_producer_put(putter, 1), HK_OK), IS(hk_producer_put(multi_putter, 1), HK_OK);
 }
 

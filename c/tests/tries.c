@@ -359,9 +359,12 @@ static void ends(void) {
     told(never, never, never), hk_consumer_free(made_takes), tried(0, 0, 1), IS(ended, 0);
     told(often(HK_E_AGAIN, 1, 0), never, never), IS(hk_producer_put_once(made_puts, 7), HK_E_AGAIN), IS(start.tried, 1);
     told(often(HK_E_AGAIN, 1, 0), never, never), IS(hk_consumer_take_once(made_takes, words), HK_E_AGAIN);
-    told(never, never, never), IS(hk_producer_put_once(NULL, 7), HK_E_NULL), IS(hk_consumer_take_once(NULL, words), HK_E_NULL);
-    IS(hk_producer_put_again(NULL, 7, HK_E_AGAIN), HK_E_NULL), IS(hk_consumer_take_again(NULL, words, HK_E_AGAIN), HK_E_NULL);
-    IS(hk_consumer_take_once(made_takes, NULL), HK_E_NULL), IS(hk_consumer_take_again(made_takes, NULL, HK_E_AGAIN), HK_E_NULL);
+    told(never, never, never);
+    IS(hk_producer_put_once(NULL, 7), HK_E_NULL), IS(hk_consumer_take_once(NULL, words), HK_E_NULL);
+    IS(hk_producer_put_again(NULL, 7, HK_E_AGAIN), HK_E_NULL);
+    IS(hk_consumer_take_again(NULL, words, HK_E_AGAIN), HK_E_NULL);
+    IS(hk_consumer_take_once(made_takes, NULL), HK_E_NULL);
+    IS(hk_consumer_take_again(made_takes, NULL, HK_E_AGAIN), HK_E_NULL);
     tried(0, 0, 0);
     told(never, never, none), IS(hk_producer_open(&puts, hand, RING), HK_OK), IS(puts == made_puts, 1);
     told(never, never, none), IS(hk_consumer_open(&takes, hand, RING), HK_OK), IS(takes == made_takes, 1);

@@ -212,7 +212,8 @@ impl Forwarder {
             return Err(Error::Count);
         }
         let mut numbers = [0; MAX_FRAMES];
-        let (at, n) = (frames.as_ptr().cast(), frames.len());
+        // The pointer of a unique borrow: the bytes of the frames are written.
+        let (at, n) = (frames.as_mut_ptr().cast_const().cast(), frames.len());
         let sent = answer(unsafe { ffi::hk_forward_burst(self.0.as_ptr(), at, numbers.as_mut_ptr(), n) })?;
         for (verdict, number) in verdicts.iter_mut().zip(numbers) {
             *verdict = Verdict::of(number);

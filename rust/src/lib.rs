@@ -50,9 +50,12 @@
 //!
 //! Nearly all of it is calls of `hokhtura.h`. Each is sound because its handle came from an open, a split or a share
 //! and is freed by its drop alone; because `&mut self`, or `&self` of a type that isn't `Sync`, makes it the only call
-//! on that handle; and because an array goes to it with its own length. The other blocks turn words into bits and back
-//! ([`Word`]), and pointers on a ring into the boxes that they came from. A pointer goes over a ring as an address. Its
-//! provenance is exposed by `into_bits`, or by the C library, which reads the words of a slice as integers.
+//! on that handle; and because an array goes to it with its own length. A handle may change threads because what it has
+//! may, as the library's compiler says of all but closed rings ([`Left`] isn't `Send`). The other blocks turn
+//! words into bits and back ([`Word`]), and pointers on a ring into the boxes that they came from: what comes out was
+//! put in, each word once, which is proved of the library, and a ring keeps its type of words. A pointer goes over a
+//! ring as an address. Its provenance is exposed by `into_bits`, or by the C library, which reads the words of a slice
+//! as integers; where that fills a slice of pointers, its store is taken to act as `with_exposed_provenance`.
 #![no_std]
 #![deny(missing_docs)]
 #![warn(unsafe_op_in_unsafe_fn, clippy::pedantic)]

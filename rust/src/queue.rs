@@ -120,8 +120,9 @@ impl<T: Send> Queue<T> {
     ///
     /// `NoRoom` if there is none, `Again`.
     pub fn try_take_box(&mut self) -> Result<Box<T>, Error> {
-        let mut at = core::ptr::null_mut();
-        self.hand.take_one(&mut at).map(|_| value(at))
+        let mut bits = 0;
+        // SAFETY: a word that was taken was put as a pointer to a box.
+        self.hand.take_bits(&mut bits).map(|_| value(unsafe { <*mut T>::of_bits(bits) }))
     }
 
     /// How many values are queued. Others may put or take some meanwhile.

@@ -5,6 +5,7 @@ use crate::relax;
 use crate::word::Word;
 use core::fmt;
 use core::iter::FusedIterator;
+use core::marker::PhantomData;
 
 /// A ring of words, and one thread's handle on it. Other threads use handles that are split off.
 ///
@@ -121,7 +122,8 @@ macro_rules! takes {
         /// The words that are queued, one after the other. Each is taken as it is returned. It ends at any error: the
         /// ring is empty, other threads came first (`Again`), or an earlier call of this handle is pending (`Open`). So
         /// `None` doesn't mean that the ring is empty. While an earlier take of another thread isn't finished, it
-        /// waits, without a limit.
+        /// waits, without a limit: forever, if that thread's handle was dropped with its take pending. `take` and
+        /// `try_take_burst` return `Pending` instead.
         pub fn taken(&mut self) -> Taken<'_, T> {
             Taken { hand: &mut self.hand, ended: false }
         }
@@ -164,7 +166,7 @@ macro_rules! both {
         /// `Shared` while there are other handles; `Open`. The handle is returned with the error.
         pub fn close(mut self) -> Result<Left<T>, (Self, Error)> {
             match self.hand.close() {
-                Ok(_) => Ok(Left { hand: self.hand }),
+                Ok(_) => Ok(Left { hand: self.hand, stays: PhantomData }),
                 Err(error) => Err((self, error)),
             }
         }
@@ -297,7 +299,7 @@ impl<T: Word> Ring<T> {
         Ok((Producer::of(self.hand), Consumer::of(other)))
     }
 
-    /// Another hand on the same ring, for another thread.
+    /// Another handle on the same ring, for another thread.
     ///
     /// # Errors
     ///
@@ -367,10 +369,23 @@ impl<T: Word> Iterator for Taken<'_, T> {
 
 impl<T: Word> FusedIterator for Taken<'_, T> {}
 
-/// The words that were left on a ring when it was closed, the oldest first.
+/// The words that were left on a ring when it was closed, the oldest first. It stays with the thread that closed the
+/// ring:
+///
+/// ```compile_fail,E0277
+/// fn passed_on<T: Send>(_: T) {}
+/// # fn main() -> Result<(), hokhtura::Error> {
+/// if let Ok(left) = hokhtura::Ring::<u64>::new(7)?.close() {
+///     passed_on(left);
+/// }
+/// # Ok(())
+/// # }
+/// ```
 #[must_use]
 pub struct Left<T: Word> {
     hand: Hand<T>,
+    /// Not `Send`: the library doesn't say that of closed rings.
+    stays: PhantomData<*mut T>,
 }
 
 impl<T: Word> Iterator for Left<T> {

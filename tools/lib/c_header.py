@@ -13,8 +13,8 @@ CODE = re.compile(r"^\s*(HK_(?:OK|E_\w+)) = (-?\d+)", re.M)
 
 
 class Call:
-    """A call: its name, the type of its result, its parameters as (type, name), and what its comment says. A call that is
-    inline in the header is no name of the library."""
+    """A call: its name, the type of its result, its parameters as (type, name), and what its comment says. A call that
+    is inline in the header is no name of the library."""
 
     def __init__(self, name, result, parameters, comment, inline):
         self.name, self.result, self.parameters, self.comment, self.inline = name, result, parameters, comment, inline

@@ -231,8 +231,8 @@ class Report:
 
 
 def judge(copy, mutants, found):
-    """Tries these mutants in one copy; returns those that it hides. A mutant on its own whose function is still proved is
-    tried again with the whole crate."""
+    """Tries these mutants in one copy; returns those that it hides. A mutant on its own whose function is still proved
+    is tried again with the whole crate."""
     report = copy.check(mutants, is_whole=False)
     if len(mutants) == 1 and not (not report.unread() and report.verdict(mutants[0])):
         report = copy.check(mutants, is_whole=True)
