@@ -274,3 +274,15 @@ fn an_end_has_the_type_of_its_ring() -> Result<(), Error> {
     let _same: Producer<&'static for<'a> fn(&'a str)> = producer;
     Ok(())
 }
+
+/// It compiles, and the doctest of `Left`, which passes on what is left instead of the ring, doesn't.
+#[test]
+fn a_ring_may_be_passed_on() -> Result<(), Error> {
+    fn passed_on<T: Send>(_: T) {}
+    let ring = Ring::<u64>::new(7)?;
+    passed_on(ring);
+    if let Ok(left) = Ring::<u64>::new(7)?.close() {
+        assert_eq!(left.count(), 0);
+    }
+    Ok(())
+}
