@@ -25,3 +25,18 @@ pub enum Object {
     /// A reader of that, for one thread: it looks addresses up and forwards frames.
     Forward(RouteReader<Hop, Port>),
 }
+
+/// An object that one thread may use after another. The compiler checks it, by the bound.
+trait ChangesThreads: Send {}
+
+impl ChangesThreads for Member {}
+
+impl ChangesThreads for Arc<Table> {}
+
+impl ChangesThreads for Window<u64> {}
+
+impl ChangesThreads for PoolMember {}
+
+impl ChangesThreads for RouteWriter<Hop, Port> {}
+
+impl ChangesThreads for RouteReader<Hop, Port> {}

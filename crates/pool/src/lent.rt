@@ -1,9 +1,10 @@
 //! Calls that borrow a burst.
-ghost use Rattle.std.specs.Prelude.{◌≡◌, ◌<◌, ◌≤◌, ◌++◌, [], length, IfOk};
+ghost use Rattle.std.specs.Prelude.{◌≡◌, ◌+◌, ◌<◌, ◌≤◌, ◌++◌, [], length, IfOk};
 ghost use Rattle.fabric.specs.Hands.{OnRing, rings_of};
 ghost use Rattle.fabric.specs.Settles.{AreOwnBuffers};
 ghost use Rattle.ringapi.specs.Views.{by_burst};
 ghost use Rattle.pool_laws.specs.Beside.{Receives, Sends};
+ghost use Rattle.pool_laws.specs.Caches.{threshold};
 ghost use Rattle.pool_laws.specs.Calls.{GetsCached, PutsCached};
 ghost use Rattle.pool.specs.Calls.{FlushTells, GetTells, PutBackTells};
 ghost use Rattle.pool.specs.Locals.{HasSameHand, IsLocalOf, SameCache, SameRing, cache_of, cache_size, hand_of, ring_of, view_of};
@@ -26,6 +27,7 @@ impl<T: Tagged, const N: usize, S: Stored<T>> Local<T, N, S> {
     ///
     /// Errors, if that is refused too: `Short` if it found too few; `Worn`. Nothing moves then. No memory; it waits
     /// while the ring is busy, but not for items.
+    #[inline]
     pub fn get_into<R: Wait>(
         &mut self,
         rt: &R,
@@ -46,6 +48,29 @@ impl<T: Tagged, const N: usize, S: Stored<T>> Local<T, N, S> {
         if n <= self.cache.len() {
             return self.get_cached_into(n, into);
         }
+        self.get_from_ring(rt, f, n, into)
+    }
+
+    /// Gets `n` items if the cache has too few. Apart from `get_into`, which needs none of what this call clears for
+    /// its own use.
+    #[inline(never)]
+    fn get_from_ring<R: Wait>(
+        &mut self,
+        rt: &R,
+        f: &Fabric<T, N, S>,
+        n: usize,
+        into: &mut Burst<T, N>,
+    ) -> Result<(), PoolFault>
+        requires local { IsLocalOf f.now self.old }
+        requires short { length (cache_of self.old) < n }
+        requires at_most { n ≤ 64 }
+        requires empty { into.old ≡ [] }
+        ensures local { IsLocalOf f.now self.new }
+        ensures same { SameRing self.old self.new }
+        ensures exact { OnRing f.now (ring_of self.old)
+            (λ plan. GetTells T.numbers plan self.old self.new n result into.new) }
+        ensures own { IfOk result (λ _. AreOwnBuffers T.numbers (view_of self.new) (into.new ++ cache_of self.new)) }
+    {
         let cache_hand = take_hand(&mut self.hand);
         let hand = whole_hand(cache_hand, &self.cache);
         match fetch(rt, f, hand, self.ring, self.size, &mut self.cache, n, into) {
@@ -65,6 +90,7 @@ impl<T: Tagged, const N: usize, S: Stored<T>> Local<T, N, S> {
     ///
     /// Errors: `NotYours`, tested first; `Worn`. Nothing moves then, and the list still has its items. No memory; it
     /// waits while the ring is busy.
+    #[inline]
     pub fn put_from<R: Wait>(
         &mut self,
         rt: &R,
@@ -78,6 +104,37 @@ impl<T: Tagged, const N: usize, S: Stored<T>> Local<T, N, S> {
         ensures exact { OnRing f.now (ring_of self.old)
             (λ plan. PutBackTells T.numbers plan self.old self.new list.old result list.new) }
     {
+        if self.would_pass(list.len()) {
+            return self.put_on_ring(rt, f, list);
+        }
+        let may = match &mut self.hand {
+            Some(cache_hand) => self.cache.admit(cache_hand, list),
+            None => unreachable!(),
+        };
+        if may {
+            Ok(())
+        } else {
+            Err(PoolFault::NotYours)
+        }
+    }
+
+    /// Puts a list with which the cache would pass its threshold. Apart from `put_from`, as `get_from_ring` is from
+    /// `get_into`.
+    #[inline(never)]
+    fn put_on_ring<R: Wait>(
+        &mut self,
+        rt: &R,
+        f: &Fabric<T, N, S>,
+        list: &mut Burst<T, N>,
+    ) -> Result<(), PoolFault>
+        requires local { IsLocalOf f.now self.old }
+        requires at_most { length list.old ≤ 64 }
+        requires many { threshold (cache_size self.old) < length (cache_of self.old) + length list.old }
+        ensures local { IsLocalOf f.now self.new }
+        ensures same { SameRing self.old self.new }
+        ensures exact { OnRing f.now (ring_of self.old)
+            (λ plan. PutBackTells T.numbers plan self.old self.new list.old result list.new) }
+    {
         let before = self.cache.len();
         let may = match &mut self.hand {
             Some(cache_hand) => self.cache.admit(cache_hand, list),
@@ -85,9 +142,6 @@ impl<T: Tagged, const N: usize, S: Stored<T>> Local<T, N, S> {
         };
         if !may {
             return Err(PoolFault::NotYours);
-        }
-        if self.cache.len() <= 3 * self.size / 2 {
-            return Ok(());
         }
         let cache_hand = take_hand(&mut self.hand);
         match shed(

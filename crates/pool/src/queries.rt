@@ -1,5 +1,5 @@
 //! Queries about a cache.
-ghost use Rattle.std.specs.Prelude.{◌≡◌, ◌==◌, ◌-◌, ◌↔◌, IsTrue, length};
+ghost use Rattle.std.specs.Prelude.{◌≡◌, ◌==◌, ◌+◌, ◌-◌, ◌<◌, ◌≤◌, ◌↔◌, IsTrue, false, length, true};
 ghost use Rattle.ringcore_laws.specs.Sound.{holds};
 ghost use Rattle.pool_laws.specs.Caches.{threshold};
 ghost use Rattle.pool.specs.Locals.{cache_of, cache_size, ring_of, view_of};
@@ -30,6 +30,16 @@ impl<T: Tagged, const N: usize, S: Stored<T>, C: Store<T> + Drop> Local<T, N, S,
         ensures { result ≡ threshold (cache_size self.now) - length (cache_of self.now) }
     {
         3 * self.size / 2 - self.cache.len()
+    }
+
+    /// Whether the cache would pass its threshold with so many more items.
+    #[inline(always)]
+    pub(crate) fn would_pass(&self, more: usize) -> bool
+        requires at_most { more ≤ 64 }
+        ensures yes { result ≡ true → threshold (cache_size self.now) < length (cache_of self.now) + more }
+        ensures no { result ≡ false → length (cache_of self.now) + more ≤ threshold (cache_size self.now) }
+    {
+        self.cache.len() + more > 3 * self.size / 2
     }
 
     /// The size that the cache was made with.

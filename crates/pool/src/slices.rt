@@ -1,10 +1,11 @@
 //! Calls on a cache of words, into slices and from slices. What the cache can do is inlined, and what goes to the ring
 //! is not.
-ghost use Rattle.std.specs.Prelude.{◌≡◌, ◌<◌, ◌≤◌, ◌++◌, List, drop, length, IfOk, IfErr};
+ghost use Rattle.std.specs.Prelude.{◌≡◌, ◌+◌, ◌<◌, ◌≤◌, ◌++◌, List, drop, length, IfOk, IfErr};
 ghost use Rattle.fabric.specs.Hands.{OnRing, rings_of};
 ghost use Rattle.fabric.specs.Settles.{AreOwnBuffers};
 ghost use Rattle.ringapi.specs.Views.{by_burst};
 ghost use Rattle.pool_laws.specs.Beside.{Receives, Sends, unsent_of};
+ghost use Rattle.pool_laws.specs.Caches.{threshold};
 ghost use Rattle.pool_laws.specs.Calls.{GetsCached, PutsCached};
 ghost use Rattle.pool.specs.Calls.{FlushTells, GetTells, PutBackTells};
 ghost use Rattle.pool.specs.Locals.{HasSameHand, IsLocalOf, SameCache, SameRing, cache_of, cache_size, hand_of, ring_of, view_of};
@@ -109,7 +110,7 @@ impl<T: Word, const N: usize, S: Stored<T>> Local<T, N, S, WordStack<T>> {
         ensures exact { OnRing f.now (ring_of self.old)
             (λ plan. PutBackTells T.numbers plan self.old self.new items.now result (undone result items.now)) }
     {
-        if self.cache.len() + items.len() > 3 * self.size / 2 {
+        if self.would_pass(items.len()) {
             return self.put_slice_on_ring(rt, f, items);
         }
         let may = match &mut self.hand {
@@ -123,7 +124,8 @@ impl<T: Word, const N: usize, S: Stored<T>> Local<T, N, S, WordStack<T>> {
         }
     }
 
-    /// `put_from_slice` with the work on the ring, and so with what that clears for its own use.
+    /// Puts words with which the cache would pass its threshold. Apart from `put_from_slice`, as `get_slice_from_ring` is
+    /// from `get_into_slice`.
     #[inline(never)]
     fn put_slice_on_ring<R: Wait>(
         &mut self,
@@ -133,6 +135,7 @@ impl<T: Word, const N: usize, S: Stored<T>> Local<T, N, S, WordStack<T>> {
     ) -> Result<(), PoolFault>
         requires local { IsLocalOf f.now self.old }
         requires at_most { length items.now ≤ 64 }
+        requires many { threshold (cache_size self.old) < length (cache_of self.old) + length items.now }
         ensures local { IsLocalOf f.now self.new }
         ensures same { SameRing self.old self.new }
         ensures exact { OnRing f.now (ring_of self.old)
@@ -145,9 +148,6 @@ impl<T: Word, const N: usize, S: Stored<T>> Local<T, N, S, WordStack<T>> {
         };
         if !may {
             return Err(PoolFault::NotYours);
-        }
-        if self.cache.len() <= 3 * self.size / 2 {
-            return Ok(());
         }
         let cache_hand = take_hand(&mut self.hand);
         match shed(

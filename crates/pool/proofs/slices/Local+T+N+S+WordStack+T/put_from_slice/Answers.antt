@@ -14,7 +14,7 @@ returns-then-may-clause-exact g c plan there =
     let may : c.admit-may.result ≡ true = c.if-may.true in
     let moved = (c.admit-may.ensures.moved may).0 in
     let all = (words_in l.cache) ++ c.args.items.now in
-    let few : length all ≤ 3 * l.size / 2 = omega (arith, c.if-len-items.false, c.len.ensures.value, length-append (words_in l.cache) c.args.items.now) in (
+    let few : length all ≤ 3 * l.size / 2 = omega (arith, c.would_pass.ensures.no c.if-would_pass.false, length-append (words_in l.cache) c.args.items.now) in (
       subst (λ o. AreOwnBuffers tags (view_in o) all) (sym c.in-Some.is) (c.admit-may.ensures.yours may),
       refl,
       moved ∙ ap (λ k. drop k all) (sym (spilled_none l.size (3 * l.size / 2) (length all) few)),

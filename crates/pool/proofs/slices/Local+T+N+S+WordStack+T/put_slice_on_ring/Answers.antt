@@ -1,4 +1,4 @@
-use Rattle.std.proofs.Common.{◌≡◌, ◌-◌, ◌/◌, ◌*◌, ◌<◌, ◌≤◌, ◌++◌, true, false, [], Some, Ok, Err, List, inl, inr, length, take, drop, refl, sym, ap, ◌∙◌, subst}
+use Rattle.std.proofs.Common.{◌≡◌, ◌-◌, ◌/◌, ◌*◌, ◌<◌, ◌≤◌, ◌++◌, true, false, [], Some, Ok, Err, List, inr, length, take, drop, refl, sym, ap, ◌∙◌, subst}
 use Rattle.std.proofs.Common.{rules, arith}
 use Rattle.std.proofs.lemmas.List.{length-append, length-drop, length-take}
 use Rattle.std.proofs.Math.Seq.{take-append_seam}
@@ -27,20 +27,6 @@ returns-then-not-may-clause-exact g c plan there =
       view_later tags l.hand c.in-Some.cache_hand c.admit-may.new.cache_hand c.admit-may.new.cache_hand c.in-Some.is c.admit-may.ensures.same refl,
     )
 
-pub returns-then-len-self-clause-exact : goal.returns-then-len-self-clause-exact
-returns-then-len-self-clause-exact g c plan there =
-    let tags = g.T.Tagged.numbers in
-    let l = c.args.self.now in
-    let may : c.admit-may.result ≡ true = c.if-not-may.false in
-    let moved = (c.admit-may.ensures.moved may).0 in
-    let all = (words_in l.cache) ++ c.args.items.now in
-    let few : length all ≤ 3 * l.size / 2 = omega (arith, c.if-len-self.true, c.len.ensures.value, ap length moved) in (
-      subst (λ o. AreOwnBuffers tags (view_in o) all) (sym c.in-Some.is) (c.admit-may.ensures.yours may),
-      refl,
-      moved ∙ ap (λ k. drop k all) (sym (spilled_none l.size (3 * l.size / 2) (length all) few)),
-      inl (few, view_later tags l.hand c.in-Some.cache_hand c.admit-may.new.cache_hand c.admit-may.new.cache_hand c.in-Some.is c.admit-may.ensures.same refl),
-    )
-
 pub shed-requires : goal.shed-requires
 shed-requires g c =
     let tags = g.T.Tagged.numbers in
@@ -67,7 +53,7 @@ shed-requires g c =
                   ap (λ v. v.pool) (view_later tags l.hand c.in-Some.cache_hand c.admit-may.new.cache_hand c.take_hand-cache_hand.result c.in-Some.is c.admit-may.ensures.same taken),
                 ),
                 (
-                  omega (arith, c.if-len-self.false, c.len.ensures.value),
+                  omega (arith, ap length moved, long, c.requires.many),
                   (
                     omega (arith, ap length moved, long, l.within, l.room, c.requires.at_most),
                     omega (arith, ap length moved, long, c.len-before.ensures.value),
@@ -88,13 +74,15 @@ invariant_of-self-in-Ok g c =
     let known = ring_at (rings_of f) l.ring free.0 in
     let told = c.in-Ok.ensures.exact known.0 known.1 in
     let left = length-drop (length (words_in c.admit-may.new.self) - l.size) (words_in c.admit-may.new.self) in
+    let moved = (c.admit-may.ensures.moved c.if-not-may.false).0 in
+    let long = length-append (words_in l.cache) c.args.items.now in
     record {
       here = refl;
       free = free_at f c.in-Ok.cache_hand l.ring c.in-Ok.ensures.cache_hand.0 free;
       small = l.small;
       fits = l.fits;
       room = omega (arith, c.shed.ensures.room, c.admit-may.ensures.room, l.room);
-      within = omega (arith, ap length told.1, left, c.if-len-self.false, c.len.ensures.value);
+      within = omega (arith, ap length told.1, left, c.requires.many, ap length moved, long);
       reach = reach_kept f l.hand c.in-Ok.cache_hand _ _ c.in-Ok.ensures.cache_hand.0 c.requires.local c.shed.ensures.buffers (c.admit-may.ensures.reach (view_in l.hand).pool ∙ l.reach);
       kept = c.in-Ok.ensures.cache_hand.1;
       own = c.in-Ok.ensures.own;
@@ -131,7 +119,7 @@ returns-in-Ok-clause-exact g c plan there =
     let taken : Some c.admit-may.new.cache_hand ≡ Some c.take_hand-cache_hand.result = c.take_hand-cache_hand.ensures in
     let all = (words_in l.cache) ++ c.args.items.now in
     let told = c.in-Ok.ensures.exact plan there in
-    let many : 3 * l.size / 2 < length all = omega (arith, c.if-len-self.false, c.len.ensures.value, ap length moved) in
+    let many : 3 * l.size / 2 < length all = omega (arith, c.requires.many, length-append (words_in l.cache) c.args.items.now) in
     let spare : length (words_in c.admit-may.new.self) - l.size ≡ spilled l.size all =
     ap (λ x. length x - l.size) moved ∙ sym (spilled_some l.size (3 * l.size / 2) (length all) many) in (
       subst (λ o. AreOwnBuffers tags (view_in o) all) (sym c.in-Some.is) (c.admit-may.ensures.yours may),
@@ -159,7 +147,7 @@ returns-in-Err-clause-exact g c plan there =
     let taken : Some c.admit-may.new.cache_hand ≡ Some c.take_hand-cache_hand.result = c.take_hand-cache_hand.ensures in
     let all = (words_in l.cache) ++ c.args.items.now in
     let told = c.in-Err.ensures.exact plan there in
-    let many : 3 * l.size / 2 < length all = omega (arith, c.if-len-self.false, c.len.ensures.value, ap length moved) in
+    let many : 3 * l.size / 2 < length all = omega (arith, c.requires.many, length-append (words_in l.cache) c.args.items.now) in
     let spare : length (words_in c.admit-may.new.self) - l.size ≡ spilled l.size all =
     ap (λ x. length x - l.size) moved ∙ sym (spilled_some l.size (3 * l.size / 2) (length all) many) in (
       subst (λ o. AreOwnBuffers tags (view_in o) all) (sym c.in-Some.is) (c.admit-may.ensures.yours may),

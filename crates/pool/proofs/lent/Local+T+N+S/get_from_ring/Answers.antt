@@ -4,7 +4,7 @@ use Rattle.fabric.specs.Hands.{view}
 use Rattle.pool_laws.proofs.Kept.{later_own, same_own}
 use Rattle.pool_laws.proofs.Wholes.{free_at, free_of, hand_from, hand_own, cache_hand_from, mine_of, view_at}
 use Rattle.pool_laws.specs.Requests.{Fetches}
-use Rattle.pool.proofs.lent.Local+T+N+S.get_into.Goals as goal
+use Rattle.pool.proofs.lent.Local+T+N+S.get_from_ring.Goals as goal
 
 pub fetch-requires : goal.fetch-requires
 fetch-requires g c =
@@ -18,7 +18,7 @@ fetch-requires g c =
         search rules,
         (
           hand_from f h k c.whole_hand-hand.ensures (mine_of f l.hand k was c.requires.local),
-          (free_of f l.hand k l.ring was c.requires.local l.free, (subst (λ x. x < c.args.n) c.len.ensures.value c.if-n-len.false, (search rules, c.requires.empty))),
+          (free_of f l.hand k l.ring was c.requires.local l.free, (c.requires.short, (search rules, c.requires.empty))),
         ),
       ),
     )
@@ -98,7 +98,7 @@ returns-in-Ok-clause-exact g c plan there =
     let l = c.args.self.now in
     let k = c.take_hand-cache_hand.result in
     let was : l.hand ≡ Some k = c.take_hand-cache_hand.ensures in
-    let short : length l.cache < c.args.n = subst (λ x. x < c.args.n) c.len.ensures.value c.if-n-len.false in
+    let short : length l.cache < c.args.n = c.requires.short in
     inr (
       short,
       Ok c.in-Ok.hand,
@@ -122,7 +122,7 @@ returns-in-Err-clause-exact g c plan there =
     let l = c.args.self.now in
     let k = c.take_hand-cache_hand.result in
     let was : l.hand ≡ Some k = c.take_hand-cache_hand.ensures in
-    let short : length l.cache < c.args.n = subst (λ x. x < c.args.n) c.len.ensures.value c.if-n-len.false in
+    let short : length l.cache < c.args.n = c.requires.short in
     inr (
       short,
       Err (c.in-Err.hand, c.in-Err.fault),
