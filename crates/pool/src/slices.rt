@@ -124,8 +124,8 @@ impl<T: Word, const N: usize, S: Stored<T>> Local<T, N, S, WordStack<T>> {
         }
     }
 
-    /// Puts words with which the cache would pass its threshold. Apart from `put_from_slice`, as `get_slice_from_ring` is
-    /// from `get_into_slice`.
+    /// Puts words with which the cache would pass its threshold. Apart from `put_from_slice`, as `get_slice_from_ring`
+    /// is from `get_into_slice`.
     #[inline(never)]
     fn put_slice_on_ring<R: Wait>(
         &mut self,
