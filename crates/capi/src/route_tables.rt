@@ -1,5 +1,5 @@
 //! Calls on a table of routes. Several handles may share one; it changes only while a single handle has it.
-ghost use Rattle.std.specs.Prelude.{◌≡◌, ◌⊎◌, IfErr, IfOk, length};
+ghost use Rattle.std.specs.Prelude.{◌≡◌, ◌<◌, ◌≤◌, ◌⊎◌, IfErr, IfOk, length, take};
 ghost use Rattle.lpm.specs.Match.{lookup_in};
 ghost use Rattle.lpm.specs.Routes.{IsNew};
 ghost use Rattle.capi.specs.Tables.{Adds, FindsTable, LooksUpAll, RefusesTable, Removes, fault_of, hop_found};
@@ -7,12 +7,15 @@ ghost use Rattle.capi.specs.Tables.{hop_word, hop_words};
 
 use crate::object::Object;
 use crate::rings::Fault;
-use lpm::{RouteFault, Table};
+use lpm::{NextHop, RouteFault, Table};
 use std::alloc::Global;
 use std::sync::Arc;
 
 /// What a lookup of many addresses writes where no route covers the address.
 const NO_HOP: u32 = 0xffff_ffff;
+
+/// How many addresses are looked up together.
+const BLOCK: usize = 32;
 
 /// The fault for one of the table's own.
 pub(crate) fn fault(why: RouteFault) -> Fault
@@ -119,23 +122,43 @@ pub(crate) fn look_up(table: &Table, address: u32) -> Result<u32, Fault>
 
 /// What a lookup found as 32 bits, or `NO_HOP`.
 #[inline]
-fn word_of(found: Option<u32>) -> u32
+fn word_of(found: NextHop) -> u32
     ensures { result ≡ hop_word found }
 {
-    match found {
+    match found.hop() {
         Some(hop) => hop,
         None => NO_HOP,
     }
 }
 
-/// The next hops for addresses, at the same places. The lookups are independent, so the processor has several of them
-/// under way at a time.
+/// The next hops for at most `BLOCK` addresses from one place on, at the same places. It returns the place after them.
+fn write_block(table: &Table, addresses: &[u32], hops: &mut [u32], at: usize) -> usize
+    requires long { length addresses.now ≡ length hops.old }
+    requires below { at < length addresses.now }
+    requires before { take at hops.old ≡ take at (hop_words table.now.members addresses.now) }
+    ensures long { length hops.new ≡ length hops.old }
+    ensures further { at < result }
+    ensures fits { result ≤ length addresses.now }
+    ensures written { take result hops.new ≡ take result (hop_words table.now.members addresses.now) }
+{
+    let count = (addresses.len() - at).min(BLOCK);
+    let mut places = [NextHop::none(); BLOCK];
+    let found = &mut places[..count];
+    table.lookup_bulk(&addresses[at..at + count], found);
+    for i in 0..count {
+        hops[at + i] = word_of(found[i]);
+    }
+    at + count
+}
+
+/// The next hops for addresses, at the same places.
 fn write_hops(table: &Table, addresses: &[u32], hops: &mut [u32])
     requires { length addresses.now ≡ length hops.old }
     ensures { hops.new ≡ hop_words table.now.members addresses.now }
 {
-    for i in 0..addresses.len() {
-        hops[i] = word_of(table.lookup(addresses[i]));
+    let mut at = 0;
+    while at < addresses.len() {
+        at = write_block(table, addresses, hops, at);
     }
 }
 

@@ -1,10 +1,13 @@
-use Rattle.std.proofs.Common.{◌≡◌, ◌≤◌, length, take}
+use Rattle.std.proofs.Common.{◌≡◌, ◌-◌, ◌≤◌, length, take}
 use Rattle.capi.specs.Tables.{hop_words}
 use Rattle.capi.proofs.route_tables.write_hops.Given as goal
 
-abbrev pub invariant-loop-i : goal.invariant-loop-i
-invariant-loop-i l = record {
-  inside : l.i ≤ length l.addresses;
+abbrev pub invariant-loop-at : goal.invariant-loop-at
+invariant-loop-at l = record {
+  inside : l.at ≤ length l.addresses;
   long : length l.hops ≡ length l.addresses;
-  done : take l.i l.hops ≡ take l.i (hop_words l.fn.table.members l.addresses);
+  done : take l.at l.hops ≡ take l.at (hop_words l.fn.table.members l.addresses);
 }
+
+abbrev pub decreases-loop-at : goal.decreases-loop-at
+decreases-loop-at l = length l.addresses - l.at
