@@ -26,7 +26,8 @@ pub enum Object {
     Forward(RouteReader<Hop, Port>),
 }
 
-/// An object that one thread may use after another. The compiler checks it, by the bound.
+/// An object that one thread may use after another. The compiler checks it, by the bound. What is left on closed rings
+/// isn't one: it stays with the thread that closed them.
 trait ChangesThreads: Send {}
 
 impl ChangesThreads for Member {}

@@ -51,8 +51,8 @@ impl<T: Tagged, const N: usize, S: Stored<T>> Local<T, N, S> {
         self.get_from_ring(rt, f, n, into)
     }
 
-    /// Gets `n` items if the cache has too few. Apart from `get_into`, which needs none of what this call clears for
-    /// its own use.
+    /// Gets `n` items if the cache has too few. A function of its own, which isn't inlined, since a get from the cache
+    /// alone then takes fewer instructions.
     #[inline(never)]
     fn get_from_ring<R: Wait>(
         &mut self,
@@ -118,8 +118,7 @@ impl<T: Tagged, const N: usize, S: Stored<T>> Local<T, N, S> {
         }
     }
 
-    /// Puts a list with which the cache would pass its threshold. Apart from `put_from`, as `get_from_ring` is from
-    /// `get_into`.
+    /// Puts a list with which the cache would pass its threshold. A function of its own, as `get_from_ring` is.
     #[inline(never)]
     fn put_on_ring<R: Wait>(
         &mut self,

@@ -58,8 +58,8 @@ impl<T: Word, const N: usize, S: Stored<T>> Local<T, N, S, WordStack<T>> {
         self.get_slice_from_ring(rt, f, into)
     }
 
-    /// Gets as many words as a slice has places if the cache has too few. Apart from `get_into_slice`, which needs none
-    /// of what this call clears for its own use.
+    /// Gets as many words as a slice has places if the cache has too few. A function of its own, which isn't inlined,
+    /// since a get from the cache alone then takes fewer instructions.
     #[inline(never)]
     fn get_slice_from_ring<R: Wait>(
         &mut self,
@@ -124,8 +124,7 @@ impl<T: Word, const N: usize, S: Stored<T>> Local<T, N, S, WordStack<T>> {
         }
     }
 
-    /// Puts words with which the cache would pass its threshold. Apart from `put_from_slice`, as `get_slice_from_ring`
-    /// is from `get_into_slice`.
+    /// Puts words with which the cache would pass its threshold. A function of its own, as `get_slice_from_ring` is.
     #[inline(never)]
     fn put_slice_on_ring<R: Wait>(
         &mut self,
